@@ -49,7 +49,7 @@ batchLines s = elim (framedAt 65536 s 0) [
   | B.Refused f ↦ framing (numberOf f) ∷ []
 ]
 
--- a line's numbers, for a comparison: the word first (3 case, 4 framing; `shown` for the rest)
+-- a line's numbers, for a comparison: the index, then the word (3 case, `shown` for a verdict); of a framing line the word 4 and the number
 unfoldable pub numbers : Line → List ℤ
 numbers (caseLine k a b c) = pos k ∷ pos 3 ∷ pos a ∷ pos b ∷ pos c ∷ []
 numbers (answer k v) = pos k ∷ shown v

@@ -1,4 +1,4 @@
--- "Completion and surplus": what a completion is, when it meets every rule, and its surplus by its own choices.
+-- "Completion and surplus": what a completion is, when it meets every rule, and its surplus by its own choices. Numbers in brackets are equations of the formulation.
 use mathlib.Core.Path.{_≡_}
 use mathlib.Core.Logic.{_⊎_}
 use mathlib.Core.Bool.{Bool, true, false, not, _&&_}
@@ -44,14 +44,15 @@ module _ (q : System) (p : Plan) where
   abbrev amount : ℕ → ℕ → Reserves
   amount t i = setting q p t i .reserves
 
-  -- the sum of the consuming members' p, and the largest producing member's p, "0 if none"
+  -- the sum of the consuming members' p, and the largest producing member's p, "0 if none" (36 to 39)
   unfoldable pub load : ℕ → ℕ → ℕ
   load t z = sumℕ (λ i. gate (member q z i && consuming q i) (power q p t i)) (upTo (devices q))
 
   unfoldable pub largestUnit : ℕ → ℕ → ℕ
   largestUnit t z = largest (λ i. gate (member q z i && not (consuming q i)) (power q p t i)) (upTo (devices q))
 
-  -- "required rgu = share·sum of consuming p, rgd likewise; scr = share·largest producing p, nsc likewise", in W
+  -- what is required of each kind, in W: "required rgu = share·sum of consuming p, rgd likewise; scr = share·largest producing p (0 if none), nsc likewise";
+  -- a shortage of scr counts what rgu requires too, and of nsc both: "rgu+scr required", "rgu+scr+nsc likewise" (right sides of 40 to 45)
   unfoldable pub required : ℕ → ℕ → Shortfall → ℕ
   required t z rgu = zone q z .shares .rgu * load t z
   required t z rgd = zone q z .shares .rgd * load t z
@@ -60,7 +61,7 @@ module _ (q : System) (p : Plan) where
   required t z rru = 1000 * getD (zone q z .minima) t noMinima .rru
   required t z rrd = 1000 * getD (zone q z .minima) t noMinima .rrd
 
-  -- what the plan holds against it, in kW: rgu; rgd; rgu+scr; rgu+scr+nsc; on+off
+  -- what the plan holds against it, in kW: rgu; rgd; rgu+scr; rgu+scr+nsc; on+off (left sides of 40 to 45)
   unfoldable pub held : ℕ → ℕ → Shortfall → ℕ
   unfolding overMembers
   held t z rgu = overMembers (λ i. amount t i .rgu) z
@@ -70,7 +71,7 @@ module _ (q : System) (p : Plan) where
   held t z rru = overMembers (λ i. amount t i .rruOn + amount t i .rruOff) z
   held t z rrd = overMembers (λ i. amount t i .rrdOn + amount t i .rrdOff) z
 
-  -- "Shortfall ≥ required − 1000·held"
+  -- "Shortfall ≥ required rgu − 1000·rgu; rgd alike; ..": required less what is held, in W (40 to 45)
   unfoldable pub shortfallNeed : ℕ → ℕ → Shortfall → ℤ
   shortfallNeed t z k = pos (required t z k) -ℤ pos (1000 * held t z k)
 
@@ -79,25 +80,25 @@ module _ (q : System) (p : Plan) where
   total true t = sumℕ (λ i. gate (consuming q i) (power q p t i)) (upTo (devices q))
   total false t = sumℕ (λ i. gate (not (consuming q i)) (power q p t i)) (upTo (devices q))
 
-  -- "Mismatch ≥ |consuming − producing p|"
+  -- "Mismatch ≥ |consuming − producing p|" (11, 12, 17)
   unfoldable pub mismatchNeed : ℕ → ℕ
   mismatchNeed t = natAbs (pos (total true t) -ℤ pos (total false t))
 
-  -- the minutes of interval t that count in the window from..until: "d .. window start < M ≤ window end"
+  -- the minutes of interval t that count in the window from..until: "d .. window start < M ≤ window end" (212, 213)
   unfoldable pub minutesIn : ℕ → ℕ → ℕ → ℕ
   minutesIn from until t = gate (ltb from (midpoint q t) && leb (midpoint q t) until) (duration q t)
 
-  -- "d·p summed over window start < M ≤ window end"
+  -- "d·p summed over window start < M ≤ window end" (75, 76)
   unfoldable pub energyIn : ℕ → ℕ → ℕ
   energyIn i w = sumℕ (λ t. minutesIn (energyWindow q i w .from) (energyWindow q i w .until) t * power q p t i) (upTo (intervals q))
 
-  -- "above a maximum or below a minimum"
+  -- "above a maximum or below a minimum" (75 to 77)
   unfoldable pub overrunNeed : ℕ → ℕ → ℤ
   overrunNeed i w = pick (eqb (energyWindow q i w .kind) 0)
       (pos (energyIn i w) -ℤ pos (energyWindow q i w .energy))
       (pos (energyWindow q i w .energy) -ℤ pos (energyIn i w))
 
-  -- "at a start, no state or one of the device's states whose longest downtime ≥ downtime (elsewhere none)": state number k + 1
+  -- "at a start, no state or one of the device's states whose longest downtime ≥ downtime (elsewhere none)": state number k + 1 (64, 66, 67)
   pub record MayUse (t i k : ℕ) : Type 0 where
     pub starts : su q p t i ≡ 1
     pub known : k < length (device q i .longest)
@@ -194,7 +195,7 @@ module _ (c : Case) (p : Plan) (x : Completion ℤ) where
   unfoldable pub overruns : ℕ → ℤ
   overruns i = sumℤ (x .overrun i) (upTo (length (device q i .energyWindows)))
 
-  -- "Surplus of a completion, by its own choices and with each term summed over the day"
+  -- "Surplus of a completion, by its own choices and with each term summed over the day" (6 to 9, 15, 28 to 33, 61 to 65, 78, 79, 90 to 95, 131)
   unfoldable pub surplusOf : ℤ
   unfolding overDay
   surplusOf =

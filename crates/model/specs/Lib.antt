@@ -23,3 +23,4 @@ pub mod Open
 pub mod Day
 pub mod Views
 pub mod Viewed
+pub mod Vectors

@@ -1,4 +1,4 @@
--- "Rules, by number": each rule as a statement of one interval t and one device i; rule 20 of a device and a window.
+-- "Rules, by number": each rule as a statement of one interval t and one device i; rule 20 of a device and a window. Numbers in brackets are equations of the formulation.
 use mathlib.Core.Path.{_≡_}
 use mathlib.Core.Bool.{Bool, true, false, _&&_}
 use mathlib.Core.List.{List}
@@ -17,11 +17,11 @@ use Rattle.model.specs.Forced.{intervals, devices, device, cell, cap, st
 abbrev pub blocks : List ℕ
 blocks = upTo 4
 
--- "its minimum": of the initial state
+-- "its minimum": of the initial state (190, 192)
 unfoldable pub initialMinimum : System → ℕ → ℕ
 initialMinimum q i = pick (eqb (device q i .on0) 1) (device q i .minUp) (device q i .minDown)
 
--- rules 10 and 16, 17: rgu+scr+rru_on, and rgd+rrd_on
+-- rules 10, 11, 16 and 17: rgu+scr+rru_on, and rgd+rrd_on
 abbrev pub ups : Reserves → ℕ
 ups r = r .rgu + r .scr + r .rruOn
 
@@ -68,32 +68,32 @@ module _ (q : System) (p : Plan) (t i : ℕ) where
   abbrev lim : Reserves
   lim = device q i .limits
 
-  -- 1 "status fixed by the case"
+  -- 1 "status fixed by the case" (51, 52)
   pub record Rule1 : Type 0 where
     pub on : cell q t i .status ≡ 1 → u q p t i ≡ 1
     pub off : cell q t i .status ≡ 2 → u q p t i ≡ 0
 
-  -- 2 "initial state held while S + minutes already so < its minimum"
+  -- 2 "initial state held while S + minutes already so < its minimum" (51, 52, 190, 192)
   abbrev pub Rule2 : Type 0
   Rule2 = startOf q t + device q i .minutes0 < initialMinimum q i → u q p t i ≡ device q i .on0
 
-  -- 3 "no start where an earlier stop has S − S' < minimum down"
+  -- 3 "no start where an earlier stop has S − S' < minimum down" (56, 202)
   abbrev pub Rule3 : Type 0
   Rule3 = su q p t i ≡ 1 → (e : ℕ) → e < t → sd q p e i ≡ 1 → device q i .minDown ≤ startOf q t - startOf q e
 
-  -- 4 "no stop where an earlier start has S − S' < minimum up"
+  -- 4 "no stop where an earlier start has S − S' < minimum up" (57, 203)
   abbrev pub Rule4 : Type 0
   Rule4 = sd q p t i ≡ 1 → (e : ℕ) → e < t → su q p e i ≡ 1 → device q i .minUp ≤ startOf q t - startOf q e
 
-  -- 5
+  -- 5 "p − previous p ≤ d·(up·(u − su) + starting·(su + 1 − u))" (71, 72)
   abbrev pub Rule5 : Type 0
   Rule5 = (pos (power q p t i) -ℤ pos (previous q p t i)) ≤ℤ mayRise q p t i
 
-  -- 6
+  -- 6 "previous p − p ≤ d·(down·u + stopping·(1 − u))" (73, 74)
   abbrev pub Rule6 : Type 0
   Rule6 = (pos (previous q p t i) -ℤ pos (power q p t i)) ≤ℤ mayFall q p t i
 
-  -- 7 to 14, "against its limit times u: rgu; rgd; rgu+scr; rgu+scr+rru_on; rgd+rrd_on; times (1 − u): nsc; nsc+rru_off; rrd_off"
+  -- 7 to 14, "against its limit times u: rgu; rgd; rgu+scr; rgu+scr+rru_on; rgd+rrd_on; times (1 − u): nsc; nsc+rru_off; rrd_off" (98 to 105)
   abbrev pub Rule7 : Type 0
   Rule7 = r .rgu ≤ lim .rgu * u q p t i
 
@@ -118,23 +118,23 @@ module _ (q : System) (p : Plan) (t i : ℕ) where
   abbrev pub Rule14 : Type 0
   Rule14 = r .rrdOff ≤ lim .rrdOff * (1 - u q p t i)
 
-  -- 15 "producing: rrd_off = 0; consuming: nsc = rru_off = 0"
+  -- 15 "producing: rrd_off = 0; consuming: nsc = rru_off = 0" (106 to 108)
   abbrev pub Rule15 : Type 0
   Rule15 = forbidden (consuming q i) r ≡ 0
 
-  -- 16 "online + rgu+scr+rru_on ≤ pmax·u. Consuming: online + rgd+rrd_on ≤ pmax·u"
+  -- 16 "online + rgu+scr+rru_on ≤ pmax·u. .. Consuming: online + rgd+rrd_on ≤ pmax·u" (109, 119)
   abbrev pub Rule16 : Type 0
   Rule16 = setting q p t i .online + raising (consuming q i) r ≤ cell q t i .pmax * u q p t i
 
-  -- 17 "online − rgd − rrd_on ≥ pmin·u. Consuming: online − rgu − scr − rru_on ≥ pmin·u"
+  -- 17 "online − rgd − rrd_on ≥ pmin·u. .. Consuming: online − rgu − scr − rru_on ≥ pmin·u" (110, 120)
   abbrev pub Rule17 : Type 0
   Rule17 = pos (cell q t i .pmin * u q p t i) ≤ℤ (pos (setting q p t i .online) -ℤ pos (lowering (consuming q i) r))
 
-  -- 18 "psu+psd plus nsc+rru_off (producing) or rrd_off (consuming) ≤ pmax·(1 − u)"
+  -- 18 "psu+psd plus nsc+rru_off (producing) or rrd_off (consuming) ≤ pmax·(1 − u)" (111, 121)
   abbrev pub Rule18 : Type 0
   Rule18 = psu q p t i + psd q p t i + offline (consuming q i) r ≤ cell q t i .pmax * (1 - u q p t i)
 
-  -- 19 "p ≤ sum of block caps"
+  -- 19 "p ≤ sum of block caps": that blocks can carry p (129, 130)
   abbrev pub Rule19 : Type 0
   Rule19 = power q p t i ≤ sumℕ (cap q t i) blocks
 
@@ -160,7 +160,7 @@ module _ (q : System) (p : Plan) (t i : ℕ) where
     pub rule18 : Rule18
     pub rule19 : Rule19
 
--- 20 "starts with window start ≤ S < window end are at most the window's number"
+-- 20 "starts with window start ≤ S < window end are at most the window's number" (58, 211)
 abbrev pub Rule20 : System → Plan → ℕ → ℕ → Type 0
 Rule20 q p i w = startsIn q p i w ≤ startWindow q i w .most
 
