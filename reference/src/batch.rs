@@ -1,0 +1,185 @@
+//! The splitter and the batch program ("Messages", paragraph **Batch**, and "A two-set day").
+
+use std::fmt;
+
+use crate::case::{read_case, Case};
+use crate::fault::{Fault, Number};
+use crate::judge::{find, Finding};
+use crate::plan::read_plan;
+use crate::rules::Place;
+
+pub const LONGEST_MESSAGE: usize = 65_536;
+const LENGTH_BYTES: usize = 3;
+
+/// What the splitter answers.
+#[derive(Clone, Copy, PartialEq, Eq, Debug)]
+pub enum Split<'a> {
+    /// "end where no byte is left".
+    End,
+    /// "the message as that part of the caller's own bytes", and the place of what follows it.
+    Message { message: &'a [u8], next: usize },
+    /// A refusal "at the length's first bit".
+    Refused(Fault),
+}
+
+/// Takes the message whose length starts at byte `at`: "1 for a length cut short, 4 for a length
+/// above 65,536, 1 for a message cut short, tested in that sequence." A place past the end is
+/// answered like the end itself.
+pub fn split(batch: &[u8], at: usize) -> Split<'_> {
+    let rest = batch.get(at..).unwrap_or(&[]);
+    if rest.is_empty() {
+        return Split::End;
+    }
+    let refused = |number| Split::Refused(Fault::new(number, 8 * at));
+    let Some((length, rest)) = rest.split_at_checked(LENGTH_BYTES) else {
+        return refused(Number::Cut);
+    };
+    let length = length
+        .iter()
+        .fold(0, |length, &byte| 256 * length + usize::from(byte));
+    if length > LONGEST_MESSAGE {
+        return refused(Number::Range);
+    }
+    if length > rest.len() {
+        return refused(Number::Cut);
+    }
+    Split::Message {
+        message: &rest[..length],
+        next: at + LENGTH_BYTES + length,
+    }
+}
+
+/// One line of the batch program's output; `index` is the message's, from 0.
+#[derive(Clone, PartialEq, Eq, Debug)]
+pub enum Line {
+    Case {
+        index: usize,
+        devices: usize,
+        intervals: usize,
+        zones: usize,
+    },
+    Accepted {
+        index: usize,
+        surplus: i128,
+        message: Vec<u8>,
+    },
+    Broken {
+        index: usize,
+        place: Place,
+    },
+    Refused {
+        index: usize,
+        fault: Fault,
+    },
+    Framing {
+        number: Number,
+    },
+}
+
+impl fmt::Display for Line {
+    fn fmt(&self, out: &mut fmt::Formatter) -> fmt::Result {
+        match self {
+            Line::Case {
+                index,
+                devices,
+                intervals,
+                zones,
+            } => write!(out, "{index} case {devices} {intervals} {zones}"),
+            Line::Accepted { index, surplus, .. } => write!(out, "{index} accepted {surplus}"),
+            Line::Broken { index, place } => write!(
+                out,
+                "{index} broken {} {} {} {}",
+                place.rule, place.interval, place.device, place.window
+            ),
+            Line::Refused { index, fault } => {
+                write!(
+                    out,
+                    "{index} refused {} {}",
+                    fault.number.figure(),
+                    fault.bit
+                )
+            }
+            Line::Framing { number } => write!(out, "framing {}", number.figure()),
+        }
+    }
+}
+
+/// Runs the batch program on a batch, "case first".
+pub fn run(batch: &[u8]) -> Vec<Line> {
+    let mut lines = Vec::new();
+    let mut case = None;
+    let mut at = 0;
+    loop {
+        let index = lines.len();
+        match split(batch, at) {
+            Split::End => return lines,
+            Split::Refused(fault) => {
+                lines.push(Line::Framing {
+                    number: fault.number,
+                });
+                return lines;
+            }
+            Split::Message { message, next } => {
+                match &case {
+                    Some(case) => lines.push(judge_message(case, index, message)),
+                    None => match read_case(message) {
+                        Ok(read) => {
+                            lines.push(case_line(index, &read));
+                            case = Some(read);
+                        }
+                        // "A refused case ends the run after its line."
+                        Err(fault) => {
+                            lines.push(Line::Refused { index, fault });
+                            return lines;
+                        }
+                    },
+                }
+                at = next;
+            }
+        }
+    }
+}
+
+fn case_line(index: usize, case: &Case) -> Line {
+    Line::Case {
+        index,
+        devices: case.devices.len(),
+        intervals: case.intervals(),
+        zones: case.zones.len(),
+    }
+}
+
+fn judge_message(case: &Case, index: usize, message: &[u8]) -> Line {
+    match read_plan(case, message) {
+        Err(fault) => Line::Refused { index, fault },
+        Ok(plan) => match find(case, &plan) {
+            Finding::Broken(place) => Line::Broken { index, place },
+            Finding::Accepted { surplus, message } => Line::Accepted {
+                index,
+                surplus,
+                message,
+            },
+        },
+    }
+}
+
+/// Joins messages to a batch, each behind its length.
+pub fn join<M: AsRef<[u8]>>(messages: &[M]) -> Vec<u8> {
+    let mut batch = Vec::new();
+    for message in messages {
+        append_message(&mut batch, message.as_ref());
+    }
+    batch
+}
+
+/// Appends one message behind its length.
+pub fn append_message(batch: &mut Vec<u8>, message: &[u8]) {
+    append_length(batch, message.len());
+    batch.extend_from_slice(message);
+}
+
+/// Appends a length of 24 bits, whatever follows it.
+pub fn append_length(batch: &mut Vec<u8>, length: usize) {
+    assert!(length < 1 << 24, "a length has 24 bits");
+    batch.extend_from_slice(&(length as u32).to_be_bytes()[1..]);
+}

@@ -1,0 +1,109 @@
+//! Counts of verdicts: what a set of batches reaches.
+
+use std::fmt;
+
+use crate::batch::Line;
+
+/// Counts of lines.
+#[derive(Clone, PartialEq, Eq, Debug, Default)]
+pub struct Census {
+    pub batches: usize,
+    pub empty_batches: usize,
+    pub cases: usize,
+    pub accepted: usize,
+    /// By rule, 1 to 20.
+    pub broken: [usize; 21],
+    /// By number, 1 to 6.
+    pub refused_cases: [usize; 7],
+    pub refused_plans: [usize; 7],
+    /// By number, 1 and 4.
+    pub framing: [usize; 7],
+    /// Greatest counts of devices, intervals and zones, each by itself.
+    pub greatest: [usize; 3],
+    pub least_surplus: Option<i128>,
+    pub greatest_surplus: Option<i128>,
+}
+
+impl Census {
+    /// Counts the lines of one batch.
+    pub fn add(&mut self, lines: &[Line]) {
+        self.batches += 1;
+        self.empty_batches += usize::from(lines.is_empty());
+        for line in lines {
+            self.add_line(line);
+        }
+    }
+
+    fn add_line(&mut self, line: &Line) {
+        match line {
+            Line::Case {
+                devices,
+                intervals,
+                zones,
+                ..
+            } => {
+                self.cases += 1;
+                for (greatest, count) in self.greatest.iter_mut().zip([devices, intervals, zones]) {
+                    *greatest = (*greatest).max(*count);
+                }
+            }
+            Line::Accepted { surplus, .. } => {
+                self.accepted += 1;
+                let least = self.least_surplus.get_or_insert(*surplus);
+                *least = (*least).min(*surplus);
+                let greatest = self.greatest_surplus.get_or_insert(*surplus);
+                *greatest = (*greatest).max(*surplus);
+            }
+            Line::Broken { place, .. } => self.broken[usize::from(place.rule)] += 1,
+            Line::Refused { index: 0, fault } => {
+                self.refused_cases[usize::from(fault.number.figure())] += 1;
+            }
+            Line::Refused { fault, .. } => {
+                self.refused_plans[usize::from(fault.number.figure())] += 1;
+            }
+            Line::Framing { number } => self.framing[usize::from(number.figure())] += 1,
+        }
+    }
+
+    /// How many plans were judged, refused ones included.
+    pub fn plans(&self) -> usize {
+        let broken: usize = self.broken.iter().sum();
+        let refused: usize = self.refused_plans.iter().sum();
+        self.accepted + broken + refused
+    }
+}
+
+impl fmt::Display for Census {
+    fn fmt(&self, out: &mut fmt::Formatter) -> fmt::Result {
+        writeln!(
+            out,
+            "batches {}, of these empty {}; cases read {}; plans {}",
+            self.batches,
+            self.empty_batches,
+            self.cases,
+            self.plans()
+        )?;
+        writeln!(out, "accepted {}", self.accepted)?;
+        writeln!(out, "broken by rule: {}", numbered(&self.broken[1..]))?;
+        writeln!(
+            out,
+            "cases refused by number: {}",
+            numbered(&self.refused_cases[1..])
+        )?;
+        writeln!(
+            out,
+            "plans refused by number: {}",
+            numbered(&self.refused_plans[1..])
+        )?;
+        write!(out, "framing by number: {}", numbered(&self.framing[1..]))
+    }
+}
+
+fn numbered(counts: &[usize]) -> String {
+    let items: Vec<String> = counts
+        .iter()
+        .zip(1..)
+        .map(|(count, number)| format!("{number}: {count}"))
+        .collect();
+    items.join(", ")
+}

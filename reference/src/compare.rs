@@ -1,0 +1,234 @@
+//! The long run: random batches, another program's output against the reference's.
+
+use std::io::{self, Read, Write};
+use std::process::{Command, Stdio};
+use std::thread;
+
+use crate::batch::{run, Line};
+use crate::census::Census;
+use crate::generate::batches::{random_batch, random_size};
+use crate::generate::shape::Size;
+use crate::packed::{append_batch, append_output, pack};
+use crate::rng::Rng;
+
+/// What a run compares.
+#[derive(Clone, Copy, PartialEq, Eq, Debug)]
+pub struct Settings {
+    pub seed: u64,
+    /// The number of the first batch of the seed.
+    pub first_batch: u64,
+    pub until: Until,
+    /// About as many plans per batch; fewer where messages are large.
+    pub plans_per_batch: usize,
+}
+
+/// Where a run ends, unless at a difference.
+#[derive(Clone, Copy, PartialEq, Eq, Debug)]
+pub enum Until {
+    Batches(u64),
+    Plans(u64),
+}
+
+/// The first line that differs.
+#[derive(Clone, PartialEq, Eq, Debug)]
+pub struct Difference {
+    /// The batch, by its number among those of the seed.
+    pub batch: u64,
+    /// The line, from 1, of the output for that batch, its line `batch 0` included.
+    pub line: usize,
+    pub expected: Option<String>,
+    pub given: Option<String>,
+    /// What to store: the batch alone, packed, or the whole chunk.
+    pub packed: Vec<u8>,
+    /// Whether the product differs on the batch alone, too.
+    pub shows_alone: bool,
+}
+
+/// The source of the product's output: packed batches in, output in the form of
+/// [`crate::packed`] back.
+pub type Product<'a> = dyn FnMut(&[u8]) -> io::Result<Vec<u8>> + 'a;
+
+const CHUNK_BATCHES: usize = 256;
+const CHUNK_BYTES: usize = 8 << 20;
+/// Batches of the greatest sizes are kept to about so many bytes of plans.
+const PLAN_BYTES_PER_BATCH: usize = 1 << 20;
+
+/// Batch `number` of a seed.
+pub fn numbered_batch(seed: u64, number: u64, plans_per_batch: usize) -> Vec<u8> {
+    let mut rng = Rng::numbered(seed, number);
+    let size = random_size(&mut rng);
+    let largest_plan_bytes = match size {
+        Size::Large | Size::Full => 14_787,
+        _ => 1,
+    };
+    let plans = plans_per_batch.min(PLAN_BYTES_PER_BATCH / largest_plan_bytes);
+    random_batch(&mut rng, size, plans)
+}
+
+/// Compares until the settings are met or the first difference; counts what was compared.
+pub fn compare(
+    settings: &Settings,
+    product: &mut Product,
+    mut report: impl FnMut(&Census),
+) -> io::Result<(Census, Option<Difference>)> {
+    let mut census = Census::default();
+    let mut next = settings.first_batch;
+    while !is_done(settings, next, &census) {
+        let chunk = next_chunk(settings, &mut next, &mut census);
+        if let Some(difference) = chunk.compare(product)? {
+            return Ok((census, Some(difference)));
+        }
+        report(&census);
+    }
+    Ok((census, None))
+}
+
+fn is_done(settings: &Settings, next: u64, census: &Census) -> bool {
+    match settings.until {
+        Until::Batches(batches) => next - settings.first_batch >= batches,
+        Until::Plans(plans) => census.plans() as u64 >= plans,
+    }
+}
+
+/// Batches that go to the product together.
+struct Chunk {
+    first_batch: u64,
+    batches: Vec<Vec<u8>>,
+    lines: Vec<Vec<Line>>,
+}
+
+fn next_chunk(settings: &Settings, next: &mut u64, census: &mut Census) -> Chunk {
+    let mut chunk = Chunk {
+        first_batch: *next,
+        batches: Vec::new(),
+        lines: Vec::new(),
+    };
+    let mut bytes = 0;
+    while !is_done(settings, *next, census)
+        && chunk.batches.len() < CHUNK_BATCHES
+        && bytes < CHUNK_BYTES
+    {
+        let batch = numbered_batch(settings.seed, *next, settings.plans_per_batch);
+        let lines = run(&batch);
+        census.add(&lines);
+        bytes += batch.len();
+        chunk.batches.push(batch);
+        chunk.lines.push(lines);
+        *next += 1;
+    }
+    chunk
+}
+
+impl Chunk {
+    fn compare(&self, product: &mut Product) -> io::Result<Option<Difference>> {
+        let packed = pack(&self.batches);
+        let given = product(&packed)?;
+        let given = Lines::of(&given);
+        let mut at = 0;
+        for (k, lines) in self.lines.iter().enumerate() {
+            let mut expected = String::new();
+            append_output(&mut expected, k, lines);
+            let ends_here = k + 1 == self.lines.len();
+            if let Some(line) = first_difference(&expected, &given, &mut at, ends_here) {
+                return self.difference(product, k, line, &packed).map(Some);
+            }
+        }
+        Ok(None)
+    }
+
+    /// Tries the batch alone; if that does not differ, the whole chunk is what to store.
+    fn difference(
+        &self,
+        product: &mut Product,
+        k: usize,
+        in_chunk: LineDifference,
+        packed: &[u8],
+    ) -> io::Result<Difference> {
+        let mut alone = Vec::new();
+        append_batch(&mut alone, &self.batches[k]);
+        let given = product(&alone)?;
+        let mut expected = String::new();
+        append_output(&mut expected, 0, &self.lines[k]);
+        let line_alone = first_difference(&expected, &Lines::of(&given), &mut 0, true);
+        let shows_alone = line_alone.is_some();
+        let line = line_alone.unwrap_or(in_chunk);
+        Ok(Difference {
+            batch: self.first_batch + k as u64,
+            line: line.number,
+            expected: line.expected,
+            given: line.given,
+            packed: if shows_alone { alone } else { packed.to_vec() },
+            shows_alone,
+        })
+    }
+}
+
+struct LineDifference {
+    number: usize,
+    expected: Option<String>,
+    given: Option<String>,
+}
+
+/// Lines of an output, each with its newline, so that a missing one shows.
+struct Lines<'a> {
+    lines: Vec<&'a [u8]>,
+}
+
+impl<'a> Lines<'a> {
+    fn of(output: &'a [u8]) -> Lines<'a> {
+        Lines {
+            lines: output.split_inclusive(|&byte| byte == b'\n').collect(),
+        }
+    }
+}
+
+/// Compares expected lines with those given from line `at` on, and moves `at` behind them; where
+/// the output ends, so must what is given.
+fn first_difference(
+    expected: &str,
+    given: &Lines,
+    at: &mut usize,
+    ends_here: bool,
+) -> Option<LineDifference> {
+    let shown = |line: &[u8]| String::from_utf8_lossy(line).escape_debug().to_string();
+    for (index, line) in expected.split_inclusive('\n').enumerate() {
+        let found = given.lines.get(*at).copied();
+        if found != Some(line.as_bytes()) {
+            return Some(LineDifference {
+                number: index + 1,
+                expected: Some(shown(line.as_bytes())),
+                given: found.map(shown),
+            });
+        }
+        *at += 1;
+    }
+    match given.lines.get(*at) {
+        Some(line) if ends_here => Some(LineDifference {
+            number: expected.lines().count() + 1,
+            expected: None,
+            given: Some(shown(line)),
+        }),
+        _ => None,
+    }
+}
+
+/// The output of a program that reads packed batches on its standard input.
+pub fn output_of_program(program: &str, packed: &[u8]) -> io::Result<Vec<u8>> {
+    let mut child = Command::new(program)
+        .stdin(Stdio::piped())
+        .stdout(Stdio::piped())
+        .spawn()?;
+    let mut input = child.stdin.take().expect("its input is piped");
+    let mut source = child.stdout.take().expect("its output is piped");
+    let mut output = Vec::new();
+    thread::scope(|scope| {
+        // A program that stops reading early shows by its output, not by this write.
+        scope.spawn(move || input.write_all(packed).ok());
+        source.read_to_end(&mut output)
+    })?;
+    let status = child.wait()?;
+    if !status.success() {
+        eprintln!("{program} ended with {status}");
+    }
+    Ok(output)
+}

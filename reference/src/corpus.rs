@@ -1,0 +1,615 @@
+//! The corpus: batches that reach every rule, every refusal and every framing number, with the
+//! output that both sides are held to. All of it follows from a seed.
+
+use std::fs;
+use std::path::Path;
+
+use crate::batch::{append_length, append_message, join, run, LONGEST_MESSAGE};
+use crate::case::{Case, Status, MOST_DEVICES, MOST_INTERVALS, MOST_ZONES};
+use crate::census::Census;
+use crate::edges::Edges;
+use crate::encode::{encode_case, encode_plan, Encoded, Field};
+use crate::generate::batches::{random_batch, spoil_framing};
+use crate::generate::breaks::{break_at, plan_breaking};
+use crate::generate::damage::{
+    contradict, cut_at, values_out_of_range, with_fill_bit, with_surplus_bytes, with_value,
+    CONTRADICTIONS,
+};
+use crate::generate::device::Scale;
+use crate::generate::extreme::{very_high_surplus_day, very_low_surplus_day};
+use crate::generate::plans::good_plan;
+use crate::generate::sample::{random_sample, sample_of, Sample};
+use crate::generate::schedule::Schedule;
+use crate::generate::shape::{Shape, Size};
+use crate::packed::{output, pack, unpack};
+use crate::plan::{Plan, Setting};
+use crate::rng::Rng;
+use crate::tables;
+use crate::worked_day::{example_batch, lettered_days};
+
+pub const DEFAULT_SEED: u64 = 20_260;
+
+/// The files of a corpus.
+pub struct Corpus {
+    /// All batches, packed.
+    pub stdin: Vec<u8>,
+    /// The output expected for them.
+    pub stdout: String,
+    pub readme: String,
+}
+
+/// The corpus of a seed.
+pub fn corpus_of(seed: u64) -> Corpus {
+    let parts = parts_of(seed);
+    let batches: Vec<&Vec<u8>> = parts.iter().flat_map(|part| &part.batches).collect();
+    let stdin = pack(&batches);
+    let stdout = output(&batches);
+    let readme = readme(seed, &parts, &stdin, &stdout);
+    Corpus {
+        stdin,
+        stdout,
+        readme,
+    }
+}
+
+/// Writes the corpus of a seed to a directory.
+pub fn write(directory: &Path, seed: u64) -> Result<(), String> {
+    let corpus = corpus_of(seed);
+    fs::create_dir_all(directory).map_err(|error| format!("{}: {error}", directory.display()))?;
+    for (name, bytes) in corpus.files() {
+        let path = directory.join(name);
+        fs::write(&path, bytes).map_err(|error| format!("{}: {error}", path.display()))?;
+    }
+    Ok(())
+}
+
+/// Holds the reference to the files of a directory: that it gives the expected output for the
+/// stored batches, and that the seed makes every file again byte for byte.
+pub fn check(directory: &Path, seed: u64) -> Result<Census, String> {
+    let read = |name: &str| {
+        let path = directory.join(name);
+        fs::read(&path).map_err(|error| format!("{}: {error}", path.display()))
+    };
+    let stdin = read("stdin")?;
+    let batches = unpack(&stdin)?;
+    if output(&batches).as_bytes() != read("stdout")? {
+        return Err("the reference does not give the stored output".to_string());
+    }
+    for (name, bytes) in corpus_of(seed).files() {
+        if read(name)? != bytes {
+            return Err(format!("seed {seed} does not make {name} again"));
+        }
+    }
+    Ok(census_of(&batches))
+}
+
+impl Corpus {
+    fn files(&self) -> [(&'static str, &[u8]); 3] {
+        [
+            ("stdin", &self.stdin),
+            ("stdout", self.stdout.as_bytes()),
+            ("README.md", self.readme.as_bytes()),
+        ]
+    }
+}
+
+/// Batches made for one purpose.
+struct Part {
+    about: &'static str,
+    batches: Vec<Vec<u8>>,
+}
+
+type Maker = fn(&mut Rng) -> Vec<Vec<u8>>;
+
+/// Every part, made from its own random numbers so that none depends on the others.
+const PARTS: [(&str, Maker); 10] = [
+    ("the paper's example batch and days (a) to (m)", |_| {
+        worked_days()
+    }),
+    ("tiny days at the edges of the wording", |_| edge_days()),
+    ("framing, empty and misplaced messages", framing_batches),
+    ("cases cut in every kind of field", cut_cases),
+    (
+        "cases with every kind of field out of range",
+        cases_out_of_range,
+    ),
+    (
+        "cases with fill bits, surplus bytes and contradictions",
+        cases_with_later_faults,
+    ),
+    ("plans damaged in every kind of field", damaged_plans),
+    ("plans broken at each rule", broken_plans),
+    (
+        "largest cases, broken in the last interval",
+        broken_at_the_end,
+    ),
+    ("random batches of all sizes", random_batches),
+];
+
+fn parts_of(seed: u64) -> Vec<Part> {
+    PARTS
+        .iter()
+        .zip(0..)
+        .map(|(&(about, make), index)| Part {
+            about,
+            batches: make(&mut Rng::numbered(seed, index)),
+        })
+        .collect()
+}
+
+/// A batch of a case and plans of it.
+fn batch_of(case: &Case, plans: &[Plan]) -> Vec<u8> {
+    let mut batch = join(&[encode_case(case).bytes]);
+    for plan in plans {
+        append_message(&mut batch, &encode_plan(plan).bytes);
+    }
+    batch
+}
+
+fn worked_days() -> Vec<Vec<u8>> {
+    let mut batches = vec![example_batch()];
+    for (_, day) in lettered_days() {
+        batches.push(batch_of(&day.case, &[day.plan]));
+    }
+    batches
+}
+
+fn edge_days() -> Vec<Vec<u8>> {
+    tables::written_rows()
+        .iter()
+        .map(|row| join(&[&row.case, &row.plan]))
+        .collect()
+}
+
+/// A case with every kind of field, as small as that allows.
+fn case_with_every_field(rng: &mut Rng) -> Sample {
+    let shape = Shape {
+        size: Size::Small,
+        devices: 2,
+        intervals: 2,
+        zones: 1 + rng.below(MOST_ZONES - 1),
+    };
+    loop {
+        let sample = sample_of(rng, &shape, Scale::Low);
+        let has_all = sample.case.devices.iter().any(|device| {
+            !device.startup_states.is_empty()
+                && !device.start_windows.is_empty()
+                && !device.energy_windows.is_empty()
+        });
+        if has_all {
+            return sample;
+        }
+    }
+}
+
+fn framing_batches(rng: &mut Rng) -> Vec<Vec<u8>> {
+    let sample = random_sample(rng, Size::Small);
+    let case = encode_case(&sample.case).bytes;
+    let plan = encode_plan(&good_plan(rng, &sample)).bytes;
+    let whole = join(&[&case, &plan]);
+    let mut batches = vec![
+        Vec::new(),
+        vec![0],
+        vec![0, 0],
+        // An empty message is a message: a case cut at its first bit.
+        vec![0, 0, 0],
+        join(&[&case]),
+        // Empty plans are refused, and the run goes on.
+        join(&[&case[..], &[], &plan, &[], &plan]),
+        // The wrong kind of message in either place.
+        join(&[&plan, &case]),
+        join(&[&case, &case, &plan]),
+    ];
+    for trail in [&[0][..], &[0, 0], &[255, 255]] {
+        batches.push([&whole, trail].concat());
+    }
+    for length in [LONGEST_MESSAGE + 1, LONGEST_MESSAGE + 256, (1 << 24) - 1] {
+        for start in [&[][..], &whole] {
+            let mut batch = start.to_vec();
+            append_length(&mut batch, length);
+            batches.push(batch);
+        }
+    }
+    for length in [1, 2, LONGEST_MESSAGE] {
+        let mut batch = whole.clone();
+        append_length(&mut batch, length);
+        batches.push(batch.clone());
+        batch.extend(vec![0x21; length - 1]);
+        batches.push(batch);
+    }
+    // As long as may be, all there: surplus bytes behind a plan. One byte longer, all there: 4.
+    let mut longest = plan.clone();
+    longest.resize(LONGEST_MESSAGE, 0);
+    batches.push(join(&[&case, &longest, &plan]));
+    longest.push(0);
+    batches.push(join(&[&case, &longest, &plan]));
+    // A refused case ends the run before any framing behind it.
+    let mut ended = join(&[&case[1..]]);
+    append_length(&mut ended, LONGEST_MESSAGE + 1);
+    batches.push(ended);
+    for _ in 0..6 {
+        let mut batch = random_batch(rng, Size::Small, 4);
+        spoil_framing(rng, &mut batch);
+        batches.push(batch);
+    }
+    batches
+}
+
+/// The names of a message's fields, each once.
+fn names_of(message: &Encoded) -> Vec<&'static str> {
+    let mut names = Vec::new();
+    for field in &message.fields {
+        if !names.contains(&field.name) {
+            names.push(field.name);
+        }
+    }
+    names
+}
+
+/// One field of each name, drawn among those that `usable` allows.
+fn one_field_of_each_name(
+    rng: &mut Rng,
+    message: &Encoded,
+    usable: impl Fn(&Field) -> bool,
+) -> Vec<Field> {
+    names_of(message)
+        .into_iter()
+        .filter_map(|name| {
+            let fields: Vec<Field> = message
+                .fields
+                .iter()
+                .filter(|field| field.name == name && usable(field))
+                .copied()
+                .collect();
+            (!fields.is_empty()).then(|| rng.pick(&fields))
+        })
+        .collect()
+}
+
+/// Whether some byte of a message ends before or inside a field, behind the field before it.
+fn can_be_cut(field: &Field) -> bool {
+    (field.place..field.end()).any(|bit| bit % 8 == 0)
+}
+
+/// Fields of a case that no byte ends before or inside: bits 4 to 7 and 19 to 21.
+const NEVER_CUT: [&str; 2] = ["case edition", "zones"];
+
+/// A case cut in each kind of field; of several cases, because a field of few bits can be cut only
+/// where a byte ends at it.
+fn cut_cases(rng: &mut Rng) -> Vec<Vec<u8>> {
+    let mut cut_names = Vec::new();
+    let mut batches = Vec::new();
+    loop {
+        let message = encode_case(&case_with_every_field(rng).case);
+        let new = |field: &Field| can_be_cut(field) && !cut_names.contains(&field.name);
+        for field in one_field_of_each_name(rng, &message, new) {
+            if let Some(cut) = cut_at(rng, &message, &field) {
+                batches.push(join(&[cut]));
+                cut_names.push(field.name);
+            }
+        }
+        if cut_names.len() + NEVER_CUT.len() == names_of(&message).len() {
+            return batches;
+        }
+    }
+}
+
+fn cases_out_of_range(rng: &mut Rng) -> Vec<Vec<u8>> {
+    let message = encode_case(&case_with_every_field(rng).case);
+    let fields = one_field_of_each_name(rng, &message, |_| true);
+    fields
+        .iter()
+        .flat_map(|field| {
+            values_out_of_range(field)
+                .into_iter()
+                .map(|value| join(&[with_value(&message, field, value)]))
+        })
+        .collect()
+}
+
+fn cases_with_later_faults(rng: &mut Rng) -> Vec<Vec<u8>> {
+    let mut cases = Vec::new();
+    for _ in 0..4 {
+        let message = encode_case(&case_with_every_field(rng).case);
+        cases.push(with_surplus_bytes(rng, &message.bytes));
+        if let Some(filled) = with_fill_bit(rng, &message) {
+            cases.push(with_surplus_bytes(rng, &filled));
+            cases.push(filled);
+        }
+    }
+    for contradiction in CONTRADICTIONS {
+        for _ in 0..3 {
+            let mut case = case_with_every_field(rng).case;
+            while !contradict(rng, &mut case, contradiction) {}
+            cases.push(encode_case(&case).bytes);
+        }
+    }
+    for _ in 0..6 {
+        cases.extend(several_contradictions(rng));
+    }
+    cases.extend(zone_bits_above_every_count(rng));
+    cases.into_iter().map(|case| join(&[case])).collect()
+}
+
+/// For each zone count and each zone above it, a case with that zone's bit alone set above it.
+fn zone_bits_above_every_count(rng: &mut Rng) -> Vec<Vec<u8>> {
+    let mut cases = Vec::new();
+    for zones in 0..MOST_ZONES {
+        for z in zones..MOST_ZONES {
+            let shape = Shape {
+                size: Size::Tiny,
+                devices: 2,
+                intervals: 1,
+                zones,
+            };
+            let mut case = sample_of(rng, &shape, Scale::Low).case;
+            case.devices[1].zone_bits[z] = true;
+            cases.push(encode_case(&case).bytes);
+        }
+    }
+    cases
+}
+
+/// A case with several contradictions, as it stands and with a fault that comes before them.
+fn several_contradictions(rng: &mut Rng) -> Vec<Vec<u8>> {
+    let mut case: Case = case_with_every_field(rng).case;
+    for _ in 0..4 {
+        let contradiction = rng.pick(&CONTRADICTIONS);
+        contradict(rng, &mut case, contradiction);
+    }
+    let message = encode_case(&case);
+    let last = message.fields[message.fields.len() - 1];
+    let mut cases = vec![
+        message.bytes.clone(),
+        with_value(&message, &last, last.high + 1),
+        message.bytes[..message.bytes.len() - 1].to_vec(),
+    ];
+    cases.extend(with_fill_bit(rng, &message));
+    cases
+}
+
+/// Batches of one case and many damaged plans, a good one at the end.
+fn damaged_plans(rng: &mut Rng) -> Vec<Vec<u8>> {
+    (0..6)
+        .map(|_| {
+            let sample = random_sample(rng, Size::Small);
+            let message = encode_plan(&good_plan(rng, &sample));
+            let mut batch = join(&[encode_case(&sample.case).bytes]);
+            for plan in damaged_forms(rng, &message) {
+                append_message(&mut batch, &plan);
+            }
+            append_message(&mut batch, &message.bytes);
+            batch
+        })
+        .collect()
+}
+
+/// A plan cut in each kind of field, out of range in each kind, with every other count, with fill
+/// bits and with surplus bytes.
+fn damaged_forms(rng: &mut Rng, message: &Encoded) -> Vec<Vec<u8>> {
+    let mut forms = Vec::new();
+    for field in one_field_of_each_name(rng, message, can_be_cut) {
+        forms.extend(cut_at(rng, message, &field));
+    }
+    for field in one_field_of_each_name(rng, message, |_| true) {
+        for value in values_out_of_range(&field) {
+            forms.push(with_value(message, &field, value));
+        }
+    }
+    for field in message
+        .fields
+        .iter()
+        .filter(|field| field.name.starts_with("plan "))
+    {
+        let (least, greatest) = field.sayable();
+        let others = (least..=greatest).filter(|value| !(field.low..=field.high).contains(value));
+        forms.extend(others.map(|value| with_value(message, field, value)));
+    }
+    forms.extend(with_fill_bit(rng, message));
+    forms.extend(with_fill_bit(rng, message).map(|filled| with_surplus_bytes(rng, &filled)));
+    forms.push(with_surplus_bytes(rng, &message.bytes));
+    forms
+}
+
+/// For each rule, batches of one case, a good plan and plans broken at the rule.
+fn broken_plans(rng: &mut Rng) -> Vec<Vec<u8>> {
+    const BATCHES_PER_RULE: usize = 6;
+    const PLANS_PER_BATCH: usize = 4;
+    let mut batches = Vec::new();
+    for rule in 1..=20 {
+        let mut made = 0;
+        while made < BATCHES_PER_RULE {
+            let size = rng.pick(&[Size::Tiny, Size::Small, Size::Medium]);
+            let sample = random_sample(rng, size);
+            let mut plans: Vec<Plan> = (0..PLANS_PER_BATCH)
+                .filter_map(|_| plan_breaking(rng, &sample, rule))
+                .collect();
+            if !plans.is_empty() {
+                plans.push(good_plan(rng, &sample));
+                batches.push(batch_of(&sample.case, &plans));
+                made += 1;
+            }
+        }
+    }
+    batches
+}
+
+const LAST_INTERVAL: usize = MOST_INTERVALS - 1;
+const LAST_DEVICE: usize = MOST_DEVICES - 1;
+
+/// Plans of the largest counts that keep every rule until device 16 in interval 48: there they are
+/// broken at one of rules 5 to 19, or switched off, which breaks rule 1 where the device must be on.
+fn broken_at_the_end(rng: &mut Rng) -> Vec<Vec<u8>> {
+    let mut batches = Vec::new();
+    for on_at_the_end in [true, false] {
+        let sample = sample_ending(rng, on_at_the_end);
+        let mut plans = Vec::new();
+        for rule in 5..=19 {
+            let mut plan = good_plan(rng, &sample);
+            if break_at(rng, &sample, &mut plan, rule, (LAST_INTERVAL, LAST_DEVICE)) {
+                plans.push(plan);
+            }
+        }
+        let mut plan = good_plan(rng, &sample);
+        plan.intervals[LAST_INTERVAL][LAST_DEVICE] = Setting::default();
+        plans.push(plan);
+        batches.push(batch_of(&sample.case, &plans));
+    }
+    batches
+}
+
+/// A case of the largest counts whose device 16 must be on, or is off, in interval 48.
+fn sample_ending(rng: &mut Rng, on_at_the_end: bool) -> Sample {
+    let ends_on = |schedule: &Schedule| schedule.commitment.on[LAST_INTERVAL];
+    loop {
+        let shape = Shape::random(rng, Size::Full);
+        let mut sample = sample_of(rng, &shape, Scale::Calm);
+        let schedules = &sample.pools[LAST_DEVICE].good;
+        if schedules
+            .iter()
+            .all(|schedule| ends_on(schedule) == on_at_the_end)
+        {
+            if on_at_the_end {
+                sample.case.devices[LAST_DEVICE].terms[LAST_INTERVAL].status = Status::On;
+            }
+            return sample;
+        }
+    }
+}
+
+fn random_batches(rng: &mut Rng) -> Vec<Vec<u8>> {
+    let mut batches = Vec::new();
+    for (size, count, plans) in [
+        (Size::Tiny, 30, 20),
+        (Size::Small, 60, 20),
+        (Size::Medium, 25, 12),
+        (Size::Large, 3, 6),
+        (Size::Full, 2, 6),
+    ] {
+        for _ in 0..count {
+            batches.push(random_batch(rng, size, plans));
+        }
+    }
+    for day in [very_low_surplus_day(), very_high_surplus_day()] {
+        batches.push(batch_of(&day.case, &[day.plan]));
+    }
+    for scale in [Scale::Low, Scale::Extreme] {
+        let shape = Shape::random(rng, Size::Full);
+        let sample = sample_of(rng, &shape, scale);
+        let plans = [(); 5].map(|_| good_plan(rng, &sample));
+        batches.push(batch_of(&sample.case, &plans));
+    }
+    batches
+}
+
+fn census_of<B: AsRef<[u8]>>(batches: &[B]) -> Census {
+    let mut census = Census::default();
+    for batch in batches {
+        census.add(&run(batch.as_ref()));
+    }
+    census
+}
+
+fn readme(seed: u64, parts: &[Part], stdin: &[u8], stdout: &str) -> String {
+    let batches: Vec<&Vec<u8>> = parts.iter().flat_map(|part| &part.batches).collect();
+    let census = census_of(&batches);
+    let mut edges = Edges::default();
+    for batch in &batches {
+        edges.add(batch);
+    }
+    [
+        HEAD.to_string(),
+        command_paragraph(seed),
+        table("| Part | Batches | Bytes |", parts.iter().map(part_row)),
+        format!(
+            "`stdin` {} bytes, `stdout` {} bytes.\n\n## Counts\n",
+            stdin.len(),
+            stdout.len()
+        ),
+        totals_paragraph(&census),
+        table(
+            "| Rule | Plans |",
+            (1..=20).map(|rule| rule_row(&census, rule)),
+        ),
+        table(
+            "| Number | Cases refused | Plans refused | Framing |",
+            (1..=6).map(|number| number_row(&census, number)),
+        ),
+        NUMBERS_NOTE.to_string(),
+        "## Edges\n\nPlans that show each; accepted ones, unless marked.\n".to_string(),
+        table(
+            "| Edge | Plans |",
+            edges.in_order().into_iter().map(edge_row),
+        ),
+    ]
+    .join("\n")
+}
+
+fn table(head: &str, rows: impl Iterator<Item = String>) -> String {
+    let columns = head.matches('|').count() - 1;
+    let mut table = format!("{head}\n|{}\n", "---|".repeat(columns));
+    table.extend(rows.map(|row| row + "\n"));
+    table
+}
+
+fn command_paragraph(seed: u64) -> String {
+    format!(
+        "In `reference/`, `cargo run --release --bin corpus -- write DIR --seed {seed}` makes these \
+         files byte for byte;\n`cargo run --release --bin corpus -- check DIR --seed {seed}` and \
+         `cargo test` hold the reference to them.\n"
+    )
+}
+
+fn totals_paragraph(census: &Census) -> String {
+    let [devices, intervals, zones] = census.greatest;
+    format!(
+        "Batches {} (empty {}), cases read {}, plans {}, of these accepted {}.\n\
+         Largest: {devices} devices, {intervals} intervals, {zones} zones. \
+         Surplus from {} to {}.\n",
+        census.batches,
+        census.empty_batches,
+        census.cases,
+        census.plans(),
+        census.accepted,
+        census.least_surplus.unwrap_or(0),
+        census.greatest_surplus.unwrap_or(0)
+    )
+}
+
+fn part_row(part: &Part) -> String {
+    let bytes: usize = part.batches.iter().map(Vec::len).sum();
+    format!("| {} | {} | {bytes} |", part.about, part.batches.len())
+}
+
+fn rule_row(census: &Census, rule: usize) -> String {
+    format!("| {rule} | {} |", census.broken[rule])
+}
+
+fn number_row(census: &Census, number: usize) -> String {
+    format!(
+        "| {number} | {} | {} | {} |",
+        census.refused_cases[number], census.refused_plans[number], census.framing[number]
+    )
+}
+
+fn edge_row((name, count): (&str, usize)) -> String {
+    format!("| {name} | {count} |")
+}
+
+const HEAD: &str = "\
+# Corpus
+
+Batches with the output that the product and the reference are both held to.
+
+- `stdin`: all batches, each behind a 32-bit byte length, most significant byte first.
+- `stdout`: for each batch, numbered K from 0, a line `batch K`, then the lines of the batch program
+  of paper 01; directly after each accepted plan a line `completion BYTES CRC` with the length of
+  its completion message and the CRC-32 of it (as zlib's), in decimal.
+";
+
+const NUMBERS_NOTE: &str = "\
+A plan has no field that could contradict another, so number 5 is never a plan's. Number 7 needs a
+short buffer, which the batch program has not; the reference's own tests hold it. Two kinds of field
+of a case (its edition and its zone count) and one of a plan (its edition) are never cut: no byte
+ends before or inside them. Framing has the numbers 1 and 4 alone.
+";

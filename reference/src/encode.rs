@@ -1,0 +1,275 @@
+//! Writing of case and plan messages, with a record of every field: what it is, where it lies and
+//! which values it may hold. The generator builds and damages messages with it.
+
+use crate::bits::{BitWriter, HIGHEST_POWER};
+use crate::case::{Case, Device, EnergyKind, Side, Status, Terms, Zone, EDITION, KIND_CASE};
+use crate::plan::{Plan, Setting, KIND_PLAN};
+
+/// Which number a wrong value of a field is refused with.
+#[derive(Clone, Copy, PartialEq, Eq, PartialOrd, Ord, Debug)]
+pub enum Class {
+    /// Number 2.
+    Kind,
+    /// Number 3.
+    Count,
+    /// Number 4.
+    Figure,
+}
+
+/// A field of a written message.
+#[derive(Clone, Copy, PartialEq, Eq, Debug)]
+pub struct Field {
+    pub name: &'static str,
+    pub class: Class,
+    pub place: usize,
+    pub width: usize,
+    pub low: i128,
+    pub high: i128,
+}
+
+impl Field {
+    pub fn end(&self) -> usize {
+        self.place + self.width
+    }
+
+    /// The least and the greatest value that the field's bits can say.
+    pub fn sayable(&self) -> (i128, i128) {
+        if self.low < 0 {
+            (-(1 << (self.width - 1)), (1 << (self.width - 1)) - 1)
+        } else {
+            (0, (1 << self.width) - 1)
+        }
+    }
+}
+
+/// A message and its fields.
+#[derive(Clone, PartialEq, Eq, Debug)]
+pub struct Encoded {
+    pub bytes: Vec<u8>,
+    pub fields: Vec<Field>,
+}
+
+#[derive(Default)]
+struct Encoder {
+    message: BitWriter,
+    fields: Vec<Field>,
+}
+
+impl Encoder {
+    fn put(
+        &mut self,
+        name: &'static str,
+        class: Class,
+        width: usize,
+        range: (i128, i128),
+        value: i128,
+    ) {
+        let (low, high) = range;
+        assert!(
+            (low..=high).contains(&value),
+            "{name}: {value} is outside {low}..{high}"
+        );
+        self.fields.push(Field {
+            name,
+            class,
+            place: self.message.place(),
+            width,
+            low,
+            high,
+        });
+        if low < 0 {
+            self.message.put_signed(width, value);
+        } else {
+            self.message.put(width, value);
+        }
+    }
+
+    fn kind(&mut self, name: &'static str, value: i128) {
+        self.put(name, Class::Kind, 4, (value, value), value);
+    }
+
+    fn count(&mut self, name: &'static str, width: usize, range: (i128, i128), count: usize) {
+        self.put(name, Class::Count, width, range, count as i128);
+    }
+
+    fn figure(&mut self, name: &'static str, width: usize, high: i128, value: i128) {
+        self.put(name, Class::Figure, width, (0, high), value);
+    }
+
+    fn price(&mut self, name: &'static str, width: usize, high: i128, value: i128) {
+        self.put(name, Class::Figure, width, (1, high), value);
+    }
+
+    fn signed(&mut self, name: &'static str, width: usize, size: i128, value: i128) {
+        self.put(name, Class::Figure, width, (-size, size), value);
+    }
+
+    fn power(&mut self, name: &'static str, value: i128) {
+        self.figure(name, 17, HIGHEST_POWER, value);
+    }
+
+    fn into_encoded(self) -> Encoded {
+        Encoded {
+            bytes: self.message.into_bytes(),
+            fields: self.fields,
+        }
+    }
+}
+
+const PRODUCTS: [&str; 8] = [
+    "rgu", "rgd", "scr", "nsc", "rru_on", "rru_off", "rrd_on", "rrd_off",
+];
+
+/// The message of a case. Contradictions (number 5) are written as they stand.
+pub fn encode_case(case: &Case) -> Encoded {
+    let mut message = Encoder::default();
+    message.kind("case kind", KIND_CASE);
+    message.kind("case edition", EDITION);
+    message.count("devices", 5, (1, 16), case.devices.len());
+    message.count("intervals", 6, (1, 48), case.intervals());
+    message.count("zones", 3, (0, 4), case.zones.len());
+    message.price("mismatch price", 14, 10_000, case.mismatch_price);
+    message.price("overrun price", 14, 10_000, case.overrun_price);
+    for &duration in &case.durations {
+        assert!(duration % 2 == 0, "a duration is sent as its half");
+        message.price("d/2", 8, 180, duration / 2);
+    }
+    for zone in &case.zones {
+        put_zone(&mut message, zone);
+    }
+    for device in &case.devices {
+        put_device(&mut message, device);
+    }
+    message.into_encoded()
+}
+
+fn put_zone(message: &mut Encoder, zone: &Zone) {
+    const SHARES: [&str; 4] = ["rgu share", "rgd share", "scr share", "nsc share"];
+    const PRICES: [&str; 6] = [
+        "rgu shortfall price",
+        "rgd shortfall price",
+        "scr shortfall price",
+        "nsc shortfall price",
+        "rru shortfall price",
+        "rrd shortfall price",
+    ];
+    for (name, share) in SHARES.into_iter().zip(zone.shares) {
+        message.figure(name, 10, 1_000, share);
+    }
+    for (name, price) in PRICES.into_iter().zip(zone.shortfall_prices) {
+        message.price(name, 7, 100, price);
+    }
+    for [rru, rrd] in &zone.ramping_minima {
+        message.figure("rru minimum", 23, 6_400_000, *rru);
+        message.figure("rrd minimum", 23, 6_400_000, *rrd);
+    }
+}
+
+fn put_device(message: &mut Encoder, device: &Device) {
+    message.figure("side", 1, 1, i128::from(device.side == Side::Consuming));
+    let zone_bits = device
+        .zone_bits
+        .iter()
+        .fold(0, |bits, &member| 2 * bits + i128::from(member));
+    message.figure("zone bits", 4, 15, zone_bits);
+    message.figure("initially on", 1, 1, i128::from(device.initially_on));
+    message.power("initial power", device.initial_power);
+    message.figure("minutes already so", 16, 60_000, device.minutes_already_so);
+    message.figure("minimum up", 16, 60_000, device.minimum_up);
+    message.figure("minimum down", 16, 60_000, device.minimum_down);
+    message.price("ramp up", 17, 100_000, device.ramps.up);
+    message.price("ramp down", 17, 100_000, device.ramps.down);
+    message.price("ramp starting", 17, 100_000, device.ramps.starting);
+    message.price("ramp stopping", 17, 100_000, device.ramps.stopping);
+    message.figure("on cost", 17, 100_000, device.on_cost);
+    message.figure("start cost", 30, 1_000_000_000, device.start_cost);
+    message.figure("stop cost", 30, 1_000_000_000, device.stop_cost);
+    const LIMITS: [&str; 8] = [
+        "rgu limit",
+        "rgd limit",
+        "scr limit",
+        "nsc limit",
+        "rru_on limit",
+        "rru_off limit",
+        "rrd_on limit",
+        "rrd_off limit",
+    ];
+    for (name, limit) in LIMITS.into_iter().zip(device.reserve_limits.in_order()) {
+        message.power(name, limit);
+    }
+    message.count("startup states", 3, (0, 4), device.startup_states.len());
+    for state in &device.startup_states {
+        message.figure("longest downtime", 16, 60_000, state.longest_downtime);
+        message.signed("state cost", 31, 1_000_000_000, state.cost);
+    }
+    message.count("start windows", 3, (0, 4), device.start_windows.len());
+    for window in &device.start_windows {
+        message.figure("start window start", 16, 65_535, window.start);
+        message.figure("start window end", 16, 65_535, window.end);
+        message.figure("most starts", 6, 48, window.most_starts);
+    }
+    message.count("energy windows", 3, (0, 4), device.energy_windows.len());
+    for window in &device.energy_windows {
+        let kind = i128::from(window.kind == EnergyKind::Minimum);
+        message.figure("energy window kind", 1, 1, kind);
+        message.figure("energy window start", 16, 65_535, window.start);
+        message.figure("energy window end", 16, 65_535, window.end);
+        message.figure("energy", 32, 4_000_000_000, window.energy);
+    }
+    for terms in &device.terms {
+        put_terms(message, terms);
+    }
+}
+
+fn put_terms(message: &mut Encoder, terms: &Terms) {
+    let status = match terms.status {
+        Status::Free => 0,
+        Status::On => 1,
+        Status::Off => 2,
+    };
+    message.figure("status", 2, 2, status);
+    message.power("pmin", terms.pmin);
+    message.power("pmax", terms.pmax);
+    message.count("blocks", 3, (0, 4), terms.blocks.len());
+    for block in &terms.blocks {
+        message.power("block cap", block.cap);
+        message.signed("block price", 15, 10_000, block.price);
+    }
+    const PRICES: [&str; 8] = [
+        "rgu price",
+        "rgd price",
+        "scr price",
+        "nsc price",
+        "rru_on price",
+        "rru_off price",
+        "rrd_on price",
+        "rrd_off price",
+    ];
+    for (name, price) in PRICES.into_iter().zip(terms.reserve_prices.in_order()) {
+        message.figure(name, 14, 10_000, price);
+    }
+}
+
+/// The message of a plan. Its counts must be the plan's own.
+pub fn encode_plan(plan: &Plan) -> Encoded {
+    let mut message = Encoder::default();
+    let devices = plan.intervals[0].len();
+    let intervals = plan.intervals.len();
+    message.kind("plan kind", KIND_PLAN);
+    message.kind("plan edition", EDITION);
+    let only = |count: usize| (count as i128, count as i128);
+    message.count("plan devices", 5, only(devices), devices);
+    message.count("plan intervals", 6, only(intervals), intervals);
+    for setting in plan.intervals.iter().flatten() {
+        put_setting(&mut message, setting);
+    }
+    message.into_encoded()
+}
+
+fn put_setting(message: &mut Encoder, setting: &Setting) {
+    message.figure("on", 1, 1, i128::from(setting.on));
+    message.power("online power", setting.online_power);
+    for (name, reserve) in PRODUCTS.into_iter().zip(setting.reserves.in_order()) {
+        message.power(name, reserve);
+    }
+}

@@ -1,0 +1,111 @@
+//! Random batches for the long run: one case, many plans.
+
+use crate::batch::{append_length, append_message, LONGEST_MESSAGE};
+use crate::encode::{encode_case, encode_plan};
+use crate::generate::breaks::{
+    nudged_plan, plan_breaking, plan_broken_severally, recommitted_plan,
+};
+use crate::generate::damage::{contradict, damaged, CONTRADICTIONS};
+use crate::generate::plans::{good_plan, wild_plan};
+use crate::generate::sample::{random_sample, wild_case, Sample};
+use crate::generate::shape::Size;
+use crate::rng::Rng;
+
+/// A batch of one case and about `plans` plans.
+pub fn random_batch(rng: &mut Rng, size: Size, plans: usize) -> Vec<u8> {
+    match rng.below(40) {
+        0 => refused_case_batch(rng, size),
+        1 => wild_batch(rng, size, plans),
+        _ => {
+            let sample = random_sample(rng, size);
+            let mut batch = Vec::new();
+            append_message(&mut batch, &encode_case(&sample.case).bytes);
+            for _ in 0..plans {
+                append_message(&mut batch, &random_plan_message(rng, &sample));
+            }
+            if rng.chance(5) {
+                spoil_framing(rng, &mut batch);
+            }
+            batch
+        }
+    }
+}
+
+/// The size of a batch's case: mostly small or medium.
+pub fn random_size(rng: &mut Rng) -> Size {
+    match rng.below(100) {
+        0..=14 => Size::Tiny,
+        15..=69 => Size::Small,
+        70..=96 => Size::Medium,
+        97 | 98 => Size::Large,
+        _ => Size::Full,
+    }
+}
+
+/// A plan's message: accepted in a good share, broken at any rule, or refused.
+pub fn random_plan_message(rng: &mut Rng, sample: &Sample) -> Vec<u8> {
+    let plan = match rng.below(100) {
+        0..=3 => plan_broken_severally(rng, sample),
+        4..=11 => nudged_plan(rng, sample),
+        12..=16 => recommitted_plan(rng, sample),
+        17..=18 => wild_plan(rng, &sample.case),
+        19..=52 => {
+            let rule = rng.from_to(1, 20) as u8;
+            plan_breaking(rng, sample, rule).unwrap_or_else(|| nudged_plan(rng, sample))
+        }
+        53..=60 => {
+            let message = encode_plan(&good_plan(rng, sample));
+            return damaged(rng, &message);
+        }
+        61 => return encode_case(&sample.case).bytes,
+        _ => good_plan(rng, sample),
+    };
+    encode_plan(&plan).bytes
+}
+
+/// A batch whose case is refused; what follows it is never read.
+pub fn refused_case_batch(rng: &mut Rng, size: Size) -> Vec<u8> {
+    let mut sample = random_sample(rng, size);
+    let contradicts = rng.chance(50);
+    if contradicts {
+        for _ in 0..1 + rng.below(3) {
+            let contradiction = rng.pick(&CONTRADICTIONS);
+            contradict(rng, &mut sample.case, contradiction);
+        }
+    }
+    let message = encode_case(&sample.case);
+    let mut batch = Vec::new();
+    let bytes = if contradicts && rng.chance(70) {
+        message.bytes
+    } else {
+        damaged(rng, &message)
+    };
+    append_message(&mut batch, &bytes);
+    let plan = good_plan(rng, &sample);
+    append_message(&mut batch, &encode_plan(&plan).bytes);
+    batch
+}
+
+fn wild_batch(rng: &mut Rng, size: Size, plans: usize) -> Vec<u8> {
+    let case = wild_case(rng, size);
+    let mut batch = Vec::new();
+    append_message(&mut batch, &encode_case(&case).bytes);
+    for _ in 0..plans {
+        let plan = wild_plan(rng, &case);
+        append_message(&mut batch, &encode_plan(&plan).bytes);
+    }
+    batch
+}
+
+/// Ends a batch with a framing refusal of one kind or another.
+pub fn spoil_framing(rng: &mut Rng, batch: &mut Vec<u8>) {
+    match rng.below(4) {
+        0 => batch.extend(vec![0; 1 + rng.below(2)]),
+        1 => append_length(batch, rng.pick(&[LONGEST_MESSAGE + 1, (1 << 24) - 1])),
+        2 => append_length(batch, rng.pick(&[1, 300, LONGEST_MESSAGE])),
+        _ => {
+            let length = batch.len();
+            batch.truncate(length - rng.below(length.min(20)));
+        }
+    }
+}

@@ -1,0 +1,188 @@
+//! Messages damaged in every way that numbers 1 to 6 name.
+
+use crate::bits::{overwrite, HIGHEST_POWER};
+use crate::case::{Case, Terms};
+use crate::encode::{Class, Encoded, Field};
+use crate::rng::Rng;
+
+/// Cuts a message so that it ends before or inside `field`, the fields before it being whole;
+/// none if no byte ends there.
+pub fn cut_at(rng: &mut Rng, message: &Encoded, field: &Field) -> Option<Vec<u8>> {
+    let lengths: Vec<usize> = (0..=message.bytes.len())
+        .filter(|length| (field.place..field.end()).contains(&(8 * length)))
+        .collect();
+    if lengths.is_empty() {
+        return None;
+    }
+    Some(message.bytes[..rng.pick(&lengths)].to_vec())
+}
+
+/// The values just outside a field's range, and the outermost ones that its bits can say.
+pub fn values_out_of_range(field: &Field) -> Vec<i128> {
+    let (least, greatest) = field.sayable();
+    let mut values = Vec::new();
+    if least < field.low {
+        values.extend([least, field.low - 1]);
+    }
+    if field.high < greatest {
+        values.extend([field.high + 1, greatest]);
+    }
+    values.dedup();
+    values
+}
+
+/// The message with `value` in `field`.
+pub fn with_value(message: &Encoded, field: &Field, value: i128) -> Vec<u8> {
+    let mut bytes = message.bytes.clone();
+    overwrite(&mut bytes, field.place, field.width, value);
+    bytes
+}
+
+/// Puts a field out of range; none if every value is in range.
+pub fn out_of_range(rng: &mut Rng, message: &Encoded, field: &Field) -> Option<Vec<u8>> {
+    let values = values_out_of_range(field);
+    if values.is_empty() {
+        return None;
+    }
+    Some(with_value(message, field, rng.pick(&values)))
+}
+
+/// Puts any field of a class out of range.
+pub fn any_out_of_range(rng: &mut Rng, message: &Encoded, class: Class) -> Option<Vec<u8>> {
+    let fields: Vec<&Field> = message
+        .fields
+        .iter()
+        .filter(|field| field.class == class && !values_out_of_range(field).is_empty())
+        .collect();
+    if fields.is_empty() {
+        return None;
+    }
+    let field = rng.pick(&fields);
+    out_of_range(rng, message, field)
+}
+
+/// Sets one or more fill bits; none if the last byte is full.
+pub fn with_fill_bit(rng: &mut Rng, message: &Encoded) -> Option<Vec<u8>> {
+    let fields_end = message.fields.last()?.end();
+    let fill = 8 * message.bytes.len() - fields_end;
+    if fill == 0 {
+        return None;
+    }
+    let mut bytes = message.bytes.clone();
+    let value = rng.from_to(1, (1 << fill) - 1);
+    overwrite(&mut bytes, fields_end, fill, value);
+    Some(bytes)
+}
+
+/// Appends one or more bytes, of zeros or not.
+pub fn with_surplus_bytes(rng: &mut Rng, bytes: &[u8]) -> Vec<u8> {
+    let mut longer = bytes.to_vec();
+    for _ in 0..1 + rng.below(3) {
+        longer.push(rng.pick(&[0, 0, 1, 255]));
+    }
+    longer
+}
+
+/// The kinds of contradiction that number 5 names.
+#[derive(Clone, Copy, PartialEq, Eq, Debug)]
+pub enum Contradiction {
+    PminAbovePmax,
+    StartWindowBackward,
+    StartWindowBeyondDay,
+    EnergyWindowBackward,
+    EnergyWindowBeyondDay,
+    ZoneBitAboveCount,
+}
+
+pub const CONTRADICTIONS: [Contradiction; 6] = [
+    Contradiction::PminAbovePmax,
+    Contradiction::StartWindowBackward,
+    Contradiction::StartWindowBeyondDay,
+    Contradiction::EnergyWindowBackward,
+    Contradiction::EnergyWindowBeyondDay,
+    Contradiction::ZoneBitAboveCount,
+];
+
+/// Makes a case contradict itself at a place drawn by chance; false if nothing there can.
+pub fn contradict(rng: &mut Rng, case: &mut Case, contradiction: Contradiction) -> bool {
+    let last_end: i128 = case.durations.iter().sum();
+    let after_day = rng.pick(&[last_end + 1, LATEST]);
+    let zones = case.zones.len();
+    let t = rng.below(case.intervals());
+    let j = rng.below(case.devices.len());
+    let device = &mut case.devices[j];
+    match contradiction {
+        Contradiction::PminAbovePmax => part_pmin_and_pmax(rng, &mut device.terms[t]),
+        Contradiction::StartWindowBackward => any_of(rng, &mut device.start_windows)
+            .map(|window| window.start = after(window.end))
+            .is_some(),
+        Contradiction::StartWindowBeyondDay => any_of(rng, &mut device.start_windows)
+            .map(|window| window.end = after_day)
+            .is_some(),
+        Contradiction::EnergyWindowBackward => any_of(rng, &mut device.energy_windows)
+            .map(|window| window.start = after(window.end))
+            .is_some(),
+        Contradiction::EnergyWindowBeyondDay => any_of(rng, &mut device.energy_windows)
+            .map(|window| window.end = after_day)
+            .is_some(),
+        Contradiction::ZoneBitAboveCount => any_of(rng, &mut device.zone_bits[zones..])
+            .map(|member| *member = true)
+            .is_some(),
+    }
+}
+
+/// The latest minute that a window can say.
+const LATEST: i128 = 65_535;
+
+fn after(minute: i128) -> i128 {
+    (minute + 1).min(LATEST)
+}
+
+fn any_of<'a, T>(rng: &mut Rng, items: &'a mut [T]) -> Option<&'a mut T> {
+    match items.len() {
+        0 => None,
+        count => Some(&mut items[rng.below(count)]),
+    }
+}
+
+/// Puts pmin above pmax; false where pmin is the least and pmax the greatest power.
+fn part_pmin_and_pmax(rng: &mut Rng, terms: &mut Terms) -> bool {
+    if terms.pmax < HIGHEST_POWER {
+        terms.pmin = rng.pick(&[terms.pmax + 1, HIGHEST_POWER]);
+    } else if terms.pmin > 0 {
+        terms.pmax = terms.pmin - 1;
+    }
+    terms.pmin > terms.pmax
+}
+
+/// Damages a message in one of the ways of numbers 1, 2, 3, 4 and 6, or several at once, or by
+/// bits turned at random.
+pub fn damaged(rng: &mut Rng, message: &Encoded) -> Vec<u8> {
+    let field = message.fields[rng.below(message.fields.len())];
+    let damaged = match rng.below(12) {
+        0 | 1 => cut_at(rng, message, &field),
+        2 => any_out_of_range(rng, message, Class::Kind),
+        3 | 4 => any_out_of_range(rng, message, Class::Count),
+        5 | 6 => any_out_of_range(rng, message, Class::Figure),
+        7 => with_fill_bit(rng, message),
+        8 => Some(with_surplus_bytes(rng, &message.bytes)),
+        9 => with_fill_bit(rng, message).map(|bytes| with_surplus_bytes(rng, &bytes)),
+        10 => any_out_of_range(rng, message, Class::Figure)
+            .map(|bytes| with_surplus_bytes(rng, &bytes)),
+        _ => Some(with_turned_bits(rng, &message.bytes)),
+    };
+    damaged.unwrap_or_else(|| cut_anywhere(rng, &message.bytes))
+}
+
+fn with_turned_bits(rng: &mut Rng, bytes: &[u8]) -> Vec<u8> {
+    let mut turned = bytes.to_vec();
+    for _ in 0..1 + rng.below(3) {
+        let bit = rng.below(8 * turned.len());
+        turned[bit / 8] ^= 1 << (bit % 8);
+    }
+    turned
+}
+
+fn cut_anywhere(rng: &mut Rng, bytes: &[u8]) -> Vec<u8> {
+    bytes[..rng.below(bytes.len())].to_vec()
+}

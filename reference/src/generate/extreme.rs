@@ -1,0 +1,123 @@
+//! Days with the greatest figures that messages can say: a very low and a very high surplus.
+
+use crate::case::{
+    Block, Case, Device, EnergyKind, EnergyWindow, Ramps, Reserves, Side, StartWindow,
+    StartupState, Status, Terms, Zone, MOST_DEVICES, MOST_INTERVALS, MOST_ITEMS, MOST_ZONES,
+};
+use crate::plan::{Plan, Setting};
+use crate::worked_day::Day;
+
+const HIGHEST_COST: i128 = 1_000_000_000;
+const HIGHEST_PRICE: i128 = 10_000;
+const HIGHEST_POWER: i128 = 100_000;
+
+/// Every price and every need as great as it can be, no reserve anywhere: 16 consuming devices that
+/// pay for their power, in all four zones, each with four energy minima over nothing.
+pub fn very_low_surplus_day() -> Day {
+    let unmet = EnergyWindow {
+        kind: EnergyKind::Minimum,
+        start: 0,
+        end: 0,
+        energy: 4_000_000_000,
+    };
+    let device = Device {
+        zone_bits: [true; MOST_ZONES],
+        on_cost: 100_000,
+        start_cost: HIGHEST_COST,
+        stop_cost: HIGHEST_COST,
+        energy_windows: vec![unmet; MOST_ITEMS],
+        ..device(Side::Consuming, -HIGHEST_PRICE, HIGHEST_COST)
+    };
+    let zone = Zone {
+        shares: [1_000; 4],
+        shortfall_prices: [100; 6],
+        ramping_minima: vec![[6_400_000; 2]; MOST_INTERVALS],
+    };
+    full_day(Case {
+        mismatch_price: HIGHEST_PRICE,
+        overrun_price: HIGHEST_PRICE,
+        durations: vec![360; MOST_INTERVALS],
+        zones: vec![zone; MOST_ZONES],
+        devices: vec![device; MOST_DEVICES],
+    })
+}
+
+/// As many producing devices, paid for their power, as consuming ones at the highest price; no
+/// zones; each start in a state of the lowest cost.
+pub fn very_high_surplus_day() -> Day {
+    let producing = device(Side::Producing, -HIGHEST_PRICE, -HIGHEST_COST);
+    let consuming = device(Side::Consuming, HIGHEST_PRICE, -HIGHEST_COST);
+    full_day(Case {
+        mismatch_price: 1,
+        overrun_price: 1,
+        durations: vec![360; MOST_INTERVALS],
+        zones: Vec::new(),
+        devices: [
+            vec![producing; MOST_DEVICES / 2],
+            vec![consuming; MOST_DEVICES / 2],
+        ]
+        .concat(),
+    })
+}
+
+/// Initially off, without costs; every block at one price, every state at one cost.
+fn device(side: Side, price: i128, state_cost: i128) -> Device {
+    let block = Block {
+        cap: HIGHEST_POWER,
+        price,
+    };
+    let terms = Terms {
+        status: Status::On,
+        pmin: HIGHEST_POWER,
+        pmax: HIGHEST_POWER,
+        blocks: vec![block; MOST_ITEMS],
+        reserve_prices: Reserves::from_order([HIGHEST_PRICE; 8]),
+    };
+    let state = StartupState {
+        longest_downtime: 60_000,
+        cost: state_cost,
+    };
+    let window = StartWindow {
+        start: 0,
+        end: 17_280,
+        most_starts: 1,
+    };
+    Device {
+        side,
+        zone_bits: [false; MOST_ZONES],
+        initially_on: false,
+        initial_power: HIGHEST_POWER,
+        minutes_already_so: 60_000,
+        minimum_up: 60_000,
+        minimum_down: 60_000,
+        ramps: Ramps {
+            up: 100_000,
+            down: 100_000,
+            starting: 100_000,
+            stopping: 100_000,
+        },
+        on_cost: 0,
+        start_cost: 0,
+        stop_cost: 0,
+        reserve_limits: Reserves::from_order([HIGHEST_POWER; 8]),
+        startup_states: vec![state; MOST_ITEMS],
+        start_windows: vec![window; MOST_ITEMS],
+        energy_windows: Vec::new(),
+        terms: vec![terms; MOST_INTERVALS],
+    }
+}
+
+/// Every device on at the highest power all day, without reserves.
+fn full_day(case: Case) -> Day {
+    let setting = Setting {
+        on: true,
+        online_power: HIGHEST_POWER,
+        reserves: Reserves::default(),
+    };
+    Day {
+        case,
+        plan: Plan {
+            intervals: vec![vec![setting; MOST_DEVICES]; MOST_INTERVALS],
+        },
+    }
+}

@@ -1,0 +1,21 @@
+//! Random cases and plans, broken plans, damaged messages and batches, all from a seed.
+//!
+//! - [`shape`]: how large a case is.
+//! - [`device`]: a device built around a commitment that it can follow.
+//! - [`sample`]: a case with the schedules that its devices can and cannot follow.
+//! - [`schedule`]: the dispatch that a commitment leaves open.
+//! - [`plans`]: plans that keep every rule, and wild ones.
+//! - [`breaks`]: plans broken at a chosen rule.
+//! - [`damage`]: messages damaged in every way that numbers 1 to 6 name.
+//! - [`extreme`]: days with the greatest figures that messages can say.
+//! - [`batches`]: batches of all of these.
+
+pub mod batches;
+pub mod breaks;
+pub mod damage;
+pub mod device;
+pub mod extreme;
+pub mod plans;
+pub mod sample;
+pub mod schedule;
+pub mod shape;

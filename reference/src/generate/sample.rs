@@ -1,0 +1,283 @@
+//! A generated case with, per device, schedules that keep the rules and schedules that break
+//! exactly one of rules 1 to 4 and 18 to 20.
+
+use crate::case::{Block, Case, Device, Reserves, Side, Status, Zone, MOST_ITEMS};
+use crate::clock::{spans, Span};
+use crate::forced::{commit, Commitment};
+use crate::generate::device::{random_commitment, random_device, Scale};
+use crate::generate::schedule::{schedule, Schedule, Waived};
+use crate::generate::shape::{Shape, Size};
+use crate::rng::Rng;
+use crate::rules::{
+    holds_initial_state, keeps_start_window, keeps_status, starts_late_enough, stops_late_enough,
+};
+
+/// A case to plan for.
+pub struct Sample {
+    pub case: Case,
+    pub spans: Vec<Span>,
+    /// Per device.
+    pub pools: Vec<Pool>,
+}
+
+/// Schedules of one device.
+pub struct Pool {
+    /// Never empty.
+    pub good: Vec<Schedule>,
+    pub spoilt: Vec<Spoilt>,
+}
+
+/// A schedule that can be dispatched so that `rule` alone is broken.
+pub struct Spoilt {
+    pub rule: u8,
+    pub schedule: Schedule,
+}
+
+/// A case whose devices can each follow some schedule.
+pub fn random_sample(rng: &mut Rng, size: Size) -> Sample {
+    let shape = Shape::random(rng, size);
+    let scale = match rng.below(20) {
+        0 => Scale::Extreme,
+        1..=5 => Scale::Wide,
+        6..=11 => Scale::Calm,
+        _ => Scale::Low,
+    };
+    sample_of(rng, &shape, scale)
+}
+
+/// A case of a given shape and scale.
+pub fn sample_of(rng: &mut Rng, shape: &Shape, scale: Scale) -> Sample {
+    let durations = random_durations(rng, shape.intervals);
+    let spans = spans(&durations);
+    let mut devices = Vec::new();
+    let mut pools = Vec::new();
+    for _ in 0..shape.devices {
+        let built = random_device(rng, shape, &spans, scale);
+        pools.push(find_schedules(rng, &built.device, &spans, &built.on));
+        devices.push(built.device);
+    }
+    set_zone_bits(rng, shape.zones, &mut devices);
+    let zones = (0..shape.zones)
+        .map(|_| random_zone(rng, shape.intervals, scale))
+        .collect();
+    let price = |rng: &mut Rng| match scale {
+        Scale::Calm => 1,
+        Scale::Low => rng.pick(&[1, 2, 7, 1_000]),
+        Scale::Wide => rng.from_to(1, 10_000),
+        Scale::Extreme => 10_000,
+    };
+    Sample {
+        case: Case {
+            mismatch_price: price(rng),
+            overrun_price: price(rng),
+            durations,
+            zones,
+            devices,
+        },
+        spans,
+        pools,
+    }
+}
+
+fn random_durations(rng: &mut Rng, intervals: usize) -> Vec<i128> {
+    let common = rng.pick(&[2, 14, 30, 60, 60, 120, 360]);
+    let mixed = rng.below(3);
+    (0..intervals)
+        .map(|_| match mixed {
+            0 => 2 * rng.from_to(1, 180),
+            1 => rng.pick(&[10, 30, 60]),
+            _ => common,
+        })
+        .collect()
+}
+
+fn random_zone(rng: &mut Rng, intervals: usize, scale: Scale) -> Zone {
+    let (share_scale, minimum_scale) = match scale {
+        Scale::Calm => (rng.pick(&[0, 1]), 0),
+        _ => (
+            rng.pick(&[0, 30, 150, 1_000]),
+            rng.pick(&[0, 20, 400, 60_000]),
+        ),
+    };
+    Zone {
+        shares: [(); 4].map(|_| match scale {
+            Scale::Extreme => 1_000,
+            _ => rng.from_to(0, share_scale),
+        }),
+        shortfall_prices: [(); 6].map(|_| match scale {
+            Scale::Calm => 1,
+            Scale::Low => rng.from_to(1, 4),
+            Scale::Wide => rng.from_to(1, 100),
+            Scale::Extreme => 100,
+        }),
+        ramping_minima: (0..intervals)
+            .map(|_| {
+                [(); 2].map(|_| match scale {
+                    Scale::Extreme => 6_400_000,
+                    Scale::Wide if rng.chance(10) => rng.from_to(0, 6_400_000),
+                    _ => rng.from_to(0, minimum_scale),
+                })
+            })
+            .collect(),
+    }
+}
+
+/// Zones of both sides, of one side alone, and empty ones.
+fn set_zone_bits(rng: &mut Rng, zones: usize, devices: &mut [Device]) {
+    for z in 0..zones {
+        let sides: &[Side] = match rng.below(8) {
+            0 => &[],
+            1 => &[Side::Producing],
+            2 => &[Side::Consuming],
+            _ => &[Side::Producing, Side::Consuming],
+        };
+        for device in devices.iter_mut() {
+            device.zone_bits[z] = sides.contains(&device.side) && rng.chance(70);
+        }
+    }
+}
+
+const PROPOSALS: usize = 30;
+const MOST_GOOD: usize = 5;
+const MOST_SPOILT_PER_RULE: usize = 2;
+
+/// Sorts proposed commitments into good and spoilt ones; `base` is known to be good.
+fn find_schedules(rng: &mut Rng, device: &Device, spans: &[Span], base: &[bool]) -> Pool {
+    let base_schedule = schedule(device, spans, base.to_vec(), Waived::None);
+    let mut pool = Pool {
+        good: base_schedule.into_iter().collect(),
+        spoilt: Vec::new(),
+    };
+    assert!(
+        !pool.good.is_empty(),
+        "a device can follow its own commitment"
+    );
+    for _ in 0..PROPOSALS {
+        let on = propose(rng, base);
+        pool.sort_in(device, spans, on);
+    }
+    pool
+}
+
+impl Pool {
+    fn sort_in(&mut self, device: &Device, spans: &[Span], on: Vec<bool>) {
+        let commitment = commit(device, spans, on.clone());
+        let broken = broken_commitment_rules(device, spans, &commitment);
+        let rule = match broken[..] {
+            [] => None,
+            [rule] => Some(rule),
+            _ => return,
+        };
+        let kept = schedule(device, spans, on.clone(), Waived::None);
+        match (rule, kept) {
+            (None, Some(schedule)) if self.good.len() < MOST_GOOD => self.good.push(schedule),
+            (None, None) => {
+                for (rule, waived) in [(18, Waived::Rule18), (19, Waived::Rule19)] {
+                    if let Some(schedule) = schedule(device, spans, on.clone(), waived) {
+                        self.add_spoilt(rule, schedule);
+                    }
+                }
+            }
+            (Some(rule), Some(schedule)) => self.add_spoilt(rule, schedule),
+            _ => {}
+        }
+    }
+
+    fn add_spoilt(&mut self, rule: u8, schedule: Schedule) {
+        let already = self
+            .spoilt
+            .iter()
+            .filter(|spoilt| spoilt.rule == rule)
+            .count();
+        if already < MOST_SPOILT_PER_RULE {
+            self.spoilt.push(Spoilt { rule, schedule });
+        }
+    }
+}
+
+/// Which of rules 1 to 4 and 20 a commitment breaks.
+fn broken_commitment_rules(device: &Device, spans: &[Span], commitment: &Commitment) -> Vec<u8> {
+    let everywhere = |holds: &dyn Fn(usize) -> bool| (0..spans.len()).all(holds);
+    let kept = [
+        (1, everywhere(&|t| keeps_status(device, commitment, t))),
+        (
+            2,
+            everywhere(&|t| holds_initial_state(device, spans, commitment, t)),
+        ),
+        (
+            3,
+            everywhere(&|t| starts_late_enough(device, spans, commitment, t)),
+        ),
+        (
+            4,
+            everywhere(&|t| stops_late_enough(device, spans, commitment, t)),
+        ),
+        (
+            20,
+            device
+                .start_windows
+                .iter()
+                .all(|window| keeps_start_window(window, spans, commitment)),
+        ),
+    ];
+    kept.into_iter()
+        .filter(|(_, kept)| !kept)
+        .map(|(rule, _)| rule)
+        .collect()
+}
+
+/// Another commitment: the base with a stretch switched, or any.
+fn propose(rng: &mut Rng, base: &[bool]) -> Vec<bool> {
+    if rng.chance(15) {
+        return random_commitment(rng, base.len()).1;
+    }
+    let mut on = base.to_vec();
+    let first = rng.below(on.len());
+    let length = match rng.below(3) {
+        0 => 1,
+        _ => 1 + rng.below(on.len() - first),
+    };
+    let flips = rng.chance(50);
+    let value = rng.chance(50);
+    for state in &mut on[first..first + length] {
+        *state = if flips { !*state } else { value };
+    }
+    on
+}
+
+/// A case of figures drawn without regard to one another; few plans of it keep the rules.
+pub fn wild_case(rng: &mut Rng, size: Size) -> Case {
+    let shape = Shape::random(rng, size);
+    let mut case = sample_of(rng, &shape, Scale::Wide).case;
+    for device in &mut case.devices {
+        scramble(rng, device, shape.zones);
+    }
+    case
+}
+
+fn scramble(rng: &mut Rng, device: &mut Device, zones: usize) {
+    for member in &mut device.zone_bits[..zones] {
+        *member = rng.chance(50);
+    }
+    device.initially_on = rng.chance(50);
+    device.initial_power = rng.from_to(0, 100_000);
+    device.minutes_already_so = rng.from_to(0, 60_000);
+    device.minimum_up = rng.from_to(0, 60_000);
+    device.minimum_down = rng.from_to(0, 60_000);
+    device.ramps.up = rng.from_to(1, 100_000);
+    device.ramps.down = rng.from_to(1, 100_000);
+    device.ramps.starting = rng.from_to(1, 100_000);
+    device.ramps.stopping = rng.from_to(1, 100_000);
+    device.reserve_limits = Reserves::from_order([(); 8].map(|_| rng.from_to(0, 100_000)));
+    for terms in &mut device.terms {
+        terms.status = rng.pick(&[Status::Free, Status::On, Status::Off]);
+        terms.pmax = rng.from_to(0, 100_000);
+        terms.pmin = rng.from_to(0, terms.pmax);
+        terms.blocks = (0..rng.below(MOST_ITEMS + 1))
+            .map(|_| Block {
+                cap: rng.from_to(0, 100_000),
+                price: rng.from_to(-10_000, 10_000),
+            })
+            .collect();
+    }
+}

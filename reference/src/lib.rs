@@ -1,0 +1,51 @@
+//! An independent reading of paper 01, "Plan unit: judging a day's commitment".
+//!
+//! Written from the paper alone, it shares no code and no tables with the product that it is held
+//! against. Every figure is an `i128` and arithmetic is checked in every profile, so that nothing
+//! can wrap unseen. Quotations in comments are the paper's.
+//!
+//! The reading itself:
+//!
+//! - [`fault`], [`bits`], [`case`], [`plan`]: messages and every refusal of them.
+//! - [`clock`], [`forced`], [`rules`]: times, forced figures, the first broken rule.
+//! - [`completion`], [`ours`]: the completion message, our completion and its surplus.
+//! - [`judge`], [`batch`]: the judgement, the splitter, the batch program's lines.
+//! - [`meets`]: what it is for any completion to meet every rule, and its surplus, stated again
+//!   without any of the modules above but the case, the plan and the completion as data.
+//!
+//! What tries it, and the product:
+//!
+//! - [`encode`]: writing of messages, with a record of their fields.
+//! - [`worked_day`]: the paper's worked day and example batch.
+//! - [`rng`], [`generate`]: random cases, plans and batches from a seed.
+//! - [`rivals`]: other completions of a plan.
+//! - [`crc`], [`packed`], [`census`], [`edges`], [`corpus`]: the corpus and what it reaches.
+//! - [`compare`]: the long run against another program.
+//! - [`tables`]: tiny days with their verdicts.
+//! - [`arguments`]: command lines of the programs.
+
+pub mod arguments;
+pub mod batch;
+pub mod bits;
+pub mod case;
+pub mod census;
+pub mod clock;
+pub mod compare;
+pub mod completion;
+pub mod corpus;
+pub mod crc;
+pub mod edges;
+pub mod encode;
+pub mod fault;
+pub mod forced;
+pub mod generate;
+pub mod judge;
+pub mod meets;
+pub mod ours;
+pub mod packed;
+pub mod plan;
+pub mod rivals;
+pub mod rng;
+pub mod rules;
+pub mod tables;
+pub mod worked_day;

@@ -1,0 +1,450 @@
+//! "Completion and surplus", stated once more for any completion whatever.
+//!
+//! Nothing here is shared with the path that judges a plan and builds our completion: the times,
+//! the forced figures, the rules, the needs and the surplus are written again from the paper, as
+//! plain statements, with intervals, devices and zones counted from 1 as the paper counts them and
+//! u as a number. What is read from the case and the plan is all the two have in common.
+
+use crate::case::{Case, Device, EnergyKind, Reserves, Side, Status, Terms};
+use crate::completion::{Completion, DeviceChoices};
+use crate::plan::{Plan, Setting};
+
+/// Whether a completion of a plan for a case "meets every rule".
+pub fn meets(case: &Case, plan: &Plan, completion: &Completion) -> bool {
+    let day = Day { case, plan };
+    day.keeps_every_rule() && day.choices_are_these(completion)
+}
+
+/// Whether "every numbered rule holds of the plan".
+pub fn keeps_every_rule(case: &Case, plan: &Plan) -> bool {
+    Day { case, plan }.keeps_every_rule()
+}
+
+/// The "surplus of a completion, by its own choices".
+///
+/// A choice that names no block or no state of the case has no price, and adds nothing. Choices so
+/// large that a product leaves `i128` end the program; they do not wrap.
+pub fn surplus_of(case: &Case, plan: &Plan, completion: &Completion) -> i128 {
+    Day { case, plan }.surplus_of(completion)
+}
+
+struct Day<'a> {
+    case: &'a Case,
+    plan: &'a Plan,
+}
+
+/// Times, and what case and plan say at a place counted from 1.
+impl<'a> Day<'a> {
+    fn intervals(&self) -> impl Iterator<Item = usize> {
+        1..=self.case.durations.len()
+    }
+
+    fn devices(&self) -> impl Iterator<Item = usize> {
+        1..=self.case.devices.len()
+    }
+
+    fn zones(&self) -> impl Iterator<Item = usize> {
+        1..=self.case.zones.len()
+    }
+
+    fn d(&self, t: usize) -> i128 {
+        self.case.durations[t - 1]
+    }
+
+    fn e(&self, t: usize) -> i128 {
+        self.case.durations[..t].iter().sum()
+    }
+
+    fn s(&self, t: usize) -> i128 {
+        self.e(t) - self.d(t)
+    }
+
+    /// Twice the midpoint.
+    fn m2(&self, t: usize) -> i128 {
+        self.s(t) + self.e(t)
+    }
+
+    fn device(&self, j: usize) -> &'a Device {
+        &self.case.devices[j - 1]
+    }
+
+    fn terms(&self, j: usize, t: usize) -> &'a Terms {
+        &self.device(j).terms[t - 1]
+    }
+
+    fn setting(&self, j: usize, t: usize) -> &'a Setting {
+        &self.plan.intervals[t - 1][j - 1]
+    }
+
+    fn reserves(&self, j: usize, t: usize) -> &'a Reserves {
+        &self.setting(j, t).reserves
+    }
+
+    fn produces(&self, j: usize) -> bool {
+        self.device(j).side == Side::Producing
+    }
+
+    fn consumes(&self, j: usize) -> bool {
+        self.device(j).side == Side::Consuming
+    }
+}
+
+/// "Forced figures".
+impl Day<'_> {
+    /// "u = on (1/0); before interval 1 the initial state stands."
+    fn u(&self, j: usize, t: usize) -> i128 {
+        if t == 0 {
+            i128::from(self.device(j).initially_on)
+        } else {
+            i128::from(self.setting(j, t).on)
+        }
+    }
+
+    fn su(&self, j: usize, t: usize) -> i128 {
+        (self.u(j, t) - self.u(j, t - 1)).max(0)
+    }
+
+    fn sd(&self, j: usize, t: usize) -> i128 {
+        (self.u(j, t - 1) - self.u(j, t)).max(0)
+    }
+
+    fn psu(&self, j: usize, t: usize) -> i128 {
+        let starting = self.device(j).ramps.starting;
+        let mut psu = 0;
+        for later in t + 1..=self.case.durations.len() {
+            let power = self.terms(j, later).pmin - starting * (self.e(later) - self.e(t));
+            psu += self.su(j, later) * power.max(0);
+        }
+        psu
+    }
+
+    fn psd(&self, j: usize, t: usize) -> i128 {
+        let device = self.device(j);
+        let mut psd = 0;
+        for stop in 1..=t {
+            let from = match stop {
+                1 => device.initial_power,
+                _ => self.terms(j, stop - 1).pmin,
+            };
+            let power = from - device.ramps.stopping * (self.e(t) - self.s(stop));
+            psd += self.sd(j, stop) * power.max(0);
+        }
+        psd
+    }
+
+    /// p, and in interval 0 the initial power.
+    fn p(&self, j: usize, t: usize) -> i128 {
+        if t == 0 {
+            self.device(j).initial_power
+        } else {
+            self.setting(j, t).online_power + self.psu(j, t) + self.psd(j, t)
+        }
+    }
+}
+
+/// "Rules, by number", each for all places at once.
+impl Day<'_> {
+    fn keeps_every_rule(&self) -> bool {
+        self.devices().all(|j| {
+            self.intervals().all(|t| {
+                self.commitment_rules_hold(j, t)
+                    && self.ramping_rules_hold(j, t)
+                    && self.reserve_rules_hold(j, t)
+                    && self.power_rules_hold(j, t)
+            }) && self.rule_20_holds(j)
+        })
+    }
+
+    /// Rules 1 to 4.
+    fn commitment_rules_hold(&self, j: usize, t: usize) -> bool {
+        let device = self.device(j);
+        let u = self.u(j, t);
+        let rule_1 = match self.terms(j, t).status {
+            Status::Free => true,
+            Status::On => u == 1,
+            Status::Off => u == 0,
+        };
+        let its_minimum = match self.u(j, 0) {
+            1 => device.minimum_up,
+            _ => device.minimum_down,
+        };
+        let rule_2 = self.s(t) + device.minutes_already_so >= its_minimum || u == self.u(j, 0);
+        let rule_3 = (1..t).all(|before| {
+            self.su(j, t) * self.sd(j, before) == 0
+                || self.s(t) - self.s(before) >= device.minimum_down
+        });
+        let rule_4 = (1..t).all(|before| {
+            self.sd(j, t) * self.su(j, before) == 0
+                || self.s(t) - self.s(before) >= device.minimum_up
+        });
+        rule_1 && rule_2 && rule_3 && rule_4
+    }
+
+    /// Rules 5 and 6.
+    fn ramping_rules_hold(&self, j: usize, t: usize) -> bool {
+        let ramps = &self.device(j).ramps;
+        let (u, su, d) = (self.u(j, t), self.su(j, t), self.d(t));
+        let rise = self.p(j, t) - self.p(j, t - 1);
+        rise <= d * (ramps.up * (u - su) + ramps.starting * (su + 1 - u))
+            && -rise <= d * (ramps.down * u + ramps.stopping * (1 - u))
+    }
+
+    /// Rules 7 to 15.
+    fn reserve_rules_hold(&self, j: usize, t: usize) -> bool {
+        let limit = &self.device(j).reserve_limits;
+        let r = self.reserves(j, t);
+        let u = self.u(j, t);
+        r.rgu <= limit.rgu * u
+            && r.rgd <= limit.rgd * u
+            && r.rgu + r.scr <= limit.scr * u
+            && r.rgu + r.scr + r.rru_on <= limit.rru_on * u
+            && r.rgd + r.rrd_on <= limit.rrd_on * u
+            && r.nsc <= limit.nsc * (1 - u)
+            && r.nsc + r.rru_off <= limit.rru_off * (1 - u)
+            && r.rrd_off <= limit.rrd_off * (1 - u)
+            && (self.consumes(j) || r.rrd_off == 0)
+            && (self.produces(j) || r.nsc == 0)
+            && (self.produces(j) || r.rru_off == 0)
+    }
+
+    /// Rules 16 to 19.
+    fn power_rules_hold(&self, j: usize, t: usize) -> bool {
+        let terms = self.terms(j, t);
+        let r = self.reserves(j, t);
+        let u = self.u(j, t);
+        let online = self.setting(j, t).online_power;
+        let off_power = self.psu(j, t) + self.psd(j, t);
+        let rules_16_17_18 = if self.produces(j) {
+            online + r.rgu + r.scr + r.rru_on <= terms.pmax * u
+                && online - r.rgd - r.rrd_on >= terms.pmin * u
+                && off_power + r.nsc + r.rru_off <= terms.pmax * (1 - u)
+        } else {
+            online + r.rgd + r.rrd_on <= terms.pmax * u
+                && online - r.rgu - r.scr - r.rru_on >= terms.pmin * u
+                && off_power + r.rrd_off <= terms.pmax * (1 - u)
+        };
+        let rule_19 = self.p(j, t) <= terms.blocks.iter().map(|block| block.cap).sum();
+        rules_16_17_18 && rule_19
+    }
+
+    fn rule_20_holds(&self, j: usize) -> bool {
+        self.device(j).start_windows.iter().all(|window| {
+            let starts: i128 = self
+                .intervals()
+                .filter(|&t| window.start <= self.s(t) && self.s(t) < window.end)
+                .map(|t| self.su(j, t))
+                .sum();
+            starts <= window.most_starts
+        })
+    }
+}
+
+/// "[...] and its choices are these".
+impl Day<'_> {
+    fn choices_are_these(&self, completion: &Completion) -> bool {
+        self.has_one_choice_per_field(completion)
+            && self.intervals().all(|t| {
+                let choices = &completion.intervals[t - 1];
+                self.devices()
+                    .all(|j| self.device_choices_are_these(j, t, &choices.devices[j - 1]))
+                    && self
+                        .zones()
+                        .all(|z| self.shortfalls_suffice(z, t, &choices.shortfalls[z - 1]))
+                    && self.mismatch_suffices(t, choices.mismatch)
+            })
+            && self
+                .devices()
+                .all(|j| self.overruns_suffice(j, &completion.overruns[j - 1]))
+    }
+
+    /// "one for each field of the completion message".
+    fn has_one_choice_per_field(&self, completion: &Completion) -> bool {
+        completion.intervals.len() == self.case.durations.len()
+            && completion.intervals.iter().all(|choices| {
+                choices.devices.len() == self.case.devices.len()
+                    && choices.shortfalls.len() == self.case.zones.len()
+            })
+            && completion.overruns.len() == self.case.devices.len()
+            && self
+                .devices()
+                .all(|j| completion.overruns[j - 1].len() == self.device(j).energy_windows.len())
+    }
+
+    /// "su and sd as above; block powers, each from 0 to its cap, whose sum is the device's p
+    /// (absent blocks 0); at a start, no state or one of the device's states whose longest
+    /// downtime ≥ downtime (elsewhere none)".
+    fn device_choices_are_these(&self, j: usize, t: usize, choices: &DeviceChoices) -> bool {
+        let blocks = &self.terms(j, t).blocks;
+        let cap = |m: usize| blocks.get(m).map_or(0, |block| block.cap);
+        choices.started == self.su(j, t)
+            && choices.stopped == self.sd(j, t)
+            && (0..4).all(|m| 0 <= choices.blocks[m] && choices.blocks[m] <= cap(m))
+            && choices.blocks.iter().sum::<i128>() == self.p(j, t)
+            && self.state_is_allowed(j, t, choices.startup_state)
+    }
+
+    fn state_is_allowed(&self, j: usize, t: usize, state: i128) -> bool {
+        let fits = self
+            .device(j)
+            .startup_states
+            .iter()
+            .zip(1..)
+            .any(|(candidate, number)| {
+                number == state && candidate.longest_downtime >= self.downtime(j, t)
+            });
+        state == 0 || (self.su(j, t) == 1 && fits)
+    }
+
+    /// "Downtime runs from the end of the last on interval; if none, S, plus minutes already so
+    /// when initially off."
+    fn downtime(&self, j: usize, t: usize) -> i128 {
+        let ends_of_on_intervals = (1..t)
+            .filter(|&before| self.u(j, before) == 1)
+            .map(|before| self.e(before));
+        match ends_of_on_intervals.max() {
+            Some(end) => self.s(t) - end,
+            None => self.s(t) + (1 - self.u(j, 0)) * self.device(j).minutes_already_so,
+        }
+    }
+
+    fn shortfalls_suffice(&self, z: usize, t: usize, shortfalls: &[i128; 6]) -> bool {
+        let needs = self.zone_needs(z, t);
+        (0..6).all(|k| shortfalls[k] >= 0 && shortfalls[k] >= needs[k])
+    }
+
+    /// "Zone needs in W, over member devices", in the order of the shortfall prices.
+    fn zone_needs(&self, z: usize, t: usize) -> [i128; 6] {
+        let zone = &self.case.zones[z - 1];
+        let members: Vec<usize> = self
+            .devices()
+            .filter(|&j| self.device(j).zone_bits[z - 1])
+            .collect();
+        let mut consuming_sum = 0;
+        let mut largest_producing = 0;
+        for &j in &members {
+            if self.consumes(j) {
+                consuming_sum += self.p(j, t);
+            } else {
+                largest_producing = largest_producing.max(self.p(j, t));
+            }
+        }
+        let sum = |amount: fn(&Reserves) -> i128| -> i128 {
+            members.iter().map(|&j| amount(self.reserves(j, t))).sum()
+        };
+        let rgu_required = zone.shares[0] * consuming_sum;
+        let rgd_required = zone.shares[1] * consuming_sum;
+        let scr_required = zone.shares[2] * largest_producing;
+        let nsc_required = zone.shares[3] * largest_producing;
+        let [rru_minimum, rrd_minimum] = zone.ramping_minima[t - 1];
+        [
+            rgu_required - 1000 * sum(|r| r.rgu),
+            rgd_required - 1000 * sum(|r| r.rgd),
+            rgu_required + scr_required - 1000 * sum(|r| r.rgu + r.scr),
+            rgu_required + scr_required + nsc_required - 1000 * sum(|r| r.rgu + r.scr + r.nsc),
+            1000 * (rru_minimum - sum(|r| r.rru_on + r.rru_off)),
+            1000 * (rrd_minimum - sum(|r| r.rrd_on + r.rrd_off)),
+        ]
+    }
+
+    fn mismatch_suffices(&self, t: usize, mismatch: i128) -> bool {
+        let sum_of = |side: Side| -> i128 {
+            self.devices()
+                .filter(|&j| self.device(j).side == side)
+                .map(|j| self.p(j, t))
+                .sum()
+        };
+        let difference = sum_of(Side::Consuming) - sum_of(Side::Producing);
+        mismatch >= difference && mismatch >= -difference
+    }
+
+    fn overruns_suffice(&self, j: usize, overruns: &[i128]) -> bool {
+        let windows = &self.device(j).energy_windows;
+        windows.iter().zip(overruns).all(|(window, &overrun)| {
+            let energy: i128 = self
+                .intervals()
+                .filter(|&t| 2 * window.start < self.m2(t) && self.m2(t) <= 2 * window.end)
+                .map(|t| self.d(t) * self.p(j, t))
+                .sum();
+            overrun >= 0
+                && match window.kind {
+                    EnergyKind::Maximum => energy <= window.energy + overrun,
+                    EnergyKind::Minimum => energy >= window.energy - overrun,
+                }
+        })
+    }
+}
+
+/// "Surplus of a completion, by its own choices and with each term summed over the day".
+impl Day<'_> {
+    fn surplus_of(&self, completion: &Completion) -> i128 {
+        let mut consuming_blocks = 0;
+        let mut producing_blocks = 0;
+        let mut on_costs = 0;
+        let mut switching_costs = 0;
+        let mut reserve_costs = 0;
+        let mut shortfall_and_mismatch = 0;
+        for t in self.intervals() {
+            let d = self.d(t);
+            let choices = &completion.intervals[t - 1];
+            for j in self.devices() {
+                let device = self.device(j);
+                let chosen = &choices.devices[j - 1];
+                let blocks = d * self.block_money(j, t, chosen);
+                if self.consumes(j) {
+                    consuming_blocks += blocks;
+                } else {
+                    producing_blocks += blocks;
+                }
+                on_costs += d * device.on_cost * self.u(j, t);
+                switching_costs += device.start_cost * chosen.started
+                    + device.stop_cost * chosen.stopped
+                    + self.state_cost(j, chosen.startup_state);
+                reserve_costs += d * self.reserve_money(j, t);
+            }
+            for z in self.zones() {
+                for k in 0..6 {
+                    shortfall_and_mismatch += d
+                        * self.case.zones[z - 1].shortfall_prices[k]
+                        * choices.shortfalls[z - 1][k];
+                }
+            }
+            shortfall_and_mismatch += d * self.case.mismatch_price * choices.mismatch;
+        }
+        let overrun: i128 = completion.overruns.iter().flatten().sum();
+        consuming_blocks
+            - producing_blocks
+            - on_costs
+            - switching_costs
+            - reserve_costs
+            - shortfall_and_mismatch
+            - self.case.overrun_price * overrun
+    }
+
+    fn block_money(&self, j: usize, t: usize, chosen: &DeviceChoices) -> i128 {
+        let blocks = &self.terms(j, t).blocks;
+        (0..blocks.len())
+            .map(|m| blocks[m].price * chosen.blocks[m])
+            .sum()
+    }
+
+    fn reserve_money(&self, j: usize, t: usize) -> i128 {
+        let price = &self.terms(j, t).reserve_prices;
+        let r = self.reserves(j, t);
+        price.rgu * r.rgu
+            + price.rgd * r.rgd
+            + price.scr * r.scr
+            + price.nsc * r.nsc
+            + price.rru_on * r.rru_on
+            + price.rru_off * r.rru_off
+            + price.rrd_on * r.rrd_on
+            + price.rrd_off * r.rrd_off
+    }
+
+    fn state_cost(&self, j: usize, state: i128) -> i128 {
+        let states = &self.device(j).startup_states;
+        (1..)
+            .zip(states)
+            .find(|(number, _)| *number == state)
+            .map_or(0, |(_, found)| found.cost)
+    }
+}

@@ -1,0 +1,71 @@
+//! Many batches in one stream, and the output that both sides are held to.
+//!
+//! A packed stream holds each batch behind a 32-bit byte length, most significant byte first. The
+//! output is, for batch K from 0, a line `batch K`, then the batch program's lines; directly after
+//! each accepted plan comes `completion BYTES CRC`, the length and the CRC-32 of its completion
+//! message.
+
+use std::fmt::Write;
+
+use crate::batch::{run, Line};
+use crate::crc::crc32;
+
+/// Appends one batch behind its length.
+pub fn append_batch(packed: &mut Vec<u8>, batch: &[u8]) {
+    let length = u32::try_from(batch.len()).expect("a batch's length has 32 bits");
+    packed.extend_from_slice(&length.to_be_bytes());
+    packed.extend_from_slice(batch);
+}
+
+pub fn pack<B: AsRef<[u8]>>(batches: &[B]) -> Vec<u8> {
+    let mut packed = Vec::new();
+    for batch in batches {
+        append_batch(&mut packed, batch.as_ref());
+    }
+    packed
+}
+
+/// The batches of a packed stream, or why it is not one.
+pub fn unpack(packed: &[u8]) -> Result<Vec<&[u8]>, String> {
+    let mut batches = Vec::new();
+    let mut rest = packed;
+    while !rest.is_empty() {
+        let Some((length, behind)) = rest.split_first_chunk::<4>() else {
+            return Err(format!("the length of batch {} is cut", batches.len()));
+        };
+        let length = u32::from_be_bytes(*length) as usize;
+        let Some((batch, next)) = behind.split_at_checked(length) else {
+            return Err(format!("batch {} is cut", batches.len()));
+        };
+        batches.push(batch);
+        rest = next;
+    }
+    Ok(batches)
+}
+
+/// Appends the output of batch `number`, whose lines are `lines`.
+pub fn append_output(output: &mut String, number: usize, lines: &[Line]) {
+    let mut print = |line: &dyn std::fmt::Display| {
+        writeln!(output, "{line}").expect("a string takes every line");
+    };
+    print(&format_args!("batch {number}"));
+    for line in lines {
+        print(line);
+        if let Line::Accepted { message, .. } = line {
+            print(&format_args!(
+                "completion {} {}",
+                message.len(),
+                crc32(message)
+            ));
+        }
+    }
+}
+
+/// The output of a list of batches.
+pub fn output<B: AsRef<[u8]>>(batches: &[B]) -> String {
+    let mut output = String::new();
+    for (number, batch) in batches.iter().enumerate() {
+        append_output(&mut output, number, &run(batch.as_ref()));
+    }
+    output
+}

@@ -1,0 +1,103 @@
+//! Rivals of our completion: other choices for the same plan.
+
+use crate::case::Case;
+use crate::completion::Completion;
+use crate::rng::Rng;
+
+/// Another completion of a plan, made from ours by a few random changes of the kinds that rules
+/// allow: power moved between blocks, another startup state, more shortfall, mismatch or overrun.
+///
+/// Whether it meets every rule is for [`crate::meets::meets`] to say.
+pub fn random_rival(rng: &mut Rng, case: &Case, ours: &Completion) -> Completion {
+    let mut rival = ours.clone();
+    for _ in 0..1 + rng.below(6) {
+        let t = rng.below(rival.intervals.len());
+        let j = rng.below(case.devices.len());
+        match rng.below(5) {
+            0 | 1 => move_power(rng, case, &mut rival, t, j),
+            2 => take_another_state(rng, case, &mut rival, j),
+            3 => add_shortfall_or_mismatch(rng, &mut rival, t),
+            _ => add_overrun(rng, &mut rival, j),
+        }
+    }
+    rival
+}
+
+fn move_power(rng: &mut Rng, case: &Case, rival: &mut Completion, t: usize, j: usize) {
+    let blocks = &case.devices[j].terms[t].blocks;
+    if blocks.len() < 2 {
+        return;
+    }
+    let (from, to) = (rng.below(blocks.len()), rng.below(blocks.len()));
+    let filled = &mut rival.intervals[t].devices[j].blocks;
+    let most = filled[from].min(blocks[to].cap - filled[to]);
+    let moved = match rng.below(2) {
+        0 => most,
+        _ => rng.from_to(0, most),
+    };
+    filled[from] -= moved;
+    filled[to] += moved;
+}
+
+/// Takes any state, or none, at one of the device's starts.
+fn take_another_state(rng: &mut Rng, case: &Case, rival: &mut Completion, j: usize) {
+    let states = case.devices[j].startup_states.len();
+    let starts: Vec<usize> = (0..rival.intervals.len())
+        .filter(|&t| rival.intervals[t].devices[j].started == 1)
+        .collect();
+    if !starts.is_empty() {
+        let t = rng.pick(&starts);
+        rival.intervals[t].devices[j].startup_state = rng.below(states + 1) as i128;
+    }
+}
+
+fn add_shortfall_or_mismatch(rng: &mut Rng, rival: &mut Completion, t: usize) {
+    let interval = &mut rival.intervals[t];
+    let more = rng.pick(&[1, 1_000, 1 << 70]);
+    let z = rng.below(interval.shortfalls.len() + 1);
+    match interval.shortfalls.get_mut(z) {
+        Some(shortfalls) => shortfalls[rng.below(6)] += more,
+        None => interval.mismatch += more,
+    }
+}
+
+fn add_overrun(rng: &mut Rng, rival: &mut Completion, j: usize) {
+    let overruns = &mut rival.overruns[j];
+    if !overruns.is_empty() {
+        let w = rng.below(overruns.len());
+        overruns[w] += rng.pick(&[1, 1_000, 1 << 70]);
+    }
+}
+
+/// A completion that does not meet every rule: ours with one choice changed so that it must not be
+/// taken for one of "these".
+pub fn random_misfit(rng: &mut Rng, case: &Case, ours: &Completion) -> Completion {
+    let mut misfit = ours.clone();
+    let t = rng.below(misfit.intervals.len());
+    let j = rng.below(case.devices.len());
+    let interval = &mut misfit.intervals[t];
+    let device = &mut interval.devices[j];
+    let off_by = rng.pick(&[-1, 1, 1 << 70]);
+    match rng.below(9) {
+        0 => device.started += off_by,
+        1 => device.stopped += off_by,
+        2 => device.blocks[rng.below(4)] += off_by,
+        3 => {
+            // The sum is kept, but both blocks leave their ranges.
+            device.blocks[0] += 1 << 40;
+            device.blocks[1] -= 1 << 40;
+        }
+        4 => device.startup_state = rng.pick(&[-1, 5, 1 << 70]),
+        5 if device.started == 0 => device.startup_state = rng.from_to(1, 4),
+        6 if !interval.shortfalls.is_empty() => {
+            let z = rng.below(interval.shortfalls.len());
+            interval.shortfalls[z][rng.below(6)] -= 1;
+        }
+        7 => match misfit.overruns.iter_mut().flatten().next() {
+            Some(overrun) => *overrun -= 1,
+            None => interval.mismatch -= 1,
+        },
+        _ => interval.mismatch -= 1,
+    }
+    misfit
+}

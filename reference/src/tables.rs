@@ -1,0 +1,680 @@
+//! Rows of tiny cases and plans with what the judgement gives, for trying other definitions.
+//!
+//! A row reads `case-bytes-hex plan-bytes-hex expected`, where expected is one of
+//! `accepted SURPLUS COMPLETION-HEX`, `broken RULE INTERVAL DEVICE WINDOW` and
+//! `refused case|plan NUMBER BIT`.
+
+use crate::case::{
+    Block, Case, Device, EnergyKind, EnergyWindow, Ramps, Reserves, Side, StartWindow,
+    StartupState, Status, Terms, Zone,
+};
+use crate::encode::{encode_case, encode_plan, Class, Encoded};
+use crate::generate::breaks::plan_breaking;
+use crate::generate::damage::{
+    any_out_of_range, contradict, cut_at, with_fill_bit, with_surplus_bytes, with_value,
+    Contradiction, CONTRADICTIONS,
+};
+use crate::generate::device::Scale;
+use crate::generate::plans::good_plan;
+use crate::generate::sample::{sample_of, Sample};
+use crate::generate::shape::{Shape, Size};
+use crate::judge::{judge, Refusal, Verdict};
+use crate::plan::{Plan, Setting};
+use crate::rng::Rng;
+
+/// A row: a case message, a plan message, and what the row is about.
+pub struct Row {
+    pub about: String,
+    pub case: Vec<u8>,
+    pub plan: Vec<u8>,
+}
+
+impl Row {
+    fn new(about: &str, case: &Case, plan: &Plan) -> Row {
+        Row {
+            about: about.to_string(),
+            case: encode_case(case).bytes,
+            plan: encode_plan(plan).bytes,
+        }
+    }
+
+    /// The verdict, and on acceptance the completion's bytes.
+    pub fn judged(&self) -> (Verdict, Vec<u8>) {
+        let verdict = judge(&self.case, &self.plan, &mut []);
+        match verdict {
+            Verdict::Refused(Refusal::BufferTooShort { bytes_needed }) => {
+                let mut buffer = vec![0; bytes_needed];
+                (judge(&self.case, &self.plan, &mut buffer), buffer)
+            }
+            _ => (verdict, Vec::new()),
+        }
+    }
+
+    /// The row as it is printed.
+    pub fn printed(&self) -> String {
+        let (verdict, completion) = self.judged();
+        let expected = match verdict {
+            Verdict::Accepted { surplus } => format!("accepted {surplus} {}", hex(&completion)),
+            Verdict::Broken(place) => format!(
+                "broken {} {} {} {}",
+                place.rule, place.interval, place.device, place.window
+            ),
+            Verdict::Refused(Refusal::Case(fault)) => {
+                format!("refused case {} {}", fault.number.figure(), fault.bit)
+            }
+            Verdict::Refused(Refusal::Plan(fault)) => {
+                format!("refused plan {} {}", fault.number.figure(), fault.bit)
+            }
+            Verdict::Refused(Refusal::BufferTooShort { .. }) => {
+                unreachable!("the buffer has the bytes needed")
+            }
+        };
+        format!("{} {} {expected}", hex(&self.case), hex(&self.plan))
+    }
+}
+
+fn hex(bytes: &[u8]) -> String {
+    bytes.iter().map(|byte| format!("{byte:02x}")).collect()
+}
+
+/// All rows: those written by hand, then those drawn from a seed: one for each rule, one for each
+/// way of refusing, and `accepted` that keep every rule.
+pub fn rows(seed: u64, accepted: usize) -> Vec<Row> {
+    let mut rows = written_rows();
+    let mut rng = Rng::new(seed);
+    for rule in 1..=20 {
+        rows.push(row_breaking(&mut rng, rule));
+    }
+    rows.extend(refused_rows(&mut rng));
+    for _ in 0..accepted {
+        let sample = tiny_sample(&mut rng);
+        let plan = good_plan(&mut rng, &sample);
+        rows.push(Row::new("drawn, accepted", &sample.case, &plan));
+    }
+    rows
+}
+
+/// The most bytes of a drawn case.
+const MOST_CASE_BYTES: usize = 150;
+
+fn tiny_sample(rng: &mut Rng) -> Sample {
+    loop {
+        let shape = Shape::random(rng, Size::Tiny);
+        let sample = sample_of(rng, &shape, Scale::Low);
+        if encode_case(&sample.case).bytes.len() <= MOST_CASE_BYTES {
+            return sample;
+        }
+    }
+}
+
+fn row_breaking(rng: &mut Rng, rule: u8) -> Row {
+    loop {
+        let sample = tiny_sample(rng);
+        if let Some(plan) = plan_breaking(rng, &sample, rule) {
+            return Row::new(&format!("drawn, rule {rule}"), &sample.case, &plan);
+        }
+    }
+}
+
+/// A row for each way of refusing either message.
+fn refused_rows(rng: &mut Rng) -> Vec<Row> {
+    let mut rows = Vec::new();
+    for (about, class) in [
+        ("kind or edition", Class::Kind),
+        ("count", Class::Count),
+        ("figure", Class::Figure),
+    ] {
+        let about = format!("{about} wrong");
+        let wrong = |rng: &mut Rng, message: &Encoded| any_out_of_range(rng, message, class);
+        rows.push(row_with_damaged_case(rng, &about, wrong));
+        rows.push(row_with_damaged_plan(rng, &about, wrong));
+    }
+    let surplus = |rng: &mut Rng, message: &Encoded| Some(with_surplus_bytes(rng, &message.bytes));
+    for (about, damage) in [
+        ("cut", &cut_somewhere as Damage),
+        ("fill bit", &with_fill_bit),
+        ("surplus byte", &surplus),
+    ] {
+        rows.push(row_with_damaged_case(rng, about, damage));
+        rows.push(row_with_damaged_plan(rng, about, damage));
+    }
+    for contradiction in CONTRADICTIONS {
+        let (case, plan) = contradictory_day(rng, contradiction);
+        rows.push(Row::new(&format!("case, {contradiction:?}"), &case, &plan));
+    }
+    rows.push(row_with_earlier_fault(
+        rng,
+        "fill bit: 6 before 5",
+        &with_fill_bit,
+    ));
+    rows.push(row_with_earlier_fault(
+        rng,
+        "later price: 4 before 5",
+        &|_, message| {
+            let last = message.fields.last()?;
+            Some(with_value(message, last, last.high + 1))
+        },
+    ));
+    rows
+}
+
+/// A way to damage a message; none where it cannot be done.
+type Damage<'a> = &'a dyn Fn(&mut Rng, &Encoded) -> Option<Vec<u8>>;
+
+/// Cuts a message at one of its fields, leaving at least a byte.
+fn cut_somewhere(rng: &mut Rng, message: &Encoded) -> Option<Vec<u8>> {
+    let field = rng.pick(&message.fields);
+    cut_at(rng, message, &field).filter(|cut| !cut.is_empty())
+}
+
+fn row_with_damaged_case(
+    rng: &mut Rng,
+    about: &str,
+    damage: impl Fn(&mut Rng, &Encoded) -> Option<Vec<u8>>,
+) -> Row {
+    loop {
+        let sample = tiny_sample(rng);
+        let plan = encode_plan(&good_plan(rng, &sample)).bytes;
+        if let Some(case) = damage(rng, &encode_case(&sample.case)) {
+            let about = format!("case, {about}");
+            return Row { about, case, plan };
+        }
+    }
+}
+
+fn row_with_damaged_plan(
+    rng: &mut Rng,
+    about: &str,
+    damage: impl Fn(&mut Rng, &Encoded) -> Option<Vec<u8>>,
+) -> Row {
+    loop {
+        let sample = tiny_sample(rng);
+        let case = encode_case(&sample.case).bytes;
+        let message = encode_plan(&good_plan(rng, &sample));
+        if let Some(plan) = damage(rng, &message) {
+            let about = format!("plan, {about}");
+            return Row { about, case, plan };
+        }
+    }
+}
+
+fn contradictory_day(rng: &mut Rng, contradiction: Contradiction) -> (Case, Plan) {
+    loop {
+        let mut sample = tiny_sample(rng);
+        let plan = good_plan(rng, &sample);
+        if contradict(rng, &mut sample.case, contradiction) {
+            return (sample.case, plan);
+        }
+    }
+}
+
+/// A case that contradicts itself and, later in the message, shows a fault that comes first.
+fn row_with_earlier_fault(rng: &mut Rng, about: &str, damage: Damage) -> Row {
+    loop {
+        let (case, plan) = contradictory_day(rng, Contradiction::PminAbovePmax);
+        if let Some(case) = damage(rng, &encode_case(&case)) {
+            return Row {
+                about: format!("case, contradiction and {about}"),
+                case,
+                plan: encode_plan(&plan).bytes,
+            };
+        }
+    }
+}
+
+/// A day with one device, before a row changes what it is about.
+struct Draft {
+    case: Case,
+    plan: Plan,
+}
+
+/// One device on (`true`) or off per interval of `minutes` each, from an initial state.
+///
+/// pmin 0, pmax 100, ramps 100, reserve limits 20, one block of 100 at 7, no other figure.
+fn draft(side: Side, initially_on: bool, minutes: i128, on: &[bool]) -> Draft {
+    let terms = Terms {
+        status: Status::Free,
+        pmin: 0,
+        pmax: 100,
+        blocks: vec![Block { cap: 100, price: 7 }],
+        reserve_prices: Reserves::default(),
+    };
+    let device = Device {
+        side,
+        zone_bits: [false; 4],
+        initially_on,
+        initial_power: 0,
+        minutes_already_so: 0,
+        minimum_up: 0,
+        minimum_down: 0,
+        ramps: Ramps {
+            up: 100,
+            down: 100,
+            starting: 100,
+            stopping: 100,
+        },
+        on_cost: 0,
+        start_cost: 0,
+        stop_cost: 0,
+        reserve_limits: Reserves::from_order([20; 8]),
+        startup_states: Vec::new(),
+        start_windows: Vec::new(),
+        energy_windows: Vec::new(),
+        terms: vec![terms; on.len()],
+    };
+    let setting = |&on: &bool| Setting {
+        on,
+        ..Setting::default()
+    };
+    Draft {
+        case: Case {
+            mismatch_price: 1,
+            overrun_price: 3,
+            durations: vec![minutes; on.len()],
+            zones: Vec::new(),
+            devices: vec![device],
+        },
+        plan: Plan {
+            intervals: on.iter().map(|on| vec![setting(on)]).collect(),
+        },
+    }
+}
+
+impl Draft {
+    fn device(&mut self) -> &mut Device {
+        &mut self.case.devices[0]
+    }
+
+    fn setting(&mut self, interval: usize) -> &mut Setting {
+        &mut self.plan.intervals[interval - 1][0]
+    }
+
+    /// Adds a second device like the first, set alike.
+    fn add_twin(&mut self) {
+        self.case.devices.push(self.case.devices[0].clone());
+        for settings in &mut self.plan.intervals {
+            settings.push(settings[0]);
+        }
+    }
+
+    fn row(&self, about: &str) -> Row {
+        Row::new(about, &self.case, &self.plan)
+    }
+}
+
+/// The rows written by hand, each about one sentence of the paper.
+pub fn written_rows() -> Vec<Row> {
+    let mut rows = Vec::new();
+    rows.extend(consuming_reserve_rows());
+    rows.extend(block_rows());
+    rows.extend(startup_state_rows());
+    rows.extend(zone_rows());
+    rows.extend(start_window_rows());
+    rows.extend(energy_window_rows());
+    rows.extend(trajectory_rows());
+    rows.extend(order_rows());
+    rows
+}
+
+/// Consuming devices hold up reserves against pmin, down reserves against pmax.
+fn consuming_reserve_rows() -> Vec<Row> {
+    let with = |online: i128, pmin: i128, change: &dyn Fn(&mut Reserves), about: &str| {
+        let mut draft = draft(Side::Consuming, true, 10, &[true]);
+        draft.device().terms[0].pmin = pmin;
+        draft.setting(1).online_power = online;
+        change(&mut draft.setting(1).reserves);
+        draft.row(about)
+    };
+    vec![
+        with(
+            90,
+            0,
+            &|r| r.rgu = 15,
+            "consuming rgu kept at pmin, above pmax",
+        ),
+        with(60, 50, &|r| r.rgu = 15, "consuming rgu below pmin: rule 17"),
+        with(60, 50, &|r| r.scr = 11, "consuming scr below pmin: rule 17"),
+        with(
+            60,
+            50,
+            &|r| r.rru_on = 11,
+            "consuming rru_on below pmin: rule 17",
+        ),
+        with(
+            60,
+            50,
+            &|r| (r.rgu, r.scr, r.rru_on) = (3, 3, 4),
+            "consuming up reserves exactly at pmin",
+        ),
+        with(90, 0, &|r| r.rgd = 11, "consuming rgd above pmax: rule 16"),
+        with(
+            60,
+            55,
+            &|r| r.rrd_on = 15,
+            "consuming rrd_on kept at pmax, below pmin",
+        ),
+    ]
+}
+
+/// Blocks by merit, the lower-numbered first among equals.
+fn block_rows() -> Vec<Row> {
+    let with = |side, blocks: &[(i128, i128)], about: &str| {
+        let mut draft = draft(side, true, 10, &[true]);
+        draft.device().terms[0].blocks = blocks
+            .iter()
+            .map(|&(cap, price)| Block { cap, price })
+            .collect();
+        draft.setting(1).online_power = 70;
+        draft.row(about)
+    };
+    vec![
+        with(
+            Side::Producing,
+            &[(60, 5), (50, 3), (50, 3)],
+            "producing, blocks 2 and 3 tie",
+        ),
+        with(
+            Side::Consuming,
+            &[(40, 7), (40, 7), (40, 9)],
+            "consuming, blocks 1 and 2 tie",
+        ),
+        with(
+            Side::Consuming,
+            &[(50, -4), (50, 2), (50, -4)],
+            "consuming at negative prices, tie",
+        ),
+        with(
+            Side::Producing,
+            &[(0, -9), (99, -2), (99, -2)],
+            "producing, cap 0 cheapest, tie",
+        ),
+    ]
+}
+
+/// Startup states: cheapest, not first; none at 0 or above; downtime from the last on interval's
+/// end.
+fn startup_state_rows() -> Vec<Row> {
+    let after_outage = |states: &[(i128, i128)], about: &str| {
+        let mut draft = draft(Side::Producing, true, 60, &[true, false, true]);
+        draft.device().startup_states = states
+            .iter()
+            .map(|&(longest_downtime, cost)| StartupState {
+                longest_downtime,
+                cost,
+            })
+            .collect();
+        draft.row(about)
+    };
+    let mut rows = vec![
+        after_outage(
+            &[(480, -100), (700, -500)],
+            "cheapest state is not the first that fits",
+        ),
+        after_outage(&[(480, -500), (700, -500)], "states tie: the first"),
+        after_outage(
+            &[(59, -900), (480, 0)],
+            "cheapest fitting state costs 0: none",
+        ),
+        after_outage(&[(480, 5)], "fitting state costs above 0: none"),
+        after_outage(
+            &[(60, -500)],
+            "downtime 60 from the last on interval's end fits 60",
+        ),
+        after_outage(&[(59, -500)], "downtime 60 does not fit 59"),
+    ];
+    for (longest, about) in [
+        (60, "initially on, no on interval: downtime is S, 60 fits"),
+        (
+            59,
+            "initially on, no on interval: downtime is S, 59 does not fit",
+        ),
+    ] {
+        let mut draft = draft(Side::Producing, true, 60, &[false, true]);
+        draft.device().minutes_already_so = 500;
+        draft.device().startup_states.push(StartupState {
+            longest_downtime: longest,
+            cost: -500,
+        });
+        rows.push(draft.row(about));
+    }
+    for (longest, about) in [
+        (560, "initially off 500: downtime 560 fits"),
+        (559, "initially off 500: downtime 560 does not fit 559"),
+    ] {
+        let mut draft = draft(Side::Consuming, false, 60, &[false, true]);
+        draft.device().minutes_already_so = 500;
+        draft.device().startup_states.push(StartupState {
+            longest_downtime: longest,
+            cost: -500,
+        });
+        rows.push(draft.row(about));
+    }
+    rows
+}
+
+/// Zone needs in W: shares that do not divide evenly, needs that include one another.
+fn zone_rows() -> Vec<Row> {
+    let with = |side, shares, minima, power, change: &dyn Fn(&mut Reserves), about: &str| {
+        let mut draft = draft(side, true, 10, &[true]);
+        draft.case.zones.push(Zone {
+            shares,
+            shortfall_prices: [1, 2, 3, 4, 5, 6],
+            ramping_minima: vec![minima],
+        });
+        draft.device().zone_bits[0] = true;
+        draft.setting(1).online_power = power;
+        change(&mut draft.setting(1).reserves);
+        draft.row(about)
+    };
+    vec![
+        with(
+            Side::Consuming,
+            [333, 77, 0, 0],
+            [0, 0],
+            7,
+            &|r| r.rgu = 2,
+            "shares of 7 kW in W",
+        ),
+        with(
+            Side::Producing,
+            [0, 0, 333, 77],
+            [0, 0],
+            7,
+            &|r| r.scr = 1,
+            "scr and nsc shares in W",
+        ),
+        with(
+            Side::Consuming,
+            [500, 0, 900, 900],
+            [3, 2],
+            40,
+            &|r| r.rgu = 9,
+            "no producer: scr and nsc needs are rgu's",
+        ),
+        with(
+            Side::Producing,
+            [900, 900, 100, 50],
+            [3, 2],
+            40,
+            &|r| (r.rru_on, r.rgu) = (1, 6),
+            "no consumer, rgu covers scr",
+        ),
+    ]
+}
+
+/// Rule 20: a start at the window's start counts, one at its end does not.
+fn start_window_rows() -> Vec<Row> {
+    [
+        (60, 120, "window starts at S: rule 20"),
+        (61, 120, "window starts after S"),
+        (0, 60, "window ends at S"),
+        (0, 61, "window ends after S: rule 20"),
+        (60, 60, "empty window at S"),
+    ]
+    .into_iter()
+    .map(|(start, end, about)| {
+        let mut draft = draft(Side::Producing, false, 60, &[false, true]);
+        draft.device().start_windows.push(StartWindow {
+            start,
+            end,
+            most_starts: 0,
+        });
+        draft.row(about)
+    })
+    .collect()
+}
+
+/// Energy windows: a midpoint at the window's end counts, one at its start does not.
+fn energy_window_rows() -> Vec<Row> {
+    [
+        (
+            EnergyKind::Maximum,
+            0,
+            30,
+            100,
+            "maximum, midpoint at the end counts",
+        ),
+        (
+            EnergyKind::Maximum,
+            0,
+            29,
+            100,
+            "maximum, midpoint after the end",
+        ),
+        (
+            EnergyKind::Maximum,
+            30,
+            120,
+            100,
+            "maximum, midpoint at the start does not count",
+        ),
+        (
+            EnergyKind::Maximum,
+            29,
+            120,
+            100,
+            "maximum, both midpoints count",
+        ),
+        (
+            EnergyKind::Minimum,
+            30,
+            90,
+            2_000,
+            "minimum, second midpoint at the end counts",
+        ),
+        (EnergyKind::Minimum, 90, 90, 50, "minimum, empty window"),
+    ]
+    .into_iter()
+    .map(|(kind, start, end, energy, about)| {
+        let mut draft = draft(Side::Producing, true, 60, &[true, true]);
+        draft.device().energy_windows.push(EnergyWindow {
+            kind,
+            start,
+            end,
+            energy,
+        });
+        draft.setting(1).online_power = 20;
+        draft.setting(2).online_power = 30;
+        draft.row(about)
+    })
+    .collect()
+}
+
+/// Startup and shutdown power, and the ramps that go with them.
+fn trajectory_rows() -> Vec<Row> {
+    let slow = |initially_on, on: &[bool], pmin| {
+        let mut draft = draft(Side::Producing, initially_on, 10, on);
+        for terms in &mut draft.device().terms {
+            terms.pmin = pmin;
+        }
+        draft.device().ramps.starting = 2;
+        draft.device().ramps.stopping = 2;
+        draft
+    };
+    let mut rising = slow(false, &[false, false, true], 50);
+    rising.device().initial_power = 0;
+    rising.setting(3).online_power = 50;
+    let mut too_high = slow(false, &[false, false, true], 50);
+    too_high.setting(3).online_power = 51;
+    let mut falling = slow(true, &[true, false, false], 50);
+    falling.device().initial_power = 50;
+    falling.setting(1).online_power = 50;
+    let mut stopped_at_first = slow(true, &[false, false], 90);
+    stopped_at_first.device().initial_power = 45;
+    let mut left_over = slow(false, &[false, false], 0);
+    left_over.device().initial_power = 20;
+    let mut left_too_much = slow(false, &[false, false], 0);
+    left_too_much.device().initial_power = 21;
+    let mut into_on = slow(true, &[true, false, true], 50);
+    into_on.device().initial_power = 50;
+    into_on.setting(1).online_power = 50;
+    into_on.setting(3).online_power = 50;
+    let mut into_low_on = slow(true, &[true, false, true], 50);
+    into_low_on.device().initial_power = 50;
+    into_low_on.setting(1).online_power = 49;
+    into_low_on.setting(3).online_power = 50;
+    let mut crossing = slow(true, &[true, false, true], 30);
+    crossing.device().initial_power = 30;
+    crossing.setting(1).online_power = 30;
+    crossing.setting(3).online_power = 30;
+    let two_starts = |pmax_at_first| {
+        let mut draft = slow(false, &[false, true, false, true], 50);
+        draft.device().ramps.starting = 1;
+        draft.device().initial_power = 50;
+        draft.device().terms[0].pmin = 0;
+        draft.device().terms[0].pmax = pmax_at_first;
+        draft.setting(2).online_power = 50;
+        draft.setting(4).online_power = 50;
+        draft
+    };
+    vec![
+        rising.row("psu over two intervals"),
+        too_high.row("starting ramp, not up, at a start: rule 5"),
+        falling.row("psd over two intervals"),
+        stopped_at_first.row("stop in interval 1 from the initial power"),
+        left_over.row("initial power while off, as much as may fall"),
+        left_too_much.row("initial power while off, one too much: rule 6"),
+        into_on.row("psu of a start reaches into an on interval: rule 18"),
+        into_low_on.row("the same with online power below pmin, though p is above: rule 17"),
+        crossing.row("psu and psd in one interval"),
+        two_starts(59)
+            .row("psu of two later starts, 40 and 20, above pmax 59: rule 18 in interval 1"),
+        two_starts(60)
+            .row("psu of two later starts at pmax 60: next fault is rule 5 in interval 2"),
+    ]
+}
+
+/// The order of rules: interval, device, number; rule 20 last, by device, then window.
+fn order_rows() -> Vec<Row> {
+    let mut by_device = draft(Side::Producing, true, 10, &[true]);
+    by_device.add_twin();
+    by_device.device().terms[0].pmin = 1;
+    by_device.plan.intervals[0][1].reserves.rgu = 21;
+    let mut by_interval = draft(Side::Producing, true, 10, &[true, true]);
+    by_interval.device().terms[0].blocks[0].cap = 50;
+    by_interval.device().terms[1].status = Status::Off;
+    by_interval.setting(1).online_power = 51;
+    let mut by_number = draft(Side::Producing, true, 10, &[true]);
+    by_number.setting(1).reserves = Reserves::from_order([0, 21, 21, 1, 0, 0, 0, 0]);
+    let no_start = StartWindow {
+        start: 0,
+        end: 10,
+        most_starts: 0,
+    };
+    let mut rule_20_last = draft(Side::Producing, false, 10, &[true, true]);
+    rule_20_last.device().start_windows.push(no_start);
+    rule_20_last.setting(2).online_power = 101;
+    let mut second_window = draft(Side::Producing, false, 10, &[true]);
+    let one_start = StartWindow {
+        most_starts: 1,
+        ..no_start
+    };
+    second_window.device().start_windows = vec![one_start, no_start];
+    vec![
+        by_device.row("device 1 breaks rule 17, device 2 rule 7: rule 17 first"),
+        by_interval.row("interval 1 breaks rule 19, interval 2 rule 1: rule 19 first"),
+        by_number.row("rules 8, 9 and 12 broken at one place: rule 8 first"),
+        rule_20_last.row("rule 16 in the last interval comes before rule 20"),
+        second_window.row("rule 20 in the second window"),
+    ]
+}

@@ -1,0 +1,105 @@
+//! The long run, against products that agree and products that do not.
+
+use reference::compare::{compare, output_of_program, Difference, Settings, Until};
+use reference::packed::{output, unpack};
+
+fn settings(until: Until) -> Settings {
+    Settings {
+        seed: 3,
+        first_batch: 0,
+        until,
+        plans_per_batch: 10,
+    }
+}
+
+fn reference_output(packed: &[u8]) -> String {
+    output(&unpack(packed).expect("batches are packed"))
+}
+
+/// Compares with a product that gives the reference's output, changed.
+fn difference_when(change: impl Fn(String) -> String) -> Option<Difference> {
+    let mut product = |packed: &[u8]| Ok(change(reference_output(packed)).into_bytes());
+    let settings = settings(Until::Batches(60));
+    let (_, difference) = compare(&settings, &mut product, |_| {}).expect("nothing fails");
+    difference
+}
+
+#[test]
+fn the_reference_agrees_with_itself() {
+    assert_eq!(difference_when(|output| output), None);
+}
+
+#[test]
+fn a_run_goes_on_until_its_plans_are_judged() {
+    let mut product = |packed: &[u8]| Ok(reference_output(packed).into_bytes());
+    let settings = settings(Until::Plans(300));
+    let (census, _) = compare(&settings, &mut product, |_| {}).expect("nothing fails");
+    assert!((300..310).contains(&census.plans()), "{census}");
+}
+
+#[test]
+fn a_program_of_its_own_agrees() {
+    let program = env!("CARGO_BIN_EXE_packed");
+    let mut product = |packed: &[u8]| output_of_program(program, packed);
+    let settings = settings(Until::Batches(300));
+    let (census, difference) = compare(&settings, &mut product, |_| {}).expect("it runs");
+    assert_eq!((census.batches, difference), (300, None));
+}
+
+#[test]
+fn the_first_difference_stops_the_run_and_is_told() {
+    let difference = difference_when(|output| output.replacen("broken 7 ", "broken 8 ", 1))
+        .expect("a rule is changed");
+    assert!(difference.shows_alone);
+    let batches = unpack(&difference.packed).expect("the batch is packed");
+    assert_eq!(batches.len(), 1);
+    let expected = output(&batches);
+    let line = expected
+        .lines()
+        .nth(difference.line - 1)
+        .expect("the line is there");
+    assert!(line.contains("broken 7 "));
+    assert_eq!(difference.expected, Some(format!("{line}\\n")));
+    assert_eq!(
+        difference.given,
+        Some(format!("{}\\n", line.replace("broken 7", "broken 8")))
+    );
+    // Nothing before it was different.
+    let earlier: String = expected.lines().take(difference.line - 1).collect();
+    assert!(!earlier.contains("broken 7 "));
+}
+
+#[test]
+fn lines_that_miss_or_exceed_are_differences() {
+    let missing = difference_when(|output| {
+        let mut lines: Vec<&str> = output.split_inclusive('\n').collect();
+        lines.pop();
+        lines.concat()
+    });
+    assert_eq!(missing.expect("a line is missing").given, None);
+    let exceeding = difference_when(|output| output + "batch 60\n");
+    assert_eq!(exceeding.expect("a line is too many").expected, None);
+    let unended = difference_when(|output| output.trim_end().to_string());
+    assert!(unended.is_some());
+    let nothing = difference_when(|_| String::new());
+    assert_eq!(nothing.expect("nothing is printed").line, 1);
+}
+
+/// A product that fails only behind other batches is shown by the whole chunk.
+#[test]
+fn a_difference_that_needs_others_stores_them_all() {
+    let mut product = |packed: &[u8]| {
+        let output = reference_output(packed);
+        let alone = unpack(packed).expect("batches are packed").len() == 1;
+        let changed = output.replacen("accepted ", "accepted 1", 1);
+        Ok(if alone { output } else { changed }.into_bytes())
+    };
+    let settings = settings(Until::Batches(20));
+    let (_, difference) = compare(&settings, &mut product, |_| {}).expect("nothing fails");
+    let difference = difference.expect("a surplus is changed");
+    assert!(!difference.shows_alone);
+    assert_eq!(
+        unpack(&difference.packed).map(|batches| batches.len()),
+        Ok(20)
+    );
+}

@@ -1,0 +1,279 @@
+//! What the generator makes: messages that read back, plans that keep or break what they are made
+//! to, damage that is refused where it was done. Counts can be seen with `--nocapture`.
+
+use reference::batch::{append_message, run};
+use reference::case::read_case;
+use reference::census::Census;
+use reference::clock::spans;
+use reference::compare::numbered_batch;
+use reference::completion::completion_bits;
+use reference::edges::Edges;
+use reference::encode::{encode_case, encode_plan, Class, Encoded, Field};
+use reference::fault::Fault;
+use reference::forced::forced;
+use reference::generate::batches::random_plan_message;
+use reference::generate::breaks::plan_breaking;
+use reference::generate::damage::{
+    contradict, values_out_of_range, with_value, Contradiction, CONTRADICTIONS,
+};
+use reference::generate::plans::{good_plan, wild_plan};
+use reference::generate::sample::{random_sample, wild_case, Sample};
+use reference::generate::shape::Size;
+use reference::judge::{find, Finding};
+use reference::meets::{keeps_every_rule, meets, surplus_of};
+use reference::ours::complete;
+use reference::plan::{read_plan, Plan};
+use reference::rng::Rng;
+
+const SEED: u64 = 7;
+
+fn samples(count: u64) -> impl Iterator<Item = (Rng, Sample)> {
+    (0..count).map(|index| {
+        let mut rng = Rng::numbered(SEED, index);
+        let size = rng.pick(&[Size::Tiny, Size::Small, Size::Small, Size::Medium]);
+        let sample = random_sample(&mut rng, size);
+        (rng, sample)
+    })
+}
+
+fn figures(fault: Fault) -> (u8, usize) {
+    (fault.number.figure(), fault.bit)
+}
+
+#[test]
+fn messages_read_back_as_they_were_written() {
+    for (mut rng, sample) in samples(60) {
+        let case = encode_case(&sample.case);
+        assert_eq!(read_case(&case.bytes), Ok(sample.case.clone()));
+        let plan = good_plan(&mut rng, &sample);
+        assert_eq!(read_plan(&sample.case, &encode_plan(&plan).bytes), Ok(plan));
+    }
+}
+
+/// Every message that passes reading is the one way to write what was read.
+#[test]
+fn what_passes_reading_is_written_alike() {
+    let mut passed = 0;
+    for (mut rng, sample) in samples(200) {
+        let message = encode_case(&sample.case);
+        for _ in 0..10 {
+            let mut turned = message.bytes.clone();
+            let bit = rng.below(8 * turned.len());
+            turned[bit / 8] ^= 1 << (bit % 8);
+            if let Ok(case) = read_case(&turned) {
+                assert_eq!(encode_case(&case).bytes, turned);
+                passed += 1;
+            }
+        }
+    }
+    assert!(passed > 200, "{passed}");
+}
+
+#[test]
+fn good_plans_are_accepted() {
+    for (mut rng, sample) in samples(150) {
+        for _ in 0..3 {
+            let plan = good_plan(&mut rng, &sample);
+            assert!(matches!(
+                find(&sample.case, &plan),
+                Finding::Accepted { .. }
+            ));
+        }
+    }
+}
+
+#[test]
+fn broken_plans_break_the_rule_they_are_made_to_break() {
+    let mut made = [0; 21];
+    for (mut rng, sample) in samples(200) {
+        for rule in 1..=20 {
+            if let Some(plan) = plan_breaking(&mut rng, &sample, rule) {
+                let Finding::Broken(place) = find(&sample.case, &plan) else {
+                    panic!("a plan made to break rule {rule} is accepted");
+                };
+                assert_eq!(place.rule, rule);
+                made[usize::from(rule)] += 1;
+            }
+        }
+    }
+    println!("plans broken by rule: {:?}", &made[1..]);
+    assert!(made[1..].iter().all(|&count| count >= 10), "{made:?}");
+}
+
+/// The judgement against the same sentences written a second time.
+fn hold_to_meets(sample_case: &reference::case::Case, plan: &Plan) -> bool {
+    let finding = find(sample_case, plan);
+    let accepted = matches!(finding, Finding::Accepted { .. });
+    assert_eq!(accepted, keeps_every_rule(sample_case, plan));
+    if let Finding::Accepted { surplus, message } = finding {
+        let spans = spans(&sample_case.durations);
+        let forced = forced(sample_case, &spans, plan);
+        let ours = complete(sample_case, &spans, plan, &forced);
+        assert!(meets(sample_case, plan, &ours.completion));
+        assert_eq!(surplus_of(sample_case, plan, &ours.completion), surplus);
+        assert_eq!(message.len(), completion_bits(sample_case).div_ceil(8));
+    }
+    accepted
+}
+
+#[test]
+fn judgement_and_second_writing_agree() {
+    let (mut accepted, mut broken) = (0, 0);
+    let mut hold = |case: &_, plan: &_| {
+        if hold_to_meets(case, plan) {
+            accepted += 1;
+        } else {
+            broken += 1;
+        }
+    };
+    for (mut rng, sample) in samples(150) {
+        for _ in 0..12 {
+            let message = random_plan_message(&mut rng, &sample);
+            if let Ok(plan) = read_plan(&sample.case, &message) {
+                hold(&sample.case, &plan);
+            }
+        }
+        let case = wild_case(&mut rng, Size::Tiny);
+        for _ in 0..4 {
+            hold(&case, &wild_plan(&mut rng, &case));
+        }
+    }
+    println!("accepted {accepted}, broken {broken}");
+    assert!(accepted > 500 && broken > 500);
+}
+
+#[test]
+fn judgement_and_second_writing_agree_at_full_size() {
+    let mut rng = Rng::numbered(SEED, 1_000_000);
+    let sample = random_sample(&mut rng, Size::Full);
+    assert!(hold_to_meets(&sample.case, &good_plan(&mut rng, &sample)));
+}
+
+fn number_of(class: Class) -> u8 {
+    match class {
+        Class::Kind => 2,
+        Class::Count => 3,
+        Class::Figure => 4,
+    }
+}
+
+/// Holds that every field out of range is refused with its number at its bit, and that the message
+/// cut at every byte is refused with 1 at the first field that is not whole.
+fn hold_to_fields(message: &Encoded, read: impl Fn(&[u8]) -> Result<(), Fault>) {
+    for field in &message.fields {
+        for value in values_out_of_range(field) {
+            let fault = read(&with_value(message, field, value)).expect_err("out of range");
+            assert_eq!(
+                figures(fault),
+                (number_of(field.class), field.place),
+                "{}",
+                field.name
+            );
+        }
+    }
+    for length in 0..message.bytes.len() {
+        let fault = read(&message.bytes[..length]).expect_err("cut");
+        let cut = |field: &&Field| field.end() > 8 * length;
+        let first_cut = message.fields.iter().find(cut).expect("a field is cut");
+        assert_eq!(figures(fault), (1, first_cut.place));
+    }
+}
+
+#[test]
+fn damage_is_refused_at_the_field_that_was_damaged() {
+    for (mut rng, sample) in samples(12) {
+        if sample.case.devices.len() * sample.case.intervals() > 40 {
+            continue;
+        }
+        hold_to_fields(&encode_case(&sample.case), |bytes| {
+            read_case(bytes).map(|_| ())
+        });
+        let plan = encode_plan(&good_plan(&mut rng, &sample));
+        hold_to_fields(&plan, |bytes| read_plan(&sample.case, bytes).map(|_| ()));
+    }
+}
+
+#[test]
+fn contradictions_are_refused_at_the_field_the_paper_names() {
+    let mut made = [0; CONTRADICTIONS.len()];
+    for (mut rng, sample) in samples(120) {
+        for (k, contradiction) in CONTRADICTIONS.into_iter().enumerate() {
+            let mut case = sample.case.clone();
+            if !contradict(&mut rng, &mut case, contradiction) {
+                continue;
+            }
+            made[k] += 1;
+            let message = encode_case(&case);
+            let fault = read_case(&message.bytes).expect_err("it contradicts itself");
+            assert_eq!(fault.number.figure(), 5);
+            let name = match contradiction {
+                Contradiction::PminAbovePmax => "pmax",
+                Contradiction::StartWindowBackward | Contradiction::StartWindowBeyondDay => {
+                    "start window end"
+                }
+                Contradiction::EnergyWindowBackward | Contradiction::EnergyWindowBeyondDay => {
+                    "energy window end"
+                }
+                Contradiction::ZoneBitAboveCount => "zone bits",
+            };
+            let at_fault = |field: &&Field| field.place == fault.bit;
+            let field = message.fields.iter().find(at_fault);
+            assert_eq!(field.map(|field| field.name), Some(name));
+        }
+    }
+    println!("contradictions by kind: {made:?}");
+    assert!(made.iter().all(|&count| count >= 10), "{made:?}");
+}
+
+/// Bytes without any sense are refused, never worse.
+#[test]
+fn noise_is_refused() {
+    let mut rng = Rng::new(SEED);
+    for _ in 0..2_000 {
+        let length = rng.below(400);
+        let mut noise: Vec<u8> = (0..length).map(|_| rng.below(256) as u8).collect();
+        if rng.chance(70) && length > 2 {
+            noise[0] = 0x11;
+            noise[1] = 0x08;
+        }
+        assert!(read_case(&noise).is_err());
+        let mut batch = noise.clone();
+        append_message(&mut batch, &noise);
+        run(&batch);
+    }
+}
+
+/// The random batches of the long run reach every rule, every refusal and both framing numbers.
+#[test]
+fn long_run_reaches_everything() {
+    let mut census = Census::default();
+    let mut edges = Edges::default();
+    for number in 0..1_200 {
+        let batch = numbered_batch(SEED, number, 12);
+        census.add(&run(&batch));
+        edges.add(&batch);
+    }
+    println!("{census}");
+    for (name, count) in edges.in_order() {
+        println!("{name}: {count}");
+        assert!(count > 0, "{name} is never shown");
+    }
+    assert!(
+        census.broken[1..].iter().all(|&count| count >= 20),
+        "{census}"
+    );
+    assert!(
+        census.refused_cases[1..].iter().all(|&count| count > 0),
+        "{census}"
+    );
+    for number in [1, 2, 3, 4, 6] {
+        assert!(census.refused_plans[number] >= 20, "{census}");
+    }
+    assert_eq!(census.refused_plans[5], 0);
+    assert!(census.framing[1] > 0 && census.framing[4] > 0, "{census}");
+    let accepted_share = 100 * census.accepted / census.plans();
+    assert!(
+        (30..70).contains(&accepted_share),
+        "{accepted_share} in a hundred"
+    );
+}

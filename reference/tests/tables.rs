@@ -1,0 +1,106 @@
+//! The tables: rows written by hand against verdicts worked out by hand, and what all rows reach.
+
+use std::collections::BTreeSet;
+
+use reference::judge::{Refusal, Verdict};
+use reference::tables::{rows, written_rows};
+
+/// What each written row must give, in order. One interval of 10 minutes or more of 60 (10 in the
+/// rows about trajectories), block price 7 unless given, mismatch price 1, overrun price 3.
+const VERDICTS: [&str; 52] = [
+    // Consuming reserves: 90 or 60 kW at 7 − 1 for 10 minutes.
+    "accepted 5400",
+    "broken 17 1 1 0",
+    "broken 17 1 1 0",
+    "broken 17 1 1 0",
+    "accepted 3600",
+    "broken 16 1 1 0",
+    "accepted 3600",
+    // Blocks for 70 kW: 70·3; 40·9 + 30·7; 50·2 − 20·4; −70·2; each with 70 of mismatch.
+    "accepted -2800",
+    "accepted 5000",
+    "accepted -500",
+    "accepted 700",
+    // States.
+    "accepted 500",
+    "accepted 500",
+    "accepted 0",
+    "accepted 0",
+    "accepted 500",
+    "accepted 0",
+    "accepted 500",
+    "accepted 0",
+    "accepted 500",
+    "accepted 0",
+    // Zones. Shortfalls in W: 331, 539, 331, 331; then 0, 0, 1331, 1870; then 11,000 three times
+    // with 3,000 and 2,000; then 2,000 and 2,000.
+    "accepted -36840",
+    "accepted -115290",
+    "accepted -1147600",
+    "accepted -223200",
+    // Start windows.
+    "broken 20 0 1 1",
+    "accepted 0",
+    "accepted 0",
+    "broken 20 0 1 1",
+    "accepted 0",
+    // Energy windows: −24,000 less 3 for each of 1100, 0, 1700, 2900, 200, 50 kW·min.
+    "accepted -27300",
+    "accepted -24000",
+    "accepted -29100",
+    "accepted -32700",
+    "accepted -24600",
+    "accepted -24150",
+    // Trajectories: 10, 30, 50; its break; 50, 30, 10; 25, 5; nothing left; its break; reaching
+    // into an on interval; that with too little online; 30, 20, 30; two starts.
+    "accepted -7200",
+    "broken 5 3 1 0",
+    "accepted -7200",
+    "accepted -2400",
+    "accepted 0",
+    "broken 6 1 1 0",
+    "broken 18 1 1 0",
+    "broken 17 1 1 0",
+    "accepted -6400",
+    "broken 18 1 1 0",
+    "broken 5 2 1 0",
+    // Order.
+    "broken 17 1 1 0",
+    "broken 19 1 1 0",
+    "broken 8 1 1 0",
+    "broken 16 2 1 0",
+    "broken 20 0 1 2",
+];
+
+#[test]
+fn written_rows_give_what_was_worked_out() {
+    let rows = written_rows();
+    assert_eq!(rows.len(), VERDICTS.len());
+    for (row, verdict) in rows.iter().zip(VERDICTS) {
+        let printed = row.printed();
+        let expected: Vec<&str> = printed.split(' ').skip(2).collect();
+        let fields = if expected[0] == "accepted" { 2 } else { 5 };
+        assert_eq!(expected[..fields].join(" "), verdict, "{}", row.about);
+    }
+}
+
+#[test]
+fn rows_reach_every_rule_and_every_refusal() {
+    let mut reached = BTreeSet::new();
+    for row in rows(1, 8) {
+        assert!(row.case.len() <= 152 && !row.case.is_empty() && !row.plan.is_empty());
+        reached.insert(match row.judged().0 {
+            Verdict::Accepted { .. } => ("accepted", 0),
+            Verdict::Broken(place) => ("rule", place.rule),
+            Verdict::Refused(Refusal::Case(fault)) => ("case", fault.number.figure()),
+            Verdict::Refused(Refusal::Plan(fault)) => ("plan", fault.number.figure()),
+            Verdict::Refused(Refusal::BufferTooShort { .. }) => ("buffer", 7),
+        });
+    }
+    assert!((1..=20).all(|rule| reached.contains(&("rule", rule))));
+    assert!((1..=6).all(|number| reached.contains(&("case", number))));
+    assert!([1, 2, 3, 4, 6]
+        .iter()
+        .all(|&number| reached.contains(&("plan", number))));
+    assert!(reached.contains(&("accepted", 0)));
+}

@@ -1,0 +1,64 @@
+//! The paper's worked day, against the figures the paper prints.
+
+use reference::batch;
+use reference::encode::{encode_case, encode_plan};
+use reference::judge::{judge, Verdict};
+use reference::rules::Place;
+use reference::worked_day::{example_batch, lettered_days};
+
+fn accepted(surplus: i128) -> Verdict {
+    Verdict::Accepted { surplus }
+}
+
+fn broken(rule: u8, interval: usize, device: usize, window: usize) -> Verdict {
+    Verdict::Broken(Place {
+        rule,
+        interval,
+        device,
+        window,
+    })
+}
+
+#[test]
+fn letters_give_the_figures_of_the_paper() {
+    let figures = [
+        ('a', accepted(167_860)),
+        ('b', broken(5, 2, 1, 0)),
+        ('c', accepted(167_860)),
+        ('d', accepted(167_360)),
+        ('e', accepted(106_660)),
+        ('f', accepted(169_360)),
+        ('g', broken(2, 2, 1, 0)),
+        ('h', accepted(-1_452_140)),
+        ('i', accepted(-552_140)),
+        ('j', broken(20, 0, 1, 1)),
+        ('k', accepted(167_860)),
+        ('l', accepted(158_860)),
+        ('m', accepted(167_860)),
+    ];
+    let days = lettered_days();
+    assert_eq!(days.len(), figures.len());
+    for ((letter, day), (figure_letter, figure)) in days.iter().zip(figures) {
+        assert_eq!(*letter, figure_letter);
+        let case = encode_case(&day.case).bytes;
+        let plan = encode_plan(&day.plan).bytes;
+        assert_eq!(judge(&case, &plan, &mut [0; 200]), figure, "({letter})");
+    }
+}
+
+#[test]
+fn batch_program_prints_the_lines_of_the_paper() {
+    let printed: Vec<String> = batch::run(&example_batch())
+        .iter()
+        .map(|line| line.to_string())
+        .collect();
+    assert_eq!(
+        printed,
+        [
+            "0 case 2 2 0",
+            "1 accepted 167860",
+            "2 broken 5 2 1 0",
+            "3 refused 1 8",
+        ]
+    );
+}
