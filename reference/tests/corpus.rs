@@ -1,5 +1,5 @@
 //! The corpus: the reference is held to the same files as the product, and the seed makes them
-//! again byte for byte. `CORPUS_DIR` names another directory than `../corpus`.
+//! again byte for byte. `CORPUS_DIR` names another directory than `../crates/corpus`.
 
 use std::env;
 use std::path::PathBuf;
@@ -11,7 +11,7 @@ use reference::worked_day::example_batch;
 fn directory() -> PathBuf {
     match env::var_os("CORPUS_DIR") {
         Some(directory) => PathBuf::from(directory),
-        None => PathBuf::from(concat!(env!("CARGO_MANIFEST_DIR"), "/../corpus")),
+        None => PathBuf::from(concat!(env!("CARGO_MANIFEST_DIR"), "/../crates/corpus")),
     }
 }
 

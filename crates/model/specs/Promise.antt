@@ -38,22 +38,22 @@ all-or P d h (x ∷ l) a zero = a .0
 all-or P d h (x ∷ l) a (suc k) = all-or P d h l (a .1) k
 
 module _ (c : Case) (r : PricesRange (c .prices)) where
-  six-at : (z : ℕ) → SixRange (getD (c .prices .zones) z noSix)
+  pub six-at : (z : ℕ) → SixRange (getD (c .prices .zones) z noSix)
   six-at z = all-or SixRange noSix (omega arith) (c .prices .zones) (r .zones) z
 
-  prices-at : (i : ℕ) → DevicePriceRange (C.devicePrices c i)
+  pub prices-at : (i : ℕ) → DevicePriceRange (C.devicePrices c i)
   prices-at i = all-or DevicePriceRange noDevicePrices (record { on = omega arith; start = omega arith; stop = omega arith; states = tt; cells = tt }) (c .prices .devices) (r .devices) i
 
-  cell-prices-at : (t i : ℕ) → CellPriceRange (C.cellPrices c t i)
+  pub cell-prices-at : (t i : ℕ) → CellPriceRange (C.cellPrices c t i)
   cell-prices-at t i = all-or CellPriceRange noCellPrices (record { blocks = tt; reserves = omega arith }) (C.devicePrices c i .cells) (prices-at i .cells) t
 
-  state-at : (i : ℕ) (z : ℤ) → natAbs (C.stateCost c i z) ≤ 1000000000
+  pub state-at : (i : ℕ) (z : ℤ) → natAbs (C.stateCost c i z) ≤ 1000000000
   unfolding C.stateCost
   state-at i (pos zero) = omega arith
   state-at i (pos (suc k)) = all-or (λ z. natAbs z ≤ 1000000000) (pos 0) (omega arith) (C.devicePrices c i .stateCosts) (prices-at i .states) k
   state-at i (negsuc k) = omega arith
 
-  shortfall-at : (z : ℕ) (k : C.Shortfall) → C.shortfallPrice (getD (c .prices .zones) z noSix) k ≤ 100
+  pub shortfall-at : (z : ℕ) (k : C.Shortfall) → C.shortfallPrice (getD (c .prices .zones) z noSix) k ≤ 100
   shortfall-at z C.rgu = six-at z .rgu
   shortfall-at z C.rgd = six-at z .rgd
   shortfall-at z C.scr = six-at z .scr
@@ -61,7 +61,7 @@ module _ (c : Case) (r : PricesRange (c .prices)) where
   shortfall-at z C.rru = six-at z .rru
   shortfall-at z C.rrd = six-at z .rrd
 
-  price-range : PriceRange c
+  pub price-range : PriceRange c
   price-range = record {
     mismatch = r .mismatch;
     overrun = r .overrun;
@@ -74,7 +74,7 @@ module _ (c : Case) (r : PricesRange (c .prices)) where
     reserve = λ t i. cell-prices-at t i .reserves;
   }
 
-fits-64 : (z : ℤ) → natAbs z < 2000000000000000000 → Fits 64 z
+pub fits-64 : (z : ℤ) → natAbs z < 2000000000000000000 → Fits 64 z
 fits-64 (pos v) h = omega arith
 fits-64 (negsuc v) h = omega arith
 

@@ -112,27 +112,27 @@ module _ (q : System) (p : Plan) (rq : SystemRange q) (rp : PlanRange q p) (ok :
       let e : b ≤ b = omega arith in
       omega (arith, s, mul-le-mul n e)
 
-  load-bound : (t z : ℕ) → t < intervals q → C.load q p t z ≤ 1600000
+  pub load-bound : (t z : ℕ) → t < intervals q → C.load q p t z ≤ 1600000
   unfolding C.load
   load-bound t z l = over-devices _ 100000 (λ i m. gate-le (member q z i && consuming q i) (power q p t i) 100000 (power-bound t i l m))
 
-  unit-bound : (t z : ℕ) → t < intervals q → C.largestUnit q p t z ≤ 100000
+  pub unit-bound : (t z : ℕ) → t < intervals q → C.largestUnit q p t z ≤ 100000
   unfolding C.largestUnit
   unit-bound t z l = largest-bound _ 100000 (upTo (devices q)) (all-upTo _ _ (λ i m. gate-le (member q z i && not (consuming q i)) (power q p t i) 100000 (power-bound t i l m)))
 
-  total-bound : (b : Bool) (t : ℕ) → t < intervals q → C.total q p b t ≤ 1600000
+  pub total-bound : (b : Bool) (t : ℕ) → t < intervals q → C.total q p b t ≤ 1600000
   unfolding C.total
   total-bound true t l = over-devices _ 100000 (λ i m. gate-le (consuming q i) (power q p t i) 100000 (power-bound t i l m))
   total-bound false t l = over-devices _ 100000 (λ i m. gate-le (not (consuming q i)) (power q p t i) 100000 (power-bound t i l m))
 
-  mismatch-bound : (t : ℕ) → t < intervals q → C.mismatchNeed q p t ≤ 3200000
+  pub mismatch-bound : (t : ℕ) → t < intervals q → C.mismatchNeed q p t ≤ 3200000
   unfolding C.mismatchNeed
   mismatch-bound t l = bound-sub (pos (C.total q p true t)) (pos (C.total q p false t)) 1600000 1600000 (total-bound true t l) (total-bound false t l)
 
-  zone-at : (z : ℕ) → z < zones q → ZoneRange (zone q z)
+  pub zone-at : (z : ℕ) → z < zones q → ZoneRange (zone q z)
   zone-at z m = all-at ZoneRange noZone (q .zones) (rq .eachZone) z m
 
-  required-bound : (t z : ℕ) (k : C.Shortfall) → t < intervals q → z < zones q → C.required q p t z k ≤ 6400000000
+  pub required-bound : (t z : ℕ) (k : C.Shortfall) → t < intervals q → z < zones q → C.required q p t z k ≤ 6400000000
   unfolding C.required
   required-bound t z C.rgu l m = let s = zone-at z m .shares in omega (arith, times _ _ 1000 1600000 (s .rgu) (load-bound t z l))
   required-bound t z C.rgd l m = let s = zone-at z m .shares in omega (arith, times _ _ 1000 1600000 (s .rgd) (load-bound t z l))
@@ -141,11 +141,11 @@ module _ (q : System) (p : Plan) (rq : SystemRange q) (rp : PlanRange q p) (ok :
   required-bound t z C.rru l m = omega (arith, minima-get (zone q z .minima) (zone-at z m .minima) t .rru)
   required-bound t z C.rrd l m = omega (arith, minima-get (zone q z .minima) (zone-at z m .minima) t .rrd)
 
-  shortfall-bound : (t z : ℕ) (k : C.Shortfall) → t < intervals q → z < zones q → maxZero (C.shortfallNeed q p t z k) ≤ 6400000000
+  pub shortfall-bound : (t z : ℕ) (k : C.Shortfall) → t < intervals q → z < zones q → maxZero (C.shortfallNeed q p t z k) ≤ 6400000000
   unfolding C.shortfallNeed
   shortfall-bound t z k l m = omega (arith, max-sub (C.required q p t z k) (1000 * C.held q p t z k), required-bound t z k l m)
 
-  duration-bound : (t : ℕ) → duration q t ≤ 360
+  pub duration-bound : (t : ℕ) → duration q t ≤ 360
   unfolding duration
   duration-bound t = omega (arith, all-getD 180 (q .halves) (rq .halves) t)
 
@@ -153,11 +153,11 @@ module _ (q : System) (p : Plan) (rq : SystemRange q) (rp : PlanRange q p) (ok :
   unfolding C.minutesIn
   minutes-bound from until t = gate-le (ltb from (midpoint q t) && leb (midpoint q t) until) (duration q t) 360 (duration-bound t)
 
-  energy-bound : (i w : ℕ) → i < devices q → C.energyIn q p i w ≤ 1728000000
+  pub energy-bound : (i w : ℕ) → i < devices q → C.energyIn q p i w ≤ 1728000000
   unfolding C.energyIn
   energy-bound i w m = over-intervals _ 36000000 (λ t l. times _ _ 360 100000 (minutes-bound _ _ t) (power-bound t i l m))
 
-  overrun-bound : (i w : ℕ) → i < devices q → w < length (device q i .energyWindows) → maxZero (C.overrunNeed q p i w) ≤ 4000000000
+  pub overrun-bound : (i w : ℕ) → i < devices q → w < length (device q i .energyWindows) → maxZero (C.overrunNeed q p i w) ≤ 4000000000
   unfolding C.overrunNeed
   overrun-bound i w m l = go (eqb (energyWindow q i w .kind) 0)
     where
@@ -174,7 +174,7 @@ module _ (c : Case) (p : Plan) (rq : SystemRange (c .system)) (rp : PlanRange (c
   abbrev q : System
   q = c .system
 
-  state-bound : (t i : ℕ) → i < devices q → bestState c p t i ≤ 4
+  pub state-bound : (t i : ℕ) → i < devices q → bestState c p t i ≤ 4
   unfolding bestState
   state-bound t i m = go (eqb (su q p t i) 1)
     where
@@ -183,10 +183,10 @@ module _ (c : Case) (p : Plan) (rq : SystemRange (c .system)) (rp : PlanRange (c
           (all-range (λ k. T (lasts q p t i k) → k ≤ 4) 1 _ (λ k a b h. omega (arith, device-at q p rq rp ok i m .states)))
       go false = omega arith
 
-  block-bound : (t i k : ℕ) → t < intervals q → i < devices q → filling (consuming q i) (C.blockPrice c t i) (cap q t i) (power q p t i) k ≤ 131071
+  pub block-bound : (t i k : ℕ) → t < intervals q → i < devices q → filling (consuming q i) (C.blockPrice c t i) (cap q t i) (power q p t i) k ≤ 131071
   block-bound t i k l m = omega (arith, filling-cap (C.blockPrice c t i) (cap q t i) (power q p t i) (consuming q i) k, all-getD 100000 (cell q t i .caps) (cell-at q p rq rp ok t i l m .caps) k)
 
-  device-fits : (t i : ℕ) → t < intervals q → i < devices q
+  pub device-fits : (t i : ℕ) → t < intervals q → i < devices q
       → FitsDevice (record { started = su q p t i; stopped = sd q p t i; state = bestState c p t i; blocks = map (filling (consuming q i) (C.blockPrice c t i) (cap q t i) (power q p t i)) blocks })
   unfolding su sd range
   device-fits t i l m = record {

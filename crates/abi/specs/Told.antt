@@ -1,0 +1,46 @@
+-- What hosts in other languages are told: a word and four numbers for each verdict, and for each case that is inspected.
+use mathlib.Core.Path.{_≡_}
+use mathlib.Core.List.{List, [], _∷_, _++_}
+use Prim.Native.Nat.{ℕ, _≤_, _<_}
+use lib.ListN.{length, drop}
+use Rattle.bits.specs.Faults.{numberOf, returnedBy}
+use Rattle.bits.specs.Twos.{toTwos}
+use Rattle.model.specs.declared.Subject.{Subject}
+use Rattle.model.specs.declared.Subject.the-variants as S
+use Rattle.model.specs.declared.Verdict.{Verdict}
+use Rattle.model.specs.declared.Verdict.the-variants.{Accepted, Broken, Refused}
+use Rattle.model.specs.Judgement.{readCase}
+use Rattle.abi.specs.declared.Told.{Told}
+use Rattle.plan_unit.specs.declared.Inspected.{Inspected}
+use Rattle.plan_unit.specs.declared.Inspected.the-variants as I
+use Rattle.plan_unit.specs.Judges.{Judges}
+use Rattle.plan_unit.specs.Inspection.{inspectedOf}
+
+-- 2 a refused case, 3 a refused plan, 4 a result buffer too short
+abbrev pub wordOf : Subject → ℕ
+wordOf S.Case = 2
+wordOf S.Plan = 3
+wordOf S.Result = 4
+
+-- 0 accepted: the surplus in two's complement; 1 broken: rule, interval, device, window; 2 to 4 refused: number, bit or bytes
+abbrev pub toldOf : Verdict → Told
+toldOf (Accepted z) = record { word = 0; first = toTwos 64 z; second = 0; third = 0; fourth = 0 }
+toldOf (Broken b) = record { word = 1; first = b .rule; second = b .interval; third = b .device; fourth = b .window }
+toldOf (Refused s f) = record { word = wordOf s; first = numberOf f; second = returnedBy f; third = 0; fourth = 0 }
+
+-- 0 passes: devices, intervals, zones; 2 refused: number, bit
+abbrev pub toldCase : Inspected → Told
+toldCase (I.Counts d n z) = record { word = 0; first = d; second = n; third = z; fourth = 0 }
+toldCase (I.Refused f) = record { word = 2; first = numberOf f; second = returnedBy f; third = 0; fourth = 0 }
+
+abbrev pub figuresOf : Told → List ℕ
+figuresOf t = t .first ∷ t .second ∷ t .third ∷ t .fourth ∷ []
+
+-- four numbers stored at the front of a lent slice; nothing is done, and 5 is answered, where it has fewer places
+pub record HostJudges (cs ps before after figures told : List ℕ) (r : ℕ) : Type 0 where
+  pub short : length figures < 4 → (r ≡ 5) × (after ≡ before) × (told ≡ figures)
+  pub judges : 4 ≤ length figures → (v : Verdict) × Judges cs ps before after v × (r ≡ toldOf v .word) × (told ≡ figuresOf (toldOf v) ++ drop 4 figures)
+
+pub record HostInspects (cs figures told : List ℕ) (r : ℕ) : Type 0 where
+  pub short : length figures < 4 → (r ≡ 5) × (told ≡ figures)
+  pub inspects : 4 ≤ length figures → (r ≡ toldCase (inspectedOf (readCase cs)) .word) × (told ≡ figuresOf (toldCase (inspectedOf (readCase cs))) ++ drop 4 figures)

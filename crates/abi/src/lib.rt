@@ -1,0 +1,137 @@
+// The judgement for hosts in other languages: a word and four numbers.
+use model::Subject;
+use model::Verdict;
+use plan_unit::Inspected;
+ghost use mathlib.Core.Path.{_≡_};
+ghost use mathlib.Core.List.{_++_};
+ghost use Prim.Native.Nat.{_≤_};
+ghost use lib.ListN.{length, drop};
+ghost use Rattle.abi.specs.Told.{wordOf, toldOf, toldCase, figuresOf, HostJudges, HostInspects};
+
+// A verdict for hosts in other languages: a word and four numbers.
+pub struct Told {
+    pub word: u64,
+    pub first: u64,
+    pub second: u64,
+    pub third: u64,
+    pub fourth: u64,
+}
+
+fn word_of(s: Subject) -> u64
+    ensures { λ r. ⌜ r ≡ wordOf s ⌝ }
+{
+    match s {
+        Subject::Case => 2,
+        Subject::Plan => 3,
+        Subject::Result => 4,
+    }
+}
+
+fn tell(v: Verdict) -> Told
+    ensures { λ r. ⌜ r ≡ toldOf v ⌝ }
+{
+    match v {
+        Verdict::Accepted(z) => {
+            let surplus = writing::twos(z);
+            Told {
+                word: 0,
+                first: surplus,
+                second: 0,
+                third: 0,
+                fourth: 0,
+            }
+        }
+        Verdict::Broken(b) => {
+            Told {
+                word: 1,
+                first: b.rule,
+                second: b.interval,
+                third: b.device,
+                fourth: b.window,
+            }
+        }
+        Verdict::Refused(s, f) => {
+            let word = word_of(s);
+            let number = plan_unit::number_of(f);
+            let returned = plan_unit::returned_by(f);
+            Told {
+                word,
+                first: number,
+                second: returned,
+                third: 0,
+                fourth: 0,
+            }
+        }
+    }
+}
+
+fn tell_case(x: Inspected) -> Told
+    ensures { λ r. ⌜ r ≡ toldCase x ⌝ }
+{
+    match x {
+        Inspected::Counts(d, n, z) => Told {
+            word: 0,
+            first: d,
+            second: n,
+            third: z,
+            fourth: 0,
+        },
+        Inspected::Refused(f) => {
+            let number = plan_unit::number_of(f);
+            let returned = plan_unit::returned_by(f);
+            Told {
+                word: 2,
+                first: number,
+                second: returned,
+                third: 0,
+                fourth: 0,
+            }
+        }
+    }
+}
+
+// The four numbers at the front of a slice.
+fn store(figures: &mut [u64], t: Told)
+    requires { ⌜ 4 ≤ length (now figures) ⌝ }
+    ensures { λ _. ⌜ now (figures .exit) ≡ figuresOf t ++ drop 4 (now (figures .entry)) ⌝ }
+{
+    figures[3] = t.fourth;
+    figures[2] = t.third;
+    figures[1] = t.second;
+    figures[0] = t.first;
+}
+
+// `judge` for hosts: the word and the figures of the verdict; 5, with nothing done, where `figures` has fewer than four places.
+#[no_mangle]
+pub extern "C" fn kadunfo_judge(
+    case: &[u8],
+    plan: &[u8],
+    result: &mut [u8],
+    figures: &mut [u64],
+) -> u64
+    ensures { λ r. ⌜ HostJudges (now (case .entry)) (now (plan .entry)) (now (result .entry)) (now (result .exit)) (now (figures .entry)) (now (figures .exit)) r ⌝ }
+{
+    if figures.len() < 4 {
+        return 5;
+    }
+    let v = plan_unit::judge(case, plan, result);
+    let t = tell(v);
+    let word = t.word;
+    store(figures, t);
+    word
+}
+
+// `inspect` for hosts: 0 and the counts, or 2 and the fault; 5, with nothing done, where `figures` has fewer than four places.
+#[no_mangle]
+pub extern "C" fn kadunfo_inspect(case: &[u8], figures: &mut [u64]) -> u64
+    ensures { λ r. ⌜ HostInspects (now (case .entry)) (now (figures .entry)) (now (figures .exit)) r ⌝ }
+{
+    if figures.len() < 4 {
+        return 5;
+    }
+    let x = plan_unit::inspect(case);
+    let t = tell_case(x);
+    let word = t.word;
+    store(figures, t);
+    word
+}

@@ -1,0 +1,4 @@
+pub mod Header
+pub mod Zones
+pub mod Devices
+pub mod Whole

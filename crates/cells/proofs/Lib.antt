@@ -1,0 +1,3 @@
+pub mod BlockLoop
+pub mod CellSteps
+pub mod CellLoop

@@ -1,0 +1,4 @@
+pub mod Counting
+pub mod Steps
+pub mod HeadSteps
+pub mod DeviceSteps

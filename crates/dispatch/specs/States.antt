@@ -1,0 +1,96 @@
+-- The startup state of a device's record, for a downtime: costs kept from 0.
+use mathlib.Core.Path.{_≡_, refl, sym, ap, ap₂, _∙_}
+use mathlib.Core.Bool.{Bool, true, false, _&&_, cond}
+use mathlib.Core.List.{List, [], _∷_, map}
+use Prim.Native.Nat.{ℕ, zero, suc, _+_, _-_, _≤_, _<_, min}
+use native.Mathlib.Omega.{arith}
+use native.Mathlib.Numerals.{add-one}
+use lib.Dec.{ltb, leb}
+use lib.ListN.{getD, length, take, length-take, length-map}
+use lib.IntN.{ℤ, pos}
+use lib.Signed.{ltZ}
+use Rattle.numbers.specs.Sum.{All}
+use Rattle.numbers.specs.State.{best}
+use Rattle.bits.specs.Pick.{pick}
+use Rattle.model.specs.Base.{range}
+use Rattle.model.specs.Views.{less, stateIn, statesOf}
+use Rattle.model.specs.declared.State.{State}
+use Rattle.model.specs.declared.DeviceRecord.{DeviceRecord}
+use Rattle.dispatch.specs.declared.Chosen.{Chosen}
+use Rattle.dispatch.specs.Filled.{kept-lower}
+
+abbrev pub noState : State
+noState = record { longest = 0; cost = 0 }
+
+-- number n from 1; 0 is none, at cost 0
+unfoldable pub costOf : DeviceRecord → ℕ → ℤ
+costOf d zero = pos 0
+costOf d (suc k) = less 1000000000 (getD (d .states) k noState .cost)
+
+unfoldable pub lastsOf : DeviceRecord → ℕ → ℕ → Bool
+lastsOf d downtime zero = true
+lastsOf d downtime (suc k) = leb downtime (getD (d .states) k noState .longest)
+
+-- the lowest-numbered cheapest state that lasts the downtime, and none unless it costs below 0
+unfoldable pub stateOf : DeviceRecord → ℕ → ℕ
+stateOf d downtime = best (costOf d) (lastsOf d downtime) 0 (range 1 (length (statesOf d)))
+
+-- the cheaper of the choice so far and state n, where that lasts
+abbrev pub chosen : Chosen → State → ℕ → ℕ → Chosen
+chosen b s n downtime = pick (leb downtime (s .longest) && ltb (s .cost) (b .least)) (record { state = n; least = s .cost }) b
+
+-- the choice among the first k of n states
+module _ (d : DeviceRecord) (downtime n : ℕ) where
+  abbrev bestFrom : ℕ → List ℕ → ℕ
+  bestFrom = best (costOf d) (lastsOf d downtime)
+
+  pub record Best (k : ℕ) (b : Chosen) : Type 0 where
+    pub rest : bestFrom 0 (range 1 n) ≡ bestFrom (b .state) (range (suc k) (n - k))
+    pub kept : costOf d (b .state) ≡ less 1000000000 (b .least)
+
+  pub best-start : Best 0 (record { state = 0; least = 1000000000 })
+  unfolding costOf
+  best-start = record { rest = let z : n - 0 ≡ n = omega arith in rw z refl; kept = refl }
+
+  pub best-next : (k : ℕ) (b r : Chosen) → k < n → Best k b → r ≡ chosen b (getD (d .states) k noState) (k + 1) downtime → Best (k + 1) r
+  unfolding range costOf lastsOf
+  best-next k b r l h e = rw (e, add-one k) (go (leb downtime (s .longest)) (ltb (s .cost) (b .least)) refl refl)
+    where
+      s : State
+      s = getD (d .states) k noState
+
+      left : ℕ
+      left = n - suc k
+
+      test : ltZ (costOf d (suc k)) (costOf d (b .state)) ≡ ltb (s .cost) (b .least)
+      test = ap (λ (z : ℤ). ltZ (less 1000000000 (s .cost)) z) (h .kept) ∙ sym (kept-lower 1000000000 (s .cost) (b .least))
+
+      step : bestFrom 0 (range 1 n) ≡ bestFrom (cond (leb downtime (s .longest) && ltb (s .cost) (b .least)) (suc k) (b .state)) (range (suc (suc k)) left)
+      step =
+          let m : n - k ≡ suc left = omega arith in
+          h .rest
+          ∙ ap (λ (j : ℕ). bestFrom (b .state) (range (suc k) j)) m
+          ∙ ap (λ (t : Bool). bestFrom (cond (leb downtime (s .longest) && t) (suc k) (b .state)) (range (suc (suc k)) left)) test
+
+      go : (x y : Bool) → leb downtime (s .longest) ≡ x → ltb (s .cost) (b .least) ≡ y
+          → Best (suc k) (pick (x && y) (record { state = suc k; least = s .cost }) b)
+      go true true f g = record { rest = rw (f, g) at step; kept = refl }
+      go true false f g = record { rest = rw (f, g) at step; kept = h .kept }
+      go false y f g = record { rest = rw f at step; kept = h .kept }
+
+  pub best-end : (k : ℕ) (b : Chosen) → length (d .states) ≡ 4 → n ≡ min (d .nstates) 4 → n ≤ k → Best k b → b .state ≡ stateOf d downtime
+  unfolding range stateOf
+  best-end k b four e l h =
+      let z : n - k ≡ 0 = omega arith in
+      let m : n ≡ length (statesOf d) = e ∙ sym (length-map (take (d .nstates) (d .states)) stateIn ∙ length-take (d .nstates) (d .states) ∙ ap (λ (j : ℕ). min (d .nstates) j) four) in
+      sym (ap (λ (j : ℕ). bestFrom 0 (range 1 j)) (sym m) ∙ h .rest ∙ rw z refl)
+
+-- costs and tests that agree on the list choose alike
+pub best-same : (f g : ℕ → ℤ) (x y : ℕ → Bool) (b : ℕ) (ks : List ℕ) → f b ≡ g b → All (λ k. (f k ≡ g k) × (x k ≡ y k)) ks → best f x b ks ≡ best g y b ks
+best-same f g x y b [] e h = refl
+best-same f g x y b (k ∷ ks) e h =
+    rw (e, h .0 .0, h .0 .1) (best-same f g x y (cond (y k && ltZ (g k) (g b)) k b) ks (go (y k && ltZ (g k) (g b))) (h .1))
+  where
+    go : (t : Bool) → f (cond t k b) ≡ g (cond t k b)
+    go true = h .0 .0
+    go false = e

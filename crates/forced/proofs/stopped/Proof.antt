@@ -1,0 +1,19 @@
+-- `forced::stopped` meets its contract: the commitments on both sides are those of the plan. Assumes nothing.
+use borrow.Author.Needs.{needs}
+use Rattle.forced.proofs.stopped.Statement.{statement}
+use Rattle.forced.proofs.stopped.Tie as tie
+
+on-before-requires : tie.Need-on-before-requires
+on-before-requires c κs = search needs
+
+on-at-requires : tie.Need-on-at-requires
+on-at-requires c κs = search needs
+
+rises-requires : tie.Need-rises-requires
+rises-requires c κs = search needs
+
+returns : tie.Need-returns
+returns c = (cc, search needs)
+
+pub stopped-spec : {M : Type 1} → statement M
+stopped-spec = tie.close (tie.spec on-before-requires on-at-requires rises-requires returns)

@@ -1,0 +1,5 @@
+pub mod Sums
+pub mod Places
+pub mod Rows
+pub mod Tied
+pub mod Table

@@ -1,0 +1,3 @@
+pub mod Judges
+pub mod Inspection
+pub mod Steps

@@ -1,0 +1,13 @@
+-- `rules::state_kept` meets its contract, by the time of the state. Assumes nothing.
+use borrow.Author.Tests.{lt-ltb, le-ltb}
+use Rattle.rules.proofs.state_kept.Statement.{statement}
+use Rattle.rules.proofs.state_kept.Tie as tie
+
+returns : tie.Need-returns
+returns c = simp (lt-ltb _ _ (c .if1 .taken))
+
+returns-2 : tie.Need-returns-2
+returns-2 c = simp (le-ltb _ _ (c .if1 .left))
+
+pub state-kept-spec : {M : Type 1} → statement M
+state-kept-spec = tie.close (tie.spec returns returns-2)

@@ -1,0 +1,8 @@
+pub mod First
+pub mod Sign
+pub mod Tests
+pub mod Apart
+pub mod Figures
+pub mod Ties
+pub mod Windows
+pub mod Day

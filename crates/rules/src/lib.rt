@@ -1,0 +1,706 @@
+// The numbered rules: the first that a plan breaks.
+ghost use mathlib.Core.Path.{_≡_};
+ghost use mathlib.Core.Bool.{_&&_};
+ghost use Prim.Native.Nat.{_+_, _-_, _*_, _<_, _≤_, min};
+ghost use lib.Dec.{leb, eqb, ltb};
+ghost use lib.ListN.{length};
+ghost use lib.IntN.{pos, _-ℤ_};
+ghost use lib.Signed.{leZ};
+ghost use Rattle.bits.specs.Pick.{pick};
+ghost use Rattle.model.specs.Base.{upTo, implies, gather};
+ghost use Rattle.model.specs.Breaches.{breaches};
+ghost use Rattle.model.specs.Views.{caseIn, planIn, Ready};
+ghost use Rattle.rules.specs.First.{first, breachAt, firstIn};
+ghost use Rattle.rules.specs.Sign.{mayRise, mayFall};
+ghost use Rattle.rules.specs.Tests.{Sized, Small, onTests, powerTests, rampTests, offTests, stateTests, tests};
+ghost use Rattle.rules.specs.Apart.{changedAt, farAt, apartAt};
+ghost use Rattle.rules.specs.Figures.{settingAt, cellAt, powerAt, previousAt, figuresFrom, figuresAt, Fits};
+ghost use Rattle.rules.specs.Windows.{countedStart, startsAt, windowAt, windowHere, windowCount};
+ghost use Rattle.rules.specs.Day.{intervalBreaches, dayBreaches, dayWindows};
+use model::Breach;
+use model::CaseRecord;
+use model::DeviceRecord;
+use model::StartWindow;
+
+// Every rule holds, or the first that is broken.
+pub enum Check {
+    Held,
+    Broken(Breach),
+}
+
+// The figures that the rules of one interval and device compare; `rested` and `ran` are the verdicts of rules 3 and 4.
+pub struct Figures {
+    pub status: u64,
+    pub on: u64,
+    pub started: u64,
+    pub rested: bool,
+    pub ran: bool,
+    pub start: u64,
+    pub minutes: u64,
+    pub power: u64,
+    pub previous: u64,
+    pub forced: u64,
+    pub online: u64,
+    pub pmin: u64,
+    pub pmax: u64,
+    pub room: u64,
+    pub rgu: u64,
+    pub rgd: u64,
+    pub scr: u64,
+    pub nsc: u64,
+    pub rruon: u64,
+    pub rruoff: u64,
+    pub rrdon: u64,
+    pub rrdoff: u64,
+}
+
+// "A place is interval, device, window from 1, else 0."
+fn broken(rule: u64, t: usize, i: usize) -> Check
+    requires { ⌜ (t < 48) × (i < 16) ⌝ }
+    ensures { λ r. ⌜ r ≡ Check.Broken (breachAt t i rule) ⌝ }
+{
+    let interval = t as u64 + 1;
+    let device = i as u64 + 1;
+    Check::Broken(Breach {
+        rule,
+        interval,
+        device,
+        window: 0,
+    })
+}
+
+// Rules 7 to 14: at most a limit while on (or off).
+fn at_most(x: u64, limit: u64, on: u64) -> bool
+    requires { ⌜ on ≤ 1 ⌝ }
+    ensures { λ r. ⌜ r ≡ leb x (limit * on) ⌝ }
+{
+    if on == 0 { x == 0 } else { x <= limit }
+}
+
+// Rules 7 to 11.
+fn while_on(d: DeviceRecord, f: Figures, t: usize, i: usize) -> Check
+    requires { ⌜ (t < 48) × (i < 16) × Sized f ⌝ }
+    ensures { λ r. ⌜ r ≡ firstIn t i (onTests d f) ⌝ }
+{
+    let up = f.rgu + f.scr;
+    if !at_most(f.rgu, d.limits[0], f.on) {
+        return broken(7, t, i);
+    }
+    if !at_most(f.rgd, d.limits[1], f.on) {
+        return broken(8, t, i);
+    }
+    if !at_most(up, d.limits[2], f.on) {
+        return broken(9, t, i);
+    }
+    if !at_most(up + f.rruon, d.limits[4], f.on) {
+        return broken(10, t, i);
+    }
+    if !at_most(f.rgd + f.rrdon, d.limits[6], f.on) {
+        return broken(11, t, i);
+    }
+    Check::Held
+}
+
+// The one for a consuming device, the other for a producing one.
+fn by_side(side: u64, consuming: u64, producing: u64) -> u64
+    requires { ⌜ (consuming ≤ 300000) × (producing ≤ 300000) ⌝ }
+    ensures { λ r. ⌜ (r ≡ pick (eqb side 1) consuming producing) × (r ≤ 300000) ⌝ }
+{
+    if side == 1 { consuming } else { producing }
+}
+
+// Rule 15.
+fn none_held(side: u64, consuming: u64, producing: u64) -> bool
+    requires { ⌜ (consuming ≤ 300000) × (producing ≤ 300000) ⌝ }
+    ensures { λ r. ⌜ r ≡ eqb (pick (eqb side 1) consuming producing) 0 ⌝ }
+{
+    let held = by_side(side, consuming, producing);
+    held == 0
+}
+
+// Rules 12 to 15.
+fn while_off(d: DeviceRecord, f: Figures, t: usize, i: usize) -> Check
+    requires { ⌜ (t < 48) × (i < 16) × Sized f ⌝ }
+    ensures { λ r. ⌜ r ≡ firstIn t i (offTests d f) ⌝ }
+{
+    let off = 1 - f.on;
+    let up = f.nsc + f.rruoff;
+    if !at_most(f.nsc, d.limits[3], off) {
+        return broken(12, t, i);
+    }
+    if !at_most(up, d.limits[5], off) {
+        return broken(13, t, i);
+    }
+    if !at_most(f.rrdoff, d.limits[7], off) {
+        return broken(14, t, i);
+    }
+    if !none_held(d.side, up, f.rrdoff) {
+        return broken(15, t, i);
+    }
+    Check::Held
+}
+
+// Rules 16 and 18: a power and the side's reserves, at most pmax while on (or off).
+fn roof_kept(side: u64, consuming: u64, producing: u64, power: u64, pmax: u64, on: u64) -> bool
+    requires { ⌜ (consuming ≤ 300000) × (producing ≤ 300000) × (power ≤ 10000000) × (on ≤ 1) ⌝ }
+    ensures { λ r. ⌜ r ≡ leb (power + pick (eqb side 1) consuming producing) (pmax * on) ⌝ }
+{
+    let held = by_side(side, consuming, producing);
+    at_most(power + held, pmax, on)
+}
+
+// Rule 17: the online power less the lowering reserves, at least pmin while on.
+fn above_floor(pmin: u64, on: u64, online: u64, low: u64) -> bool
+    requires { ⌜ (on ≤ 1) × (pmin ≤ 100000) × (low ≤ 300000) ⌝ }
+    ensures { λ r. ⌜ r ≡ leZ (pos (pmin * on)) (pos online -ℤ pos low) ⌝ }
+{
+    if on == 0 {
+        low <= online
+    } else {
+        pmin + low <= online
+    }
+}
+
+fn floor_kept(side: u64, consuming: u64, producing: u64, pmin: u64, on: u64, online: u64) -> bool
+    requires { ⌜ (consuming ≤ 300000) × (producing ≤ 300000) × (on ≤ 1) × (pmin ≤ 100000) ⌝ }
+    ensures { λ r. ⌜ r ≡ leZ (pos (pmin * on)) (pos online -ℤ pos (pick (eqb side 1) consuming producing)) ⌝ }
+{
+    let low = by_side(side, consuming, producing);
+    above_floor(pmin, on, online, low)
+}
+
+// Rule 19.
+fn room_kept(power: u64, room: u64) -> bool
+    ensures { λ r. ⌜ r ≡ leb power room ⌝ }
+{
+    power <= room
+}
+
+// Rules 16 to 19.
+fn powers_kept(d: DeviceRecord, f: Figures, t: usize, i: usize) -> Check
+    requires { ⌜ (t < 48) × (i < 16) × Sized f ⌝ }
+    ensures { λ r. ⌜ r ≡ firstIn t i (powerTests d f) ⌝ }
+{
+    let ups = f.rgu + f.scr + f.rruon;
+    let downs = f.rgd + f.rrdon;
+    if !roof_kept(d.side, downs, ups, f.online, f.pmax, f.on) {
+        return broken(16, t, i);
+    }
+    if !floor_kept(d.side, ups, downs, f.pmin, f.on, f.online) {
+        return broken(17, t, i);
+    }
+    if !roof_kept(
+        d.side,
+        f.rrdoff,
+        f.nsc + f.rruoff,
+        f.forced,
+        f.pmax,
+        1 - f.on,
+    ) {
+        return broken(18, t, i);
+    }
+    if !room_kept(f.power, f.room) {
+        return broken(19, t, i);
+    }
+    Check::Held
+}
+
+// Rule 5.
+fn rise_kept(
+    power: u64,
+    previous: u64,
+    minutes: u64,
+    up: u64,
+    starting: u64,
+    on: u64,
+    started: u64,
+) -> bool
+    requires { ⌜ (previous ≤ 10000000) × (minutes ≤ 360) × (up ≤ 100000) × (starting ≤ 100000) × (on ≤ 1) × (started ≤ on) ⌝ }
+    ensures { λ r. ⌜ r ≡ leZ (pos power -ℤ pos previous) (mayRise minutes up starting on started) ⌝ }
+{
+    if on == 0 {
+        power <= previous + minutes * starting
+    } else {
+        if started == 0 {
+            power <= previous + minutes * up
+        } else {
+            power <= previous + minutes * starting
+        }
+    }
+}
+
+// Rule 6.
+fn fall_kept(power: u64, previous: u64, minutes: u64, down: u64, stopping: u64, on: u64) -> bool
+    requires { ⌜ (power ≤ 10000000) × (minutes ≤ 360) × (down ≤ 100000) × (stopping ≤ 100000) × (on ≤ 1) ⌝ }
+    ensures { λ r. ⌜ r ≡ leZ (pos previous -ℤ pos power) (mayFall minutes down stopping on) ⌝ }
+{
+    if on == 0 {
+        previous <= power + minutes * stopping
+    } else {
+        previous <= power + minutes * down
+    }
+}
+
+// Rules 5 and 6.
+fn ramps_kept(d: DeviceRecord, f: Figures, t: usize, i: usize) -> Check
+    requires { ⌜ (t < 48) × (i < 16) × Sized f × Small d ⌝ }
+    ensures { λ r. ⌜ r ≡ firstIn t i (rampTests d f) ⌝ }
+{
+    let up = d.ramps[0];
+    let down = d.ramps[1];
+    let starting = d.ramps[2];
+    let stopping = d.ramps[3];
+    if !rise_kept(
+        f.power,
+        f.previous,
+        f.minutes,
+        up,
+        starting,
+        f.on,
+        f.started,
+    ) {
+        return broken(5, t, i);
+    }
+    if !fall_kept(f.power, f.previous, f.minutes, down, stopping, f.on) {
+        return broken(6, t, i);
+    }
+    Check::Held
+}
+
+// Rule 1.
+fn status_kept(status: u64, on: u64) -> bool
+    ensures { λ r. ⌜ r ≡ (implies (eqb status 1) (eqb on 1) && implies (eqb status 2) (eqb on 0)) ⌝ }
+{
+    if status == 1 {
+        on == 1
+    } else {
+        if status == 2 { on == 0 } else { true }
+    }
+}
+
+// The minimum of the initial state.
+fn initial_minimum(on0: u64, minup: u64, mindown: u64) -> u64
+    ensures { λ r. ⌜ r ≡ pick (eqb on0 1) minup mindown ⌝ }
+{
+    if on0 == 1 { minup } else { mindown }
+}
+
+// Rule 2.
+fn state_kept(so: u64, least: u64, on: u64, on0: u64) -> bool
+    ensures { λ r. ⌜ r ≡ implies (ltb so least) (eqb on on0) ⌝ }
+{
+    if so < least { on == on0 } else { true }
+}
+
+fn initial_kept(start: u64, d: DeviceRecord, on: u64) -> bool
+    requires { ⌜ (start ≤ 17280) × (d .minutes0 ≤ 60000) ⌝ }
+    ensures { λ r. ⌜ r ≡ implies (ltb (start + d .minutes0) (pick (eqb (d .on0) 1) (d .minup) (d .mindown))) (eqb on (d .on0)) ⌝ }
+{
+    let least = initial_minimum(d.on0, d.minup, d.mindown);
+    state_kept(start + d.minutes0, least, on, d.on0)
+}
+
+// Rules 1 to 4.
+fn states_kept(d: DeviceRecord, f: Figures, t: usize, i: usize) -> Check
+    requires { ⌜ (t < 48) × (i < 16) × Sized f × Small d ⌝ }
+    ensures { λ r. ⌜ r ≡ firstIn t i (stateTests d f) ⌝ }
+{
+    if !status_kept(f.status, f.on) {
+        return broken(1, t, i);
+    }
+    if !initial_kept(f.start, d, f.on) {
+        return broken(2, t, i);
+    }
+    if !f.rested {
+        return broken(3, t, i);
+    }
+    if !f.ran {
+        return broken(4, t, i);
+    }
+    Check::Held
+}
+
+// Rules 1 to 19 of one interval and device.
+fn cell_kept(d: DeviceRecord, f: Figures, t: usize, i: usize) -> Check
+    requires { ⌜ (t < 48) × (i < 16) × Sized f × Small d ⌝ }
+    ensures { λ r. ⌜ r ≡ firstIn t i (tests d f) ⌝ }
+{
+    let states = states_kept(d, f, t, i);
+    let Check::Held = states else {
+        return states;
+    };
+    let ramps = ramps_kept(d, f, t, i);
+    let Check::Held = ramps else {
+        return ramps;
+    };
+    let on = while_on(d, f, t, i);
+    let Check::Held = on else {
+        return on;
+    };
+    let off = while_off(d, f, t, i);
+    let Check::Held = off else {
+        return off;
+    };
+    powers_kept(d, f, t, i)
+}
+
+// What must lie back: starts or stops, and by how many minutes.
+pub struct Rest {
+    pub starts: bool,
+    pub least: u64,
+    pub on0: u64,
+}
+
+fn changes(r: Rest, plan: &[u32], e: usize, i: usize) -> u64
+    requires { ⌜ (e < 48) × (i < 16) × (length (now plan) ≡ 7680) ⌝ }
+    ensures { λ x. ⌜ x ≡ changedAt r (now (plan .entry)) e i ⌝ }
+{
+    if r.starts {
+        forced::started(r.on0, plan, e, i)
+    } else {
+        forced::stopped(r.on0, plan, e, i)
+    }
+}
+
+fn far_back(r: Rest, plan: &[u32], forced: &[u32], t: usize, i: usize, e: usize) -> bool
+    requires { ⌜ (t < 48) × (i < 16) × (e < 48) × (length (now plan) ≡ 7680) × (length (now forced) ≡ 817) ⌝ }
+    ensures { λ x. ⌜ x ≡ farAt r (now (plan .entry)) (now (forced .entry)) t i e ⌝ }
+{
+    let gone = forced::less(forced::word(forced, t), forced::word(forced, e));
+    if r.least <= gone {
+        return true;
+    }
+    let changed = changes(r, plan, e, i);
+    changed != 1
+}
+
+fn all_far_back(r: Rest, plan: &[u32], forced: &[u32], t: usize, i: usize) -> bool
+    requires { ⌜ (t < 48) × (i < 16) × (length (now plan) ≡ 7680) × (length (now forced) ≡ 817) ⌝ }
+    ensures { λ x. ⌜ x ≡ apartAt r (now (plan .entry)) (now (forced .entry)) t i ⌝ }
+{
+    let mut e = 0;
+    while e < t {
+        if !far_back(r, plan, forced, t, i, e) {
+            return false;
+        }
+        e += 1;
+    }
+    true
+}
+
+// Rules 3 and 4.
+fn rest_kept(changed: u64, r: Rest, plan: &[u32], forced: &[u32], t: usize, i: usize) -> bool
+    requires { ⌜ (t < 48) × (i < 16) × (length (now plan) ≡ 7680) × (length (now forced) ≡ 817) ⌝ }
+    ensures { λ x. ⌜ x ≡ implies (eqb changed 1) (apartAt r (now (plan .entry)) (now (forced .entry)) t i) ⌝ }
+{
+    if changed == 1 {
+        all_far_back(r, plan, forced, t, i)
+    } else {
+        true
+    }
+}
+
+// A device's part of a plan's interval.
+pub struct Setting {
+    pub on: u64,
+    pub online: u64,
+    pub rgu: u64,
+    pub rgd: u64,
+    pub scr: u64,
+    pub nsc: u64,
+    pub rruon: u64,
+    pub rruoff: u64,
+    pub rrdon: u64,
+    pub rrdoff: u64,
+}
+
+// A device's part of a case's interval; `room` is the sum of the blocks' caps.
+pub struct Cell {
+    pub status: u64,
+    pub pmin: u64,
+    pub pmax: u64,
+    pub room: u64,
+}
+
+fn setting_at(plan: &[u32], b: usize) -> Setting
+    requires { ⌜ b + 9 < length (now plan) ⌝ }
+    ensures { λ r. ⌜ r ≡ settingAt (now (plan .entry)) b ⌝ }
+{
+    let on = forced::word(plan, b);
+    let online = forced::word(plan, b + 1);
+    let rgu = forced::word(plan, b + 2);
+    let rgd = forced::word(plan, b + 3);
+    let scr = forced::word(plan, b + 4);
+    let nsc = forced::word(plan, b + 5);
+    let rruon = forced::word(plan, b + 6);
+    let rruoff = forced::word(plan, b + 7);
+    let rrdon = forced::word(plan, b + 8);
+    let rrdoff = forced::word(plan, b + 9);
+    Setting {
+        on,
+        online,
+        rgu,
+        rgd,
+        scr,
+        nsc,
+        rruon,
+        rruoff,
+        rrdon,
+        rrdoff,
+    }
+}
+
+fn cell_at(table: &[u32], a: usize) -> Cell
+    requires { ⌜ a + 7 < length (now table) ⌝ }
+    ensures { λ r. ⌜ r ≡ cellAt (now (table .entry)) a ⌝ }
+{
+    let status = forced::word(table, a);
+    let pmin = forced::word(table, a + 1);
+    let pmax = forced::word(table, a + 2);
+    let room = forced::word(table, a + 4)
+        + forced::word(table, a + 5)
+        + forced::word(table, a + 6)
+        + forced::word(table, a + 7);
+    Cell {
+        status,
+        pmin,
+        pmax,
+        room,
+    }
+}
+
+fn power_at(forced: &[u32], t: usize, i: usize) -> u64
+    requires { ⌜ (t < 48) × (i < 16) × (length (now forced) ≡ 817) ⌝ }
+    ensures { λ r. ⌜ r ≡ powerAt (now (forced .entry)) t i ⌝ }
+{
+    forced::word(forced, 49 + i * 48 + t)
+}
+
+// "Previous p in interval 1 is initial power."
+fn previous_power(power0: u64, forced: &[u32], t: usize, i: usize) -> u64
+    requires { ⌜ (t < 48) × (i < 16) × (length (now forced) ≡ 817) ⌝ }
+    ensures { λ r. ⌜ r ≡ previousAt power0 (now (forced .entry)) t i ⌝ }
+{
+    if t == 0 {
+        power0
+    } else {
+        power_at(forced, t - 1, i)
+    }
+}
+
+fn gathered(
+    s: Setting,
+    w: Cell,
+    started: u64,
+    rested: bool,
+    ran: bool,
+    start: u64,
+    minutes: u64,
+    power: u64,
+    previous: u64,
+) -> Figures
+    ensures { λ r. ⌜ r ≡ figuresFrom s w started rested ran start minutes power previous ⌝ }
+{
+    let forced = forced::less(power, s.online);
+    Figures {
+        status: w.status,
+        on: s.on,
+        started,
+        rested,
+        ran,
+        start,
+        minutes,
+        power,
+        previous,
+        forced,
+        online: s.online,
+        pmin: w.pmin,
+        pmax: w.pmax,
+        room: w.room,
+        rgu: s.rgu,
+        rgd: s.rgd,
+        scr: s.scr,
+        nsc: s.nsc,
+        rruon: s.rruon,
+        rruoff: s.rruoff,
+        rrdon: s.rrdon,
+        rrdoff: s.rrdoff,
+    }
+}
+
+fn figures_at(
+    d: DeviceRecord,
+    table: &[u32],
+    plan: &[u32],
+    forced: &[u32],
+    t: usize,
+    i: usize,
+) -> Figures
+    requires { ⌜ Fits d (now table) (now plan) (now forced) t i ⌝ }
+    ensures { λ r. ⌜ r ≡ figuresAt d (now (table .entry)) (now (plan .entry)) (now (forced .entry)) t i ⌝ }
+{
+    let stops = Rest {
+        starts: false,
+        least: d.mindown,
+        on0: d.on0,
+    };
+    let starts = Rest {
+        starts: true,
+        least: d.minup,
+        on0: d.on0,
+    };
+    let s = setting_at(plan, t * 160 + i * 10);
+    let w = cell_at(table, 432 + i * 960 + t * 20);
+    let started = forced::started(d.on0, plan, t, i);
+    let stopped = forced::stopped(d.on0, plan, t, i);
+    let rested = rest_kept(started, stops, plan, forced, t, i);
+    let ran = rest_kept(stopped, starts, plan, forced, t, i);
+    let start = forced::word(forced, t);
+    let minutes = 2 * forced::word(table, t);
+    let power = power_at(forced, t, i);
+    let previous = previous_power(d.power0, forced, t, i);
+    gathered(s, w, started, rested, ran, start, minutes, power, previous)
+}
+
+// Rules 1 to 19 of one interval and device, out of the tables.
+fn cell_rules(
+    d: DeviceRecord,
+    table: &[u32],
+    plan: &[u32],
+    forced: &[u32],
+    t: usize,
+    i: usize,
+) -> Check
+    requires { ⌜ Fits d (now table) (now plan) (now forced) t i ⌝ }
+    ensures { λ r. ⌜ r ≡ firstIn t i (tests d (figuresAt d (now (table .entry)) (now (plan .entry)) (now (forced .entry)) t i)) ⌝ }
+{
+    let f = figures_at(d, table, plan, forced, t, i);
+    cell_kept(d, f, t, i)
+}
+
+// Rules 1 to 19 of the devices in an interval.
+fn interval_rules(c: CaseRecord, table: &[u32], plan: &[u32], forced: &[u32], t: usize) -> Check
+    requires { ⌜ Ready c (now table) (now plan) (now forced) × (t < c .nintervals) ⌝ }
+    ensures { λ r. ⌜ r ≡ first (intervalBreaches c (now (table .entry)) (now (plan .entry)) t) ⌝ }
+{
+    let mut i = 0;
+    while i < c.ndevices {
+        let d = c.devices[i];
+        let r = cell_rules(d, table, plan, forced, t, i);
+        let Check::Held = r else {
+            return r;
+        };
+        i += 1;
+    }
+    Check::Held
+}
+
+// Rules 1 to 19 of the day.
+fn day_rules(c: CaseRecord, table: &[u32], plan: &[u32], forced: &[u32]) -> Check
+    requires { ⌜ Ready c (now table) (now plan) (now forced) ⌝ }
+    ensures { λ r. ⌜ r ≡ first (dayBreaches c (now (table .entry)) (now (plan .entry))) ⌝ }
+{
+    let mut t = 0;
+    while t < c.nintervals {
+        let r = interval_rules(c, table, plan, forced, t);
+        let Check::Held = r else {
+            return r;
+        };
+        t += 1;
+    }
+    Check::Held
+}
+
+fn window_broken(i: usize, w: usize) -> Check
+    requires { ⌜ (i < 16) × (w < 4) ⌝ }
+    ensures { λ r. ⌜ r ≡ Check.Broken (windowAt i w) ⌝ }
+{
+    let device = i as u64 + 1;
+    let window = w as u64 + 1;
+    Check::Broken(Breach {
+        rule: 20,
+        interval: 0,
+        device,
+        window,
+    })
+}
+
+// A start with window start ≤ S < window end.
+fn counted_start(w: StartWindow, on0: u64, plan: &[u32], forced: &[u32], i: usize, t: usize) -> u64
+    requires { ⌜ (t < 48) × (i < 16) × (length (now plan) ≡ 7680) × (length (now forced) ≡ 817) ⌝ }
+    ensures { λ r. ⌜ (r ≡ countedStart w on0 (now (plan .entry)) (now (forced .entry)) i t) × (r ≤ 1) ⌝ }
+{
+    let start = forced::word(forced, t);
+    if start < w.from {
+        return 0;
+    }
+    if w.until <= start {
+        return 0;
+    }
+    forced::started(on0, plan, t, i)
+}
+
+fn starts_in(w: StartWindow, on0: u64, plan: &[u32], forced: &[u32], n: usize, i: usize) -> u64
+    requires { ⌜ (n ≤ 48) × (i < 16) × (length (now plan) ≡ 7680) × (length (now forced) ≡ 817) ⌝ }
+    ensures { λ r. ⌜ r ≡ startsAt w on0 (now (plan .entry)) (now (forced .entry)) n i ⌝ }
+{
+    let mut sum = 0;
+    let mut t = 0;
+    while t < n {
+        sum += counted_start(w, on0, plan, forced, i, t);
+        t += 1;
+    }
+    sum
+}
+
+fn lesser(a: usize, b: usize) -> usize
+    ensures { λ r. ⌜ r ≡ min a b ⌝ }
+{
+    if a <= b { a } else { b }
+}
+
+// Rule 20 of a device's windows.
+fn device_windows(d: DeviceRecord, plan: &[u32], forced: &[u32], n: usize, i: usize) -> Check
+    requires { ⌜ (n ≤ 48) × (i < 16) × (length (now plan) ≡ 7680) × (length (now forced) ≡ 817) ⌝ }
+    ensures { λ r. ⌜ r ≡ first (gather (windowHere d (now (plan .entry)) (now (forced .entry)) n i) (upTo (windowCount d))) ⌝ }
+{
+    let windows = lesser(d.nstarts, 4);
+    let mut w = 0;
+    while w < windows {
+        let window = d.starts[w];
+        if window.most < starts_in(window, d.on0, plan, forced, n, i) {
+            return window_broken(i, w);
+        }
+        w += 1;
+    }
+    Check::Held
+}
+
+// Rule 20.
+fn window_rules(c: CaseRecord, table: &[u32], plan: &[u32], forced: &[u32]) -> Check
+    requires { ⌜ Ready c (now table) (now plan) (now forced) ⌝ }
+    ensures { λ r. ⌜ r ≡ first (dayWindows c (now (table .entry)) (now (plan .entry))) ⌝ }
+{
+    let mut i = 0;
+    while i < c.ndevices {
+        let d = c.devices[i];
+        let r = device_windows(d, plan, forced, c.nintervals, i);
+        let Check::Held = r else {
+            return r;
+        };
+        i += 1;
+    }
+    Check::Held
+}
+
+// The first broken rule: "Checked by interval, then device, then number. Rule 20 comes after all intervals, by device, then window."
+pub fn first_breach(c: CaseRecord, table: &[u32], plan: &[u32], forced: &[u32]) -> Check
+    requires { ⌜ Ready c (now table) (now plan) (now forced) ⌝ }
+    ensures { λ r. ⌜ r ≡ first (breaches (caseIn c (now (table .entry)) .system) (planIn c (now (plan .entry)))) ⌝ }
+{
+    let r = day_rules(c, table, plan, forced);
+    let Check::Held = r else {
+        return r;
+    };
+    window_rules(c, table, plan, forced)
+}

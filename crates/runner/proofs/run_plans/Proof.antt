@@ -1,0 +1,50 @@
+use Prim.Native.Nat.{ℕ, _≤_, _<_, _-_, _+_, _*_}
+use lib.ListN.{length}
+use borrow.Author.Needs.{needs}
+use Rattle.runner.proofs.run_plans.Statement.{statement}
+use Rattle.runner.proofs.run_plans.Tie as tie
+
+abbrev Inv-loop : tie.InvT-loop
+Inv-loop c table left detail rest₀ index₀ rest index = rest ≤ left
+
+abbrev μ-loop : tie.MeasureT-loop
+μ-loop c table left detail rest₀ index₀ rest index = rest
+
+loop-holds : tie.Need-loop-holds Inv-loop μ-loop
+loop-holds c = search needs
+
+next-plan-requires : tie.Need-next-plan-requires Inv-loop μ-loop
+next-plan-requires c κs = search needs
+
+returns : tie.Need-returns Inv-loop μ-loop
+returns c = search needs
+
+returns-2 : tie.Need-returns-2 Inv-loop μ-loop
+returns-2 c = search needs
+
+wrapping-add-u64-requires : tie.Need-wrapping-add-u64-requires Inv-loop μ-loop
+wrapping-add-u64-requires c κs = search needs
+
+loop-less : tie.Need-loop-less Inv-loop μ-loop
+loop-less c = search needs
+
+loop-again : tie.Need-loop-again Inv-loop μ-loop
+loop-again c = search needs
+
+returns-3 : tie.Need-returns-3 Inv-loop μ-loop
+returns-3 c = search needs
+
+pub run-plans-spec : {M : Type 1} → statement M
+run-plans-spec =
+    tie.close
+    (tie.spec
+    Inv-loop
+    μ-loop
+    loop-holds
+    next-plan-requires
+    returns
+    returns-2
+    wrapping-add-u64-requires
+    loop-less
+    loop-again
+    returns-3)

@@ -1,0 +1,45 @@
+use mathlib.Core.Logic.{inr}
+use borrow.Author.Needs.{needs}
+use Rattle.surplus.proofs.first_four.Statement.{statement}
+use Rattle.surplus.proofs.first_four.Tie as tie
+use Rattle.surplus.proofs.first_four.Reads as reads
+use Rattle.surplus.proofs.first_four.Lts as lts
+use Rattle.numbers.proofs.Grains.plus.Reads as plus-reads
+use Rattle.surplus.proofs.power_value.Reads as power-value-reads
+
+power-value-requires : tie.Need-power-value-requires
+power-value-requires c κs = let k : _ = c .pre in (k .1 .rgu, k .0, inr (k .2 .rgu))
+
+power-value-requires-2 : tie.Need-power-value-requires-2
+power-value-requires-2 c κs = let k : _ = c .before .pre in (k .1 .rgd, k .0, inr (k .2 .rgd))
+
+power-value-requires-3 : tie.Need-power-value-requires-3
+power-value-requires-3 c κs = let k : _ = c .before .before .pre in (k .1 .scr, k .0, inr (k .2 .scr))
+
+power-value-requires-4 : tie.Need-power-value-requires-4
+power-value-requires-4 c κs = let k : _ = c .before .before .before .pre in (k .1 .nsc, k .0, inr (k .2 .nsc))
+
+plus-requires : tie.Need-plus-requires
+plus-requires c κs = search needs
+
+plus-requires-2 : tie.Need-plus-requires-2
+plus-requires-2 c κs = search needs
+
+plus-requires-3 : tie.Need-plus-requires-3
+plus-requires-3 c κs = search needs
+
+returns : tie.Need-returns
+returns c = search needs
+
+pub first-four-spec : {M : Type 1} → statement M
+first-four-spec =
+    tie.close
+    (tie.spec
+    power-value-requires
+    power-value-requires-2
+    power-value-requires-3
+    power-value-requires-4
+    plus-requires
+    plus-requires-2
+    plus-requires-3
+    returns)

@@ -1,0 +1,8 @@
+//! Links the static library that `rt staticlib abi` writes.
+
+fn main() {
+    let library = concat!(env!("CARGO_MANIFEST_DIR"), "/../target/staticlib");
+    println!("cargo:rustc-link-search=native={library}");
+    println!("cargo:rustc-link-lib=static=abi");
+    println!("cargo:rerun-if-changed={library}/libabi.a");
+}

@@ -1,0 +1,27 @@
+/* The plan unit for hosts in C. A slice is a pointer and then a length; no two slices of a call overlap. */
+#ifndef KADUNFO_H
+#define KADUNFO_H
+
+#include <stddef.h>
+#include <stdint.h>
+
+enum kadunfo_word {
+    KADUNFO_ACCEPTED = 0,       /* figures: surplus in two's complement */
+    KADUNFO_BROKEN = 1,         /* figures: rule, interval, device, window */
+    KADUNFO_CASE_REFUSED = 2,   /* figures: number, bit */
+    KADUNFO_PLAN_REFUSED = 3,   /* figures: number, bit */
+    KADUNFO_RESULT_REFUSED = 4, /* figures: 7, bytes needed */
+    KADUNFO_FIGURES_SHORT = 5   /* figures has fewer than four places; nothing was done */
+};
+
+/* Judges one plan against one case. Only acceptance writes to result: the completion's bytes, the rest stays. */
+uint64_t kadunfo_judge(const uint8_t *kase, size_t case_length,
+                       const uint8_t *plan, size_t plan_length,
+                       uint8_t *result, size_t result_length,
+                       uint64_t *figures, size_t figures_length);
+
+/* A case's devices, intervals and zones (word 0), or its refusal (word 2: number, bit). */
+uint64_t kadunfo_inspect(const uint8_t *kase, size_t case_length,
+                         uint64_t *figures, size_t figures_length);
+
+#endif
