@@ -1,5 +1,5 @@
 -- The turns of the loop that reads a case's devices.
-use mathlib.Core.Path.{_≡_, _∙_}
+use mathlib.Core.Path.{_≡_, refl, _∙_}
 use mathlib.Core.List.{List}
 use Prim.Native.Nat.{ℕ, suc, _+_, _*_, _≤_, _<_}
 use native.Mathlib.Decide.{decLe}
@@ -30,13 +30,13 @@ none records t a b c = record { fleet = fleet-none _ _ _ 960 15360 records t (om
 
 module _ {s : List ℕ} {m n zones last : ℕ} {start : Place} {i : ℕ} {records : List DeviceRecord} {t : List ℕ} {p : Place} (u : Manning s m n zones last start i records t p) (h : i < m)
     (d : DeviceRecord) (part : List ℕ) {w : Went} (e : DeviceDone s p n zones last w d part) where
-  pub more : {q : Place} → length part ≡ length (span t (i * 960) 960) → w ≡ W.On q → Manning s m n zones last start (i + 1) (set records i d) (stored t (i * 960) 960 part) q
-  more {q} k o =
+  pub more : (a v : ℕ) {q : Place} → a ≡ i * 960 → v ≡ 960 → length part ≡ length (span t a v) → w ≡ W.On q → Manning s m n zones last start (i + 1) (set records i d) (stored t a v part) q
+  more a v {q} ea ev k o =
       let fits = fleet-fits (device edition1 n zones last) (deviceOf n) noDeviceRecord 960 (device-natural n zones last) (u .fleet) h in
-      let wide : length part ≡ 960 = k ∙ span-long t (i * 960) 960 fits in
+      let wide : length part ≡ 960 = (rw (ea, ev) at k) ∙ span-long t (i * 960) 960 fits in
       let places = u .fleet .places in
-      record {
-        fleet = fleet-more (device edition1 n zones last) (deviceOf n) noDeviceRecord 960 (device-natural n zones last) (u .fleet) h d part k (e .is) o;
+      rw (ea, ev) (record {
+        fleet = fleet-more (device edition1 n zones last) (deviceOf n) noDeviceRecord 960 (device-natural n zones last) (u .fleet) h d part (i * 960) 960 refl refl (rw (ea, ev) at k) (e .is) o;
         manned = record {
           padded = λ k j l b. elim (decLe (suc j) i) [
             | yes y ↦ rw (span-before t (i * 960) 960 part fits wide (j * 960) 960 (stride 960 y)) (u .manned .padded k j l y)
@@ -47,7 +47,7 @@ module _ {s : List ℕ} {m n zones last : ℕ} {start : Place} {i : ℕ} {record
             | no y ↦ let z : j ≡ i = omega arith in rw (z, getD-set-same records i d noDeviceRecord (omega arith)) (e .few q o)
           ];
         };
-      }
+      })
 
   pub off : (t' : List ℕ) {f : Fault} → w ≡ W.Off f → FleetDone s start m n zones last w records t'
   off t' o = record {

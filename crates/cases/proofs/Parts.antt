@@ -38,18 +38,18 @@ module _ {A R : Type 0} (l : Layout A) (view : R → List ℕ → A) (blank : R)
     pub fleet-fits : i * w + w ≤ length t
     fleet-fits = omega (arith, stride w h, u .room, u .long)
 
-    pub fleet-more : (r : R) (part : List ℕ) {x : Went} {q : Place} → length part ≡ length (span t (i * w) w) → told x (view r part) ≡ got l s p → x ≡ W.On q
-        → Fleet s m start size (i + 1) (set records i r) (stored t (i * w) w part) q
-    fleet-more r part {x} {q} k e o =
-        let wide : length part ≡ w = k ∙ span-long t (i * w) w fleet-fits in
-        record {
+    pub fleet-more : (r : R) (part : List ℕ) (a v : ℕ) {x : Went} {q : Place} → a ≡ i * w → v ≡ w → length part ≡ length (span t a v) → told x (view r part) ≡ got l s p → x ≡ W.On q
+        → Fleet s m start size (i + 1) (set records i r) (stored t a v part) q
+    fleet-more r part a v {x} {q} ea ev k e o =
+        let wide : length part ≡ w = (rw (ea, ev) at k) ∙ span-long t (i * w) w fleet-fits in
+        rw (ea, ev) (record {
           room = u .room;
           places = simp length-set (u .places);
           long = stored-long t (i * w) w part fleet-fits wide ∙ u .long;
           reading = reading-more (u .reading) natural h (went-good (view r part) e o)
               (λ k l. ap₂ view (getD-set-other records i k r blank (λ e. omega (arith, e))) (span-before t (i * w) w part fleet-fits wide (k * w) w (stride w l)))
               (ap₂ view (getD-set-same records i r blank (omega (arith, u .places))) (span-same t (i * w) w part fleet-fits wide));
-        }
+        })
 
     pub fleet-off : (r : R) (part : List ℕ) {x : Went} {f : Fault} → told x (view r part) ≡ got l s p → x ≡ W.Off f → got (list m l) s start ≡ bad f
     fleet-off r part e o = reading-off (u .reading) natural h (went-bad (view r part) e o)

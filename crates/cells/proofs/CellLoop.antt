@@ -28,13 +28,13 @@ pub none : {s : List ℕ} {n : ℕ} {start : Place} (t : List ℕ) → n ≤ 48 
 none t f l = record { few = f; long = l; reading = reading-none; padded = λ k h. absurd (omega arith) }
 
 module _ {s : List ℕ} {n : ℕ} {start : Place} {i : ℕ} {t : List ℕ} {p : Place} (u : Tabling s n start i t p) (r : List ℕ) {w : Went} (h : i < n) (g : CellDone s p w r) where
-  pub more : {q : Place} → length r ≡ length (span t (i * 20) 20) → w ≡ W.On q → Tabling s n start (i + 1) (stored t (i * 20) 20 r) q
-  more {q} k o =
+  pub more : (a v : ℕ) {q : Place} → a ≡ i * 20 → v ≡ 20 → length r ≡ length (span t a v) → w ≡ W.On q → Tabling s n start (i + 1) (stored t a v r) q
+  more a v {q} ea ev k o =
       let few = u .few in
       let fits : i * 20 + 20 ≤ length t = omega (arith, u .long) in
-      let wide : length r ≡ 20 = k ∙ span-long t (i * 20) 20 fits in
+      let wide : length r ≡ 20 = (rw (ea, ev) at k) ∙ span-long t (i * 20) 20 fits in
       let same : cellRow (stored t (i * 20) 20 r) i ≡ r = span-same t (i * 20) 20 r fits wide in
-      record {
+      rw (ea, ev) (record {
         few = u .few;
         long = stored-long t (i * 20) 20 r fits wide ∙ u .long;
         reading = reading-more (u .reading) cell-natural h (went-good (cellIn r) (g .is) o) (λ k l. ap cellIn (span-before t (i * 20) 20 r fits wide (k * 20) 20 (omega arith))) (ap cellIn same);
@@ -42,7 +42,7 @@ module _ {s : List ℕ} {n : ℕ} {start : Place} {i : ℕ} {t : List ℕ} {p : 
           | yes m ↦ rw (span-before t (i * 20) 20 r fits wide (k * 20) 20 (omega arith)) (u .padded k m)
           | no m ↦ let e : k ≡ i = omega arith in rw (e, same) (g .padded q o)
         ];
-      }
+      })
 
   pub off : (t' : List ℕ) {f : Fault} → w ≡ W.Off f → CellsDone s start n w t'
   off t' o = record {

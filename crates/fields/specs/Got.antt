@@ -31,26 +31,25 @@ pub data Got (A : Type 0) : Type 0 where
 abbrev pub got : {A : Type 0} → Layout A → List ℕ → Place → Got A
 got l s p = l .read s p bad good
 
--- a figure's answer
+-- a figure's answer; an answer with the value that stands beside it, which counts only where the answer is good
 abbrev pub figured : Figure → Got ℕ
 figured (F.Good v p) = good v p
 figured (F.Bad f) = bad f
+
+-- a field from low to high whose fault is known
+abbrev pub ranging : ℕ → ℕ → ℕ → Fault → Field
+ranging width low high wrong = record { width = width; low = low; high = high; wrong = λ _. wrong }
 
 -- the same, of a figure kept from 0
 abbrev pub kept : ℕ → Figure → Got ℤ
 kept most (F.Good v p) = good (less most v) p
 kept most (F.Bad f) = bad f
 
--- a field from low to high whose fault is known
-abbrev pub ranging : ℕ → ℕ → ℕ → Fault → Field
-ranging width low high wrong = record { width = width; low = low; high = high; wrong = λ _. wrong }
-
 -- where a figure's answer leaves off
 abbrev pub placed : Figure → Went
 placed (F.Good v p) = W.On p
 placed (F.Bad f) = W.Off f
 
--- an answer with the value that stands beside it, which counts only where the answer is good
 abbrev pub told : {A : Type 0} → Went → A → Got A
 told (W.On p) a = good a p
 told (W.Off f) a = bad f
@@ -220,13 +219,30 @@ nat-within f s p {v} {q} e = go (readField s (p .at) (f .width)) e
     go (Value u d) e = tests (leb (f .low) u) (leb u (f .high)) u (advanced p (d .at)) (f .wrong (p .at)) refl refl e
     go (Cut at) e = absurd (let n : _≡_ {A = ℕ} 0 1 = cc in omega (arith, n))
 
+-- the parts of a layout, one step each: for chains that are followed without unfolding
+module _ {X : Type 0} (s : List ℕ) (p : Place) (b : Fault → X) where
+  pub then-step : {A B : Type 0} (l : Layout A) (m : A → Layout B) (n : A × B → Place → X) {x : X} → x ≡ l .read s p b (λ a p. m a .read s p b (λ y p. n (a, y) p)) → x ≡ (l then m) .read s p b n
+  unfolding _then_
+  then-step l m n e = e
+
+  pub held-step : {A B : Type 0} (to : A → B) (from : B → A) (l : Layout A) (n : B → Place → X) {x : X} → x ≡ l .read s p b (λ a p. n (to a) p) → x ≡ held to from l .read s p b n
+  unfolding held
+  held-step to from l n e = e
+
+  pub such-step : {A : Type 0} (ok : A → Bool) (l : Layout A) (n : A → Place → X) {x : X} → x ≡ l .read s p b (λ a after. n a (noted (ok a) (p .at) after)) → x ≡ such ok l .read s p b n
+  unfolding such
+  such-step ok l n e = e
+
 -- a value read, held as another type
 pub mapped : {A B : Type 0} {l : Layout A} → Natural l → (to : A → B) (s : List ℕ) (p : Place) (w : Went) (a : A) {g : Got B}
     → g ≡ l .read s p bad (λ a q. good (to a) q) → told w a ≡ got l s p → told w (to a) ≡ g
 mapped u to s p (W.On q) a h e = sym (h ∙ goes-on u s p bad (λ a q. good (to a) q) (sym e))
 mapped u to s p (W.Off f) a h e = sym (h ∙ goes-off u s p bad (λ a q. good (to a) q) (sym e))
 
--- the parts of a layout, one step each
+pub held-told : {A B : Type 0} {l : Layout A} (to : A → B) (from : B → A) (s : List ℕ) (p : Place) (w : Went) (a : A) → Natural l → told w a ≡ got l s p → told w (to a) ≡ got (held to from l) s p
+unfolding held
+held-told to from s p w a u e = mapped u to s p w a refl e
+
 pub then-eq : {A B X : Type 0} (l : Layout A) (m : A → Layout B) (s : List ℕ) (p : Place) (b : Fault → X) (n : A × B → Place → X)
     → (l then m) .read s p b n ≡ l .read s p b (λ a p. m a .read s p b (λ y p. n (a, y) p))
 unfolding _then_

@@ -26,7 +26,10 @@ same-length : tie.Need-same-length
 same-length c = search needs
 
 returns : tie.Need-returns
-returns c = search cell-no-limits
+returns c =
+    let a : _ = c .before .before .before .before .before .before .before .before .args in
+    let h : _ = c .before .before .before .before .read-limits in
+    cell-no-limits (a .s .now) (a .p) (h .last .1 .1 .0) (h .ensures) _ (c .enum-told .given .1)
 
 sub-read-blocks : tie.Need-sub-read-blocks
 sub-read-blocks c = search needs
@@ -50,7 +53,10 @@ same-length-2 : tie.Need-same-length-2
 same-length-2 c = search needs
 
 returns-2 : tie.Need-returns-2
-returns-2 c = search cell-no-blocks
+returns-2 c =
+    let a : _ = c .before .before .before .before .before .before .before .before .before .before .before .before .before .before .before .args in
+    let h : _ = c .before .before .before .before .before .before .before .before .before .before .before .read-limits in
+    cell-no-blocks (a .s .now) (a .p) (h .last .1 .1 .0) (h .ensures) (c .before .before .before .before .before .before .before .limits .given .1) (c .before .before .before .before .read-blocks .ensures) _ (c .enum-told2 .given .1)
 
 sub-read-list : tie.Need-sub-read-list
 sub-read-list c = search needs

@@ -1,6 +1,6 @@
 -- `cells::read_cells` meets its contract. The loop's invariant: k of the cells stand in the first rows. Assumes nothing.
 use Prim.Native.Nat.{_-_, _+_, _*_}
-use mathlib.Core.Path.{_≡_}
+use mathlib.Core.Path.{refl}
 use native.Mathlib.Omega.{arith}
 use borrow.Author.Needs.{needs}
 use Rattle.cells.proofs.CellLoop.{Tabling, none, more, off, done}
@@ -60,9 +60,8 @@ loop-less c = search needs
 loop-again : tie.Need-loop-again Inv-loop μ-loop
 loop-again c =
     let l : _ = c .before .before .before .before .before .before .before .before .loop in
-    let w : l .k * 20 + 20 - l .k * 20 ≡ 20 = omega arith in
     let r : _ = c .before .before .before .before .before .read-cell in
-    rw w (more (l .inv) (r .last .1 .1 .0) (c .before .before .before .before .before .before .before .loop-test .taken) (r .ensures) (rw w at (r .kept .1 .1 .0)) (c .before .row .given .1))
+    more (l .inv) (r .last .1 .1 .0) (c .before .before .before .before .before .before .before .loop-test .taken) (r .ensures) (l .k * 20) (l .k * 20 + 20 - l .k * 20) refl (omega arith) (r .kept .1 .1 .0) (c .before .row .given .1)
 
 same-length-2 : tie.Need-same-length-2 Inv-loop μ-loop
 same-length-2 c = search needs

@@ -1,6 +1,6 @@
 -- `cases::fleet::read_fleet` meets its contract. The loop's invariant: i of the devices have been read. Assumes nothing.
 use Prim.Native.Nat.{_-_, _+_, _*_}
-use mathlib.Core.Path.{_≡_}
+use mathlib.Core.Path.{refl}
 use native.Mathlib.Omega.{arith}
 use borrow.Author.Needs.{needs}
 use Rattle.cases.proofs.FleetLoop.{Manning, none, more, off, done}
@@ -69,9 +69,8 @@ loop-less c = search needs
 loop-again : tie.Need-loop-again Inv-loop μ-loop
 loop-again c =
     let l : _ = c .before .before .before .before .before .before .before .before .before .loop in
-    let w : l .i * 960 + 960 - l .i * 960 ≡ 960 = omega arith in
     let r : _ = c .before .before .before .before .before .before .read-device in
-    rw w (more (l .inv) (c .before .before .before .before .before .before .before .before .loop-test .taken) (r .result .device) (r .last .1 .1 .1 .1 .1 .0) (r .ensures) (rw w at (r .kept .1 .1 .1 .1 .1 .0)) (c .before .went .given .1))
+    more (l .inv) (c .before .before .before .before .before .before .before .before .loop-test .taken) (r .result .device) (r .last .1 .1 .1 .1 .1 .0) (r .ensures) (l .i * 960) (l .i * 960 + 960 - l .i * 960) refl (omega arith) (r .kept .1 .1 .1 .1 .1 .0) (c .before .went .given .1)
 
 same-length-2 : tie.Need-same-length-2 Inv-loop μ-loop
 same-length-2 c = search needs

@@ -1,6 +1,6 @@
 -- `cases::zones::read_zones` meets its contract. The loop's invariant: i of the zones have been read. Assumes nothing.
 use Prim.Native.Nat.{_-_, _+_, _*_}
-use mathlib.Core.Path.{_≡_}
+use mathlib.Core.Path.{refl}
 use native.Mathlib.Omega.{arith}
 use borrow.Author.Needs.{needs}
 use Rattle.model.specs.Messages.{zone}
@@ -72,9 +72,8 @@ loop-again : tie.Need-loop-again Inv-loop μ-loop
 loop-again c =
     let a : _ = c .before .before .before .before .before .before .before .before .before .before .before .before .args in
     let l : _ = c .before .before .before .before .before .before .before .before .before .loop in
-    let w : l .i * 96 + 96 - l .i * 96 ≡ 96 = omega arith in
     let r : _ = c .before .before .before .before .before .before .read-zone in
-    rw w (fleet-more (zone (a .n)) (zoneOf (a .n)) noZoneRecord 96 (zone-natural (a .n)) (l .inv) (c .before .before .before .before .before .before .before .before .loop-test .taken) (r .result .zone) (r .last .1 .1 .1 .0) (rw w at (r .kept .1 .1 .1 .0)) (r .ensures) (c .before .went .given .1))
+    fleet-more (zone (a .n)) (zoneOf (a .n)) noZoneRecord 96 (zone-natural (a .n)) (l .inv) (c .before .before .before .before .before .before .before .before .loop-test .taken) (r .result .zone) (r .last .1 .1 .1 .0) (l .i * 96) (l .i * 96 + 96 - l .i * 96) refl (omega arith) (r .kept .1 .1 .1 .0) (r .ensures) (c .before .went .given .1)
 
 same-length-2 : tie.Need-same-length-2 Inv-loop μ-loop
 same-length-2 c = search needs
