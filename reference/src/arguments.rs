@@ -1,5 +1,18 @@
 //! Command lines of the programs: words, `--name value` and `--name`.
 
+use std::process::ExitCode;
+
+/// Success, or failure with its message on standard error.
+pub fn exit_code(result: Result<(), String>) -> ExitCode {
+    match result {
+        Ok(()) => ExitCode::SUCCESS,
+        Err(message) => {
+            eprintln!("{message}");
+            ExitCode::FAILURE
+        }
+    }
+}
+
 /// The arguments that were not taken yet.
 pub struct Arguments {
     left: Vec<String>,

@@ -171,6 +171,35 @@ pub struct Device {
     pub terms: Vec<Terms>,
 }
 
+impl Device {
+    /// A device that is off: ramps 100, reserve limits 20, no other figure.
+    pub fn plain(side: Side, terms: Vec<Terms>) -> Device {
+        Device {
+            side,
+            zone_bits: [false; 4],
+            initially_on: false,
+            initial_power: 0,
+            minutes_already_so: 0,
+            minimum_up: 0,
+            minimum_down: 0,
+            ramps: Ramps {
+                up: 100,
+                down: 100,
+                starting: 100,
+                stopping: 100,
+            },
+            on_cost: 0,
+            start_cost: 0,
+            stop_cost: 0,
+            reserve_limits: Reserves::from_order([20; 8]),
+            startup_states: Vec::new(),
+            start_windows: Vec::new(),
+            energy_windows: Vec::new(),
+            terms,
+        }
+    }
+}
+
 impl Case {
     pub fn intervals(&self) -> usize {
         self.durations.len()

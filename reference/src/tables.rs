@@ -5,8 +5,8 @@
 //! `refused case|plan NUMBER BIT`.
 
 use crate::case::{
-    Block, Case, Device, EnergyKind, EnergyWindow, Ramps, Reserves, Side, StartWindow,
-    StartupState, Status, Terms, Zone,
+    Block, Case, Device, EnergyKind, EnergyWindow, Reserves, Side, StartWindow, StartupState,
+    Status, Terms, Zone,
 };
 use crate::encode::{encode_case, encode_plan, Class, Encoded};
 use crate::generate::breaks::plan_breaking;
@@ -240,27 +240,8 @@ fn draft(side: Side, initially_on: bool, minutes: i128, on: &[bool]) -> Draft {
         reserve_prices: Reserves::default(),
     };
     let device = Device {
-        side,
-        zone_bits: [false; 4],
         initially_on,
-        initial_power: 0,
-        minutes_already_so: 0,
-        minimum_up: 0,
-        minimum_down: 0,
-        ramps: Ramps {
-            up: 100,
-            down: 100,
-            starting: 100,
-            stopping: 100,
-        },
-        on_cost: 0,
-        start_cost: 0,
-        stop_cost: 0,
-        reserve_limits: Reserves::from_order([20; 8]),
-        startup_states: Vec::new(),
-        start_windows: Vec::new(),
-        energy_windows: Vec::new(),
-        terms: vec![terms; on.len()],
+        ..Device::plain(side, vec![terms; on.len()])
     };
     let setting = |&on: &bool| Setting {
         on,

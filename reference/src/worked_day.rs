@@ -22,27 +22,8 @@ pub struct Day {
 /// figures 0, reserve limits 20." With the plan "1 off, then 150; 2 at 30, then 150; no reserves."
 pub fn two_set_day() -> Day {
     let unit = |side, terms: Terms| Device {
-        side,
-        zone_bits: [false; 4],
-        initially_on: false,
-        initial_power: 0,
         minutes_already_so: 600,
-        minimum_up: 0,
-        minimum_down: 0,
-        ramps: Ramps {
-            up: 100,
-            down: 100,
-            starting: 100,
-            stopping: 100,
-        },
-        on_cost: 0,
-        start_cost: 0,
-        stop_cost: 0,
-        reserve_limits: Reserves::from_order([20; 8]),
-        startup_states: Vec::new(),
-        start_windows: Vec::new(),
-        energy_windows: Vec::new(),
-        terms: vec![terms.clone(), terms],
+        ..Device::plain(side, vec![terms.clone(), terms])
     };
     let terms = |pmin, blocks: &[Block]| Terms {
         status: Status::Free,

@@ -158,7 +158,7 @@ module _ (c : CaseRecord) (table plan forced : List ℕ) (h : Unbroken c table p
       pub overrun-fits : maxZero (overrunNeed q p i w) < 2 ^ 32
       overrun-fits =
           let mt : i < devices q = omega (arith, devices-of c table plan forced (h .ready)) in
-          omega (arith, overrun-bound q p system-range plan-range-of (h .rules) i w mt (rw (sym windows-are) k))
+          omega (arith, overrun-bound q p system-range plan-range-of (h .rules) i w mt)
 
     -- its overruns fit behind those of the devices before it
     pub windows-room : {xs a b : List ℕ} {at next : ℕ} → Puts (windowsTo q i * overrunWidth) xs a b at next → Room a at (windowsTo q (c .ndevices) * overrunWidth) → Room b next (windowsOf q i * overrunWidth)

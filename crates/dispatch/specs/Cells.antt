@@ -1,5 +1,5 @@
 -- What the definitions read of a decoded case and plan, as numbers of the tables: laws of `Ready`.
-use mathlib.Core.Path.{_≡_, refl, sym, ap, ap₂, subst, _∙_}
+use mathlib.Core.Path.{_≡_, refl, sym, ap, subst, _∙_}
 use mathlib.Core.Bool.{Bool, true, false}
 use mathlib.Core.List.{List, [], _∷_, map}
 use Prim.Native.Nat.{ℕ, zero, suc, _+_, _-_, _*_, _/_, _%_, _^_, _≤_, _<_}
@@ -7,19 +7,19 @@ use mathlib.Core.Logic.{_⊎_, inl, inr}
 use native.Mathlib.Omega.{arith}
 use borrow.Author.Tests.{leb-true, leb-false}
 use lib.Dec.{eqb, leb}
-use lib.ListN.{length, getD, take, drop, length-take, length-drop, length-map}
+use lib.ListN.{length, getD, drop, length-take, length-map}
 use lib.Seq.{getD-drop}
-use lib.IntN.{ℤ, pos}
-use Rattle.model.specs.Case.{System, Plan, Case, Cell, CellPrices, Device, Setting, Reserves, Shares, Zone, Minima, noDevice, noZone, noMinima}
+use lib.IntN.{pos}
+use Rattle.model.specs.Case.{System, Plan, Case, Cell, CellPrices, Device, Setting, Reserves, Shares, Zone, noDevice, noZone, noMinima}
 use Rattle.model.specs.Completion.{devicePrices, cellPrices, blockPrice}
 use Rattle.model.specs.Ranges.{DeviceRange, ZoneRange, SharesRange}
 use Rattle.model.specs.Sizes.{all-at, all-getD}
-use Rattle.model.specs.Forced.{intervals, devices, zones, device, cell, zone, cap, energyWindow, consuming, member, duration, startOf, endOf, midpoint, setting, u, uBefore, su, sd, power, downtime}
+use Rattle.model.specs.Forced.{intervals, devices, zones, device, zone, cap, consuming, member, duration, startOf, endOf, setting, u, power}
 use Rattle.model.specs.declared.DeviceRecord.{DeviceRecord}
 use Rattle.model.specs.declared.ZoneRecord.{ZoneRecord}
 use Rattle.model.specs.declared.CaseRecord.{CaseRecord}
 use Rattle.dispatch.specs.declared.Reserves.{Reserves as Eight}
-use Rattle.model.specs.Views.{Ready, Padded, reservesOf, less, blockIn, blocksIn, caseIn, planIn, halvesIn, minimaIn, cellsIn, devicePart, cellRow, cellIn, cellAt, settingIn, settingAt, span, deviceOf, recordAt, zoneOf, zonePart, minimaAt, noZoneRecord}
+use Rattle.model.specs.Views.{Ready, Padded, reservesOf, less, blockIn, blocksIn, caseIn, planIn, halvesIn, minimaIn, cellsIn, devicePart, cellRow, cellIn, settingIn, settingAt, span, deviceOf, recordAt, zoneOf, zonePart, minimaAt, noZoneRecord}
 use Rattle.model.specs.Viewed as W
 use Rattle.dispatch.specs.Sums.{sum-last}
 

@@ -1,7 +1,7 @@
 -- Our choices for one device in one interval, from its record and the tables.
-use mathlib.Core.Path.{_≡_, refl, sym, ap, ap₂, subst, _∙_}
+use mathlib.Core.Path.{_≡_, refl, sym, ap, ap₂, _∙_}
 use mathlib.Core.Logic.{_⊎_, inl, inr}
-use mathlib.Core.Bool.{Bool, true, false}
+use mathlib.Core.Bool.{Bool}
 use mathlib.Core.List.{List, [], _∷_, map}
 use Prim.Native.Nat.{ℕ, zero, suc, _+_, _-_, _*_, _≤_, _<_}
 use native.Mathlib.Omega.{arith}
@@ -10,7 +10,6 @@ use lib.Dec.{ltb, leb, eqb, eqb·suc-zero}
 use lib.ListN.{getD, length, take, length-map, length-take}
 use lib.Seq.{getD-take}
 use lib.IntN.{ℤ, pos}
-use Rattle.numbers.specs.Sum.{All, sumℕ}
 use Rattle.numbers.specs.State.{best}
 use Rattle.bits.specs.Pick.{pick}
 use Rattle.model.specs.Base.{range, bit}
@@ -20,10 +19,8 @@ use Rattle.model.specs.Rules.{blocks}
 use Rattle.model.specs.Completion.{stateCost, blockPrice, devicePrices}
 use Rattle.model.specs.Ours.{filling, lasts, bestState, ours}
 use Rattle.model.specs.Tests.{all-range}
-use Rattle.model.specs.declared.State.{State}
 use Rattle.model.specs.declared.DeviceRecord.{DeviceRecord}
-use Rattle.model.specs.declared.CaseRecord.{CaseRecord}
-use Rattle.model.specs.Views.{caseIn, planIn, Ready, recordAt, deviceOf, stateIn, statesOf, less}
+use Rattle.model.specs.Views.{deviceOf, stateIn, statesOf, less}
 use Rattle.model.specs.Viewed as W
 use Rattle.dispatch.specs.declared.Choice.{Choice}
 use Rattle.dispatch.specs.Filled.{Filled, priceOf, capOf, Alike, filling-same, filling-caps, four-same}

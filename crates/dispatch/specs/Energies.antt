@@ -1,21 +1,21 @@
 -- The energy of a device in a window, and its overrun.
-use mathlib.Core.Path.{_≡_, refl, sym, ap, ap₂, subst, _∙_}
+use mathlib.Core.Path.{_≡_, refl, sym, ap, ap₂, _∙_}
 use mathlib.Core.Bool.{Bool, true, false, _&&_}
-use mathlib.Core.List.{List, [], _∷_, map}
-use Prim.Native.Nat.{ℕ, zero, suc, _+_, _-_, _*_, _≤_, _<_, min}
+use mathlib.Core.List.{List}
+use Prim.Native.Nat.{ℕ, _+_, _-_, _*_, _≤_, _<_, min}
 use native.Mathlib.Omega.{arith}
 use native.Mathlib.Nat.{mul-comm, mul-le-mul}
 use borrow.Author.Tests.{eq-eqb, ne-eqb}
 use lib.Dec.{ltb, leb, eqb}
-use lib.ListN.{getD, take, length, length-take, length-map}
+use lib.ListN.{getD, take, length, length-take}
 use lib.Seq.{getD-take}
-use lib.IntN.{ℤ, pos, _-ℤ_}
+use lib.IntN.{pos, _-ℤ_}
 use Rattle.numbers.specs.Laws.{maxZero}
 use Rattle.numbers.specs.Sum.{sumℕ, gate}
 use Rattle.bits.specs.Pick.{pick}
 use Rattle.model.specs.Base.{range, upTo}
-use Rattle.model.specs.Case.{System, Plan, Device, EnergyWindow, noEnergyWindow}
-use Rattle.model.specs.Forced.{intervals, device, energyWindow, duration, startOf, midpoint, power}
+use Rattle.model.specs.Case.{System, Plan, Device, noEnergyWindow}
+use Rattle.model.specs.Forced.{intervals, device, energyWindow, duration, midpoint, power}
 use Rattle.model.specs.Completion as C
 use Rattle.model.specs.declared.EnergyWindow.{EnergyWindow as EnergyRecord}
 use Rattle.model.specs.declared.DeviceRecord.{DeviceRecord}

@@ -1,18 +1,18 @@
 -- Filling over prices kept from 0, and what it does not depend on.
-use mathlib.Core.Path.{_≡_, refl, sym, ap, ap₂, _∙_}
+use mathlib.Core.Path.{_≡_, refl, ap, ap₂, _∙_}
 use mathlib.Core.Logic.{_⊎_, inl, inr}
-use mathlib.Core.Bool.{Bool, true, false, not}
+use mathlib.Core.Bool.{Bool, true, false}
 use mathlib.Core.List.{List, [], _∷_, map}
-use Prim.Native.Nat.{ℕ, zero, suc, _+_, _-_, _≤_, _<_, min}
+use Prim.Native.Nat.{ℕ, _+_, _-_, _≤_, _<_, min}
 use native.Mathlib.Omega.{arith}
 use lib.Dec.{T, ltb, eqb}
 use lib.ListN.{getD}
-use lib.IntN.{ℤ, pos, negℤ, _-ℤ_}
+use lib.IntN.{ℤ, pos, negℤ}
 use lib.Signed.{ltZ, _<ℤ_, ltZ-yes}
 use Rattle.numbers.specs.Z.{whole, n-, n~}
-use Rattle.numbers.specs.Sum.{sumℕ, sumℕ-cong, gate, All, all}
+use Rattle.numbers.specs.Sum.{sumℕ, sumℕ-cong, gate, all}
 use Rattle.numbers.specs.Fill as F
-use Rattle.numbers.specs.Blocks.{rank, first, turned, cheapest, dearest, cheapest-total, dearest-total, cheapest-cap, dearest-cap, Asc}
+use Rattle.numbers.specs.Blocks.{rank, first, turned, cheapest, dearest, cheapest-total, dearest-total, Asc}
 use Rattle.bits.specs.Pick.{pick}
 use Rattle.model.specs.Base.{range}
 use Rattle.model.specs.Tests.{all-upTo}

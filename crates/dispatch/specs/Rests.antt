@@ -13,8 +13,7 @@ use Rattle.bits.specs.Pick.{pick}
 use Rattle.model.specs.Case.{System, Plan, Device}
 use Rattle.model.specs.Forced.{device, startOf, endOf, u, lastOn, downtime}
 use Rattle.model.specs.declared.DeviceRecord.{DeviceRecord}
-use Rattle.model.specs.declared.CaseRecord.{CaseRecord}
-use Rattle.model.specs.Views.{caseIn, planIn, Ready, deviceOf, recordAt}
+use Rattle.model.specs.Views.{deviceOf}
 use Rattle.dispatch.specs.Cells as Cells
 use Rattle.dispatch.specs.Cells.{CellOf, systemOf, planOf}
 
@@ -31,9 +30,6 @@ offSince d plan forced t i (suc k) = pick (eqb (getD plan (k * 160 + i * 10) 0) 
 module _ (d : DeviceRecord) (plan forced : List ℕ) (t i : ℕ) where
   pub record Off (k : ℕ) : Type 0 where
     pub rest : offSince d plan forced t i t ≡ offSince d plan forced t i k
-
-  pub off-start : Off t
-  off-start = record { rest = refl }
 
   pub off-next : (k : ℕ) → 0 < k → (getD plan ((k - 1) * 160 + i * 10) 0 ≡ 1 → ⊥) → Off k → Off (k - 1)
   unfolding offSince

@@ -2,7 +2,7 @@
 use mathlib.Core.Path.{_≡_, refl, sym, ap, ap₂, subst, _∙_}
 use mathlib.Core.Bool.{Bool, true, false, not, _&&_}
 use mathlib.Core.List.{List, [], _∷_, map}
-use Prim.Native.Nat.{ℕ, zero, suc, _+_, _-_, _*_, _/_, _%_, _^_, _≤_, _<_, max}
+use Prim.Native.Nat.{ℕ, _+_, _-_, _*_, _≤_, _<_, max}
 use native.Mathlib.Omega.{arith}
 use lib.Dec.{eqb}
 use lib.ListN.{getD}
@@ -11,7 +11,6 @@ use Rattle.numbers.specs.Sum.{sumℕ, gate}
 use Rattle.bits.specs.Pick.{pick}
 use Rattle.model.specs.Base.{range, upTo, largest}
 use Rattle.model.specs.Case.{System, Plan}
-use Rattle.model.specs.Ranges.{SharesRange}
 use Rattle.model.specs.Sizes.{gate-le}
 use Rattle.model.specs.Case as Case
 use Rattle.model.specs.Forced.{devices, zone, consuming, member, setting, power}

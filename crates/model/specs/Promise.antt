@@ -27,15 +27,10 @@ use Rattle.model.specs.Judgement.{Judged, judged, verdict, bufferAfter, 
 use Rattle.model.specs.Trip.{Fits, length-bits}
 use Rattle.model.specs.Back.{FitsDevice, FitsInterval, FitsSix, FitsWritten, reads-back}
 use Rattle.model.specs.Ranges.{CaseRange, PricesRange, SixRange, DevicePriceRange, CellPriceRange, Eight, case-range, plan-range}
-use Rattle.model.specs.Sizes.{PriceRange, fits, surplus-size, over-devices, device-at}
+use Rattle.model.specs.Sizes.{PriceRange, all-or, fits, surplus-size, over-devices, device-at}
 use Rattle.model.specs.Theorem.{Right, right-verdict, apart}
 
 -- ---- prices by index
-
-all-or : {A : Type 0} (P : A → Type 0) (d : A) → P d → (l : List A) → All P l → (k : ℕ) → P (getD l k d)
-all-or P d h [] a k = h
-all-or P d h (x ∷ l) a zero = a .0
-all-or P d h (x ∷ l) a (suc k) = all-or P d h l (a .1) k
 
 module _ (c : Case) (r : PricesRange (c .prices)) where
   pub six-at : (z : ℕ) → SixRange (getD (c .prices .zones) z noSix)

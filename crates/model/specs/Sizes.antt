@@ -32,10 +32,14 @@ all-at P d [] h k i = absurd (omega arith)
 all-at P d (x ∷ l) h zero i = h .0
 all-at P d (x ∷ l) h (suc k) i = all-at P d l (h .1) k (omega arith)
 
+-- the same at any place, where it holds of what stands past the end
+pub all-or : {A : Type 0} (P : A → Type 0) (d : A) → P d → (l : List A) → All P l → (k : ℕ) → P (getD l k d)
+all-or P d o [] h k = o
+all-or P d o (x ∷ l) h zero = h .0
+all-or P d o (x ∷ l) h (suc k) = all-or P d o l (h .1) k
+
 pub all-getD : (b : ℕ) (l : List ℕ) → All (λ x. x ≤ b) l → (k : ℕ) → getD l k 0 ≤ b
-all-getD b [] h k = omega arith
-all-getD b (x ∷ l) h zero = h .0
-all-getD b (x ∷ l) h (suc k) = all-getD b l (h .1) k
+all-getD b l h k = all-or (λ x. x ≤ b) 0 (omega arith) l h k
 
 pub length-range : (k n : ℕ) → length (range k n) ≡ n
 unfolding range
@@ -74,9 +78,7 @@ max-sub a (suc b) = go (ltb a (suc b))
     go false = omega arith
 
 minima-get : (l : List Minima) → All MinimaRange l → (k : ℕ) → MinimaRange (getD l k noMinima)
-minima-get [] h k = record { rru = omega arith; rrd = omega arith }
-minima-get (x ∷ l) h zero = h .0
-minima-get (x ∷ l) h (suc k) = minima-get l (h .1) k
+minima-get l h k = all-or MinimaRange noMinima (record { rru = omega arith; rrd = omega arith }) l h k
 
 times : (a b m n : ℕ) → a ≤ m → b ≤ n → a * b ≤ m * n
 times a b m n h i = mul-le-mul h i
@@ -157,12 +159,12 @@ module _ (q : System) (p : Plan) (rq : SystemRange q) (rp : PlanRange q p) (ok :
   unfolding C.energyIn
   energy-bound i w m = over-intervals _ 36000000 (λ t l. times _ _ 360 100000 (minutes-bound _ _ t) (power-bound t i l m))
 
-  pub overrun-bound : (i w : ℕ) → i < devices q → w < length (device q i .energyWindows) → maxZero (C.overrunNeed q p i w) ≤ 4000000000
+  pub overrun-bound : (i w : ℕ) → i < devices q → maxZero (C.overrunNeed q p i w) ≤ 4000000000
   unfolding C.overrunNeed
-  overrun-bound i w m l = go (eqb (energyWindow q i w .kind) 0)
+  overrun-bound i w m = go (eqb (energyWindow q i w .kind) 0)
     where
       limit : energyWindow q i w .energy ≤ 4000000000
-      limit = all-at EnergyRange noEnergyWindow (device q i .energyWindows) (device-at i m .energy) w l .energy
+      limit = all-or EnergyRange noEnergyWindow (record { kind = omega arith; from = omega arith; until = omega arith; energy = omega arith }) (device q i .energyWindows) (device-at i m .energy) w .energy
 
       go : (b : Bool) → maxZero (pick b (pos (C.energyIn q p i w) -ℤ pos (energyWindow q i w .energy)) (pos (energyWindow q i w .energy) -ℤ pos (C.energyIn q p i w))) ≤ 4000000000
       go true = omega (arith, max-sub (C.energyIn q p i w) (energyWindow q i w .energy), energy-bound i w m)
@@ -235,7 +237,7 @@ module _ (c : Case) (p : Plan) (rq : SystemRange (c .system)) (rp : PlanRange (c
       mismatch = omega (arith, mismatch-bound q p rq rp ok t l);
     }));
     count = gather-length (λ i w. maxZero (C.overrunNeed q p i w)) (λ i. length (device q i .energyWindows)) (upTo (devices q));
-    overruns = gather-all _ _ (upTo (devices q)) (all-upTo _ _ (λ i m. map-of-all (λ x. x ≤ 2 ^ 32 - 1) (λ w. maxZero (C.overrunNeed q p i w)) (upTo (length (device q i .energyWindows))) (all-upTo (λ w. maxZero (C.overrunNeed q p i w) ≤ 2 ^ 32 - 1) _ (λ w k. omega (arith, overrun-bound q p rq rp ok i w m k)))));
+    overruns = gather-all _ _ (upTo (devices q)) (all-upTo _ _ (λ i m. map-of-all (λ x. x ≤ 2 ^ 32 - 1) (λ w. maxZero (C.overrunNeed q p i w)) (upTo (length (device q i .energyWindows))) (all-upTo (λ w. maxZero (C.overrunNeed q p i w) ≤ 2 ^ 32 - 1) _ (λ w k. omega (arith, overrun-bound q p rq rp ok i w m)))));
     surplus = f;
     size = s;
   }
@@ -341,7 +343,7 @@ module _ (c : Case) (p : Plan) (rq : SystemRange (c .system)) (rp : PlanRange (c
   unfolding C.overruns whole ours
   overruns-sum i m = omega (
     arith,
-    bound-sum (our .overrun i) 4000000000 (upTo n) (all-upTo (λ w. natAbs (our .overrun i w) ≤ 4000000000) n (λ w k. overrun-bound sys p rq rp ok i w m k)),
+    bound-sum (our .overrun i) 4000000000 (upTo n) (all-upTo (λ w. natAbs (our .overrun i w) ≤ 4000000000) n (λ w k. overrun-bound sys p rq rp ok i w m)),
     length-range 0 n,
     device-at sys p rq rp ok i m .energies,
   )

@@ -1,28 +1,29 @@
 -- What shortfalls, mismatches and overruns cost.
-use mathlib.Core.Path.{_≡_, refl, sym, ap, ap₂, subst, _∙_}
-use mathlib.Core.List.{List, [], _∷_, map}
-use Prim.Native.Nat.{ℕ, zero, suc, _+_, _-_, _*_, _≤_, _<_}
+use mathlib.Core.Path.{_≡_, sym, ap, ap₂, subst, _∙_}
+use mathlib.Core.List.{List, map}
+use Prim.Native.Nat.{ℕ, zero, suc, _+_, _*_, _≤_, _<_}
 use native.Mathlib.Omega.{arith}
 use native.Mathlib.Nat.{mul-le-mul, mul-comm}
-use lib.ListN.{length, getD}
-use lib.IntN.{ℤ, pos, negℤ, _+ℤ_, _-ℤ_, _*ℤ_}
+use lib.ListN.{getD}
+use lib.IntN.{ℤ, pos, negℤ, _*ℤ_}
 use Rattle.numbers.specs.Laws.{maxZero}
 use Rattle.numbers.specs.declared.Ledger.{Ledger}
-use Rattle.model.specs.Case.{System, Plan, Case, Six, noSix}
-use Rattle.model.specs.Forced.{intervals, devices, zones, duration}
+use Rattle.model.specs.Case.{Plan, Case, Six, noSix}
+use Rattle.model.specs.Forced.{zones, duration}
 use Rattle.model.specs.Rules.{EveryRule}
-use Rattle.model.specs.Completion.{Shortfall, shortfalls, shortfallNeed, mismatchNeed, overrunNeed, shortfallPrice, shortfallCost, mismatchCost}
+use Rattle.model.specs.Completion.{Shortfall, shortfalls, shortfallNeed, mismatchNeed, overrunNeed, shortfallCost, mismatchCost}
 use Rattle.model.specs.Completion as C
 use Rattle.model.specs.Ours.{ours, whole}
 use Rattle.model.specs.Ranges.{SixRange}
 use Rattle.model.specs.declared.ZoneRecord.{ZoneRecord}
 use Rattle.model.specs.declared.CaseRecord.{CaseRecord}
-use Rattle.model.specs.Views.{caseIn, caseOf, planIn, Ready, noZoneRecord, zoneOf, zonePart, halvesIn, minimaIn, cellsIn}
+use Rattle.model.specs.Views.{caseIn, caseOf, planIn, Ready, noZoneRecord, zoneOf, halvesIn, minimaIn, cellsIn}
 use Rattle.model.specs.Viewed as W
 use Rattle.dispatch.specs.Cells as Cells
 use Rattle.surplus.specs.Entries.{Entered, entered-as}
-use Rattle.surplus.specs.Ruled.{plan-range-of, all-any}
-use Rattle.surplus.specs.Needs.{shortfall-small, mismatch-small, overrun-small}
+use Rattle.surplus.specs.Ruled.{plan-range-of}
+use Rattle.model.specs.Promise.{six-at}
+use Rattle.model.specs.Sizes.{shortfall-bound, mismatch-bound, overrun-bound}
 use Rattle.surplus.specs.Terms.{our}
 
 -- ---- shortfalls
@@ -89,9 +90,9 @@ module _ {zone : ZoneRecord} {table plan forced : List ℕ} {t z : ℕ} {x : Lis
 
   pub six-small : SixSmall x (zone .prices)
   six-small = record {
-    amount = λ j l. rw (w .amounts) (six-get (λ n. n ≤ 6400000000) need (λ s. shortfall-small (k .system) p (w .ready .decoded .range .system) (plan-range-of c table plan forced (w .ready)) (w .rules) t z s
+    amount = λ j l. rw (w .amounts) (six-get (λ n. n ≤ 6400000000) need (λ s. shortfall-bound (k .system) p (w .ready .decoded .range .system) (plan-range-of c table plan forced (w .ready)) (w .rules) t z s
         (omega (arith, w .interval, Cells.intervals-of c table plan forced (w .ready))) (omega (arith, w .known, Cells.zones-of c table plan forced (w .ready)))) j l);
-    price = six-price (zone .prices) (subst SixRange prices-are (all-any SixRange noSix (omega arith) (k .prices .zones) (w .ready .decoded .range .prices .zones) z));
+    price = six-price (zone .prices) (subst SixRange prices-are (six-at k (w .ready .decoded .range .prices) z));
   }
 
   shortfall-cost-is : 2 * getD table t 0 * sixCost (zone .prices) x ≡ duration (k .system) t * sixCost (zone .prices) (map need shortfalls)
@@ -147,7 +148,7 @@ module _ {price : ℕ} {table plan forced : List ℕ} {t m : ℕ} (w : IntervalO
   mismatch-power = omega (
     arith,
     w .power,
-    mismatch-small (caseIn (w .case) table .system) (planIn (w .case) plan) (w .ready .decoded .range .system) (plan-range-of (w .case) table plan forced (w .ready)) (w .rules) t
+    mismatch-bound (caseIn (w .case) table .system) (planIn (w .case) plan) (w .ready .decoded .range .system) (plan-range-of (w .case) table plan forced (w .ready)) (w .rules) t
         (omega (arith, w .interval, Cells.intervals-of (w .case) table plan forced (w .ready))),
   )
 
@@ -195,7 +196,7 @@ module _ {price : ℕ} {table plan forced : List ℕ} {i w e : ℕ} (o : Overrun
   overrun-energy = omega (
     arith,
     o .energy,
-    overrun-small (caseIn (o .case) table .system) (planIn (o .case) plan) (o .ready .decoded .range .system) (plan-range-of (o .case) table plan forced (o .ready)) (o .rules) i w
+    overrun-bound (caseIn (o .case) table .system) (planIn (o .case) plan) (o .ready .decoded .range .system) (plan-range-of (o .case) table plan forced (o .ready)) (o .rules) i w
         (omega (arith, o .device, Cells.devices-of (o .case) table plan forced (o .ready))),
   )
 

@@ -1,7 +1,6 @@
 -- The day's balance in the order in which it is added up, and that it is our surplus.
 use mathlib.Core.Path.{_≡_, refl, sym, ap, ap₂, _∙_}
-use mathlib.Core.List.{List, [], _∷_}
-use Prim.Native.Nat.{ℕ, zero, suc, _+_, _*_, _≤_, _<_}
+use Prim.Native.Nat.{ℕ, zero, suc, _+_, _*_, _≤_}
 use native.Mathlib.Omega.{arith}
 use native.Mathlib.Numerals.{add-one}
 use lib.ListN.{length}
@@ -15,9 +14,8 @@ use Rattle.model.specs.Base.{range, upTo}
 use Rattle.model.specs.Case.{System, Plan, Case}
 use Rattle.model.specs.Forced.{intervals, devices, zones, device}
 use Rattle.model.specs.Completion.{blockWorth, onCost, changeCost, reservesCost, shortfallCost, mismatchCost, overruns, surplusOf}
-use Rattle.model.specs.Ours.{ours, whole}
 use Rattle.model.specs.Judgement.{ourSurplus}
-use Rattle.surplus.specs.Entries.{Entered, Room, entered-none, entered-then, entered-as}
+use Rattle.surplus.specs.Entries.{Entered, entered-none, entered-then, entered-as}
 use Rattle.surplus.specs.Terms.{our, cellBalance}
 use Rattle.surplus.specs.Charges.{overrunBalance}
 
@@ -142,9 +140,6 @@ module _ (c : Case) (p : Plan) where
   unfolding dayBalance
   day-entered m n f g = entered-as (entered-then f g) day-is (omega arith)
 
--- a ledger that began empty has room, and its balance is what was entered
-pub room-of : (n : ℕ) {l r : Ledger} {z : ℤ} → l .credit .0 ≡ 0 → l .debit .0 ≡ 0 → Entered l r z n → n < 4611686018427387904 → Room 0 r
-room-of n e f h k = record { credit = omega (arith, h .credit); debit = omega (arith, h .debit) }
-
+-- the balance of a ledger that began empty is what was entered
 pub balance-of : (n : ℕ) {l r : Ledger} {z : ℤ} → l .credit .0 ≡ 0 → l .debit .0 ≡ 0 → Entered l r z n → balanceOf r ≡ z
 balance-of n {l} {r} {z} e f h = h .balance ∙ rw (e, f) (by≡ (nat 0 ⊕ at z) (at z) (omega arith))

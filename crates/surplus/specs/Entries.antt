@@ -1,8 +1,8 @@
 -- Entries in a ledger: what an entry adds to the balance, and how far credit and debit grow.
-use mathlib.Core.Path.{_≡_, refl, sym, ap, _∙_}
+use mathlib.Core.Path.{_≡_, ap, _∙_}
 use Prim.Native.Nat.{ℕ, _+_, _^_, _≤_, _<_}
 use native.Mathlib.Omega.{arith}
-use lib.IntN.{ℤ, pos, negℤ, _+ℤ_, _-ℤ_}
+use lib.IntN.{ℤ, pos, negℤ, _+ℤ_}
 use Rattle.numbers.specs.Z.{at, nat, _⊕_, _⊝_, neg, by≡}
 use Rattle.numbers.specs.Laws as L
 use Rattle.numbers.specs.Units.{balanceOf}

@@ -3,7 +3,5 @@ pub mod Worth
 pub mod Costs
 pub mod Ruled
 pub mod Terms
-pub mod Needs
 pub mod Charges
-pub mod Sound
 pub mod Day

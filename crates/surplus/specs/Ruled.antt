@@ -1,5 +1,5 @@
 -- The sizes of a cell's figures where every rule holds.
-use mathlib.Core.Path.{_≡_, refl, sym, ap, ap₂, subst, _∙_}
+use mathlib.Core.Path.{_≡_, refl, sym, ap, subst, _∙_}
 use mathlib.Core.Logic.{_⊎_, inl, inr}
 use mathlib.Core.Bool.{Bool, true, false}
 use mathlib.Core.List.{List, [], _∷_, _++_, map}
@@ -10,11 +10,11 @@ use lib.ListN.{getD, length, length-map}
 use lib.IntN.{ℤ, pos, natAbs}
 use Rattle.numbers.specs.Z.{whole, n-}
 use Rattle.numbers.specs.Bounds.{na}
-use Rattle.numbers.specs.Sum.{All, sumℕ}
+use Rattle.numbers.specs.Sum.{All}
 use Rattle.numbers.specs.State.{best, best-is}
 use Rattle.bits.specs.Pick.{pick}
 use Rattle.model.specs.Base.{range}
-use Rattle.model.specs.Case.{System, Plan, Case, Device, DevicePrices, Setting, Reserves, Cell, CellPrices, noDevicePrices, noCellPrices, noCell, noDevice}
+use Rattle.model.specs.Case.{System, Plan, Reserves, noCell, noDevice}
 use Rattle.model.specs.Forced.{intervals, devices, device, cell, consuming, cap, u, su, power, setting}
 use Rattle.model.specs.Rules.{blocks, EveryRule}
 use Rattle.model.specs.Completion.{devicePrices, cellPrices, blockPrice, stateCost}
@@ -22,14 +22,14 @@ use Rattle.model.specs.Ours.{ours, bestState, lasts}
 use Rattle.model.specs.Best.{filling-cap}
 use Rattle.model.specs.Tests.{all-range}
 use Rattle.model.specs.Ranges.{PlanRange, SettingRange, DeviceRange, DevicePriceRange, CellRange, CellPriceRange, Eight}
-use Rattle.model.specs.Sizes.{all-at, all-getD, power-bound}
+use Rattle.model.specs.Sizes.{all-at, all-or, all-getD, power-bound}
+use Rattle.model.specs.Promise.{prices-at, cell-prices-at}
 use Rattle.model.specs.declared.DeviceRecord.{DeviceRecord}
 use Rattle.model.specs.declared.CaseRecord.{CaseRecord}
-use Rattle.model.specs.Views.{caseIn, planIn, planOf, Ready, rows, span, settingAt, less, recordAt, deviceOf, statesOf, devicesIn, cellsIn}
+use Rattle.model.specs.Views.{caseIn, planIn, planOf, Ready, rows, less, deviceOf, statesOf}
 use Rattle.model.specs.Viewed as W
 use Rattle.dispatch.specs.Cells as Cells
-use Rattle.dispatch.specs.Cells.{CellOf, systemOf, eightAt, reservesIn}
-use Rattle.dispatch.specs.Cells.{planOf as plannedOf}
+use Rattle.dispatch.specs.Cells.{CellOf, systemOf, eightAt, reservesIn, planOf as plannedOf}
 use Rattle.dispatch.specs.States.{noState, costOf}
 use Rattle.dispatch.specs.Choices.{fourAt, four-at, rowPlace, longest-are, cost-is}
 use Rattle.surplus.specs.Worth.{Priced, FourPriced}
@@ -56,13 +56,6 @@ plan-range-of c table plan forced r = record {
 -- a figure kept from 0 is at most twice the offset where its size is at most the offset
 pub kept-small : (o v : ℕ) → natAbs (less o v) ≤ o → v ≤ o + o
 kept-small o v h = omega (whole, na (less o v), n- (pos v) (pos o))
-
--- ---- what a list holds, or what stands past its end
-
-pub all-any : {A : Type 0} (P : A → Type 0) (z : A) → P z → (l : List A) → All P l → (k : ℕ) → P (getD l k z)
-all-any P z o [] h k = o
-all-any P z o (x ∷ l) h zero = h .0
-all-any P z o (x ∷ l) h (suc k) = all-any P z o l (h .1) k
 
 -- number k of four
 pub four-get : (f : ℕ → ℕ) (k : ℕ) → k < 4 → getD (map f blocks) k 0 ≡ f k
@@ -123,10 +116,10 @@ module _ {d : DeviceRecord} {table plan forced : List ℕ} {t i : ℕ} (w : Rule
   amounts-small = each-below 100000 plan (t * 160 + i * 10 + 2) _ (Cells.reserves-at c table plan forced ready t i (w .cell .interval) (w .cell .device) (t * 160 + i * 10 + 2) refl) (setting-range .reserves)
 
   prices-range : DevicePriceRange (devicePrices (caseIn c table) i)
-  prices-range = all-any DevicePriceRange noDevicePrices (record { on = omega arith; start = omega arith; stop = omega arith; states = tt; cells = tt }) (caseIn c table .prices .devices) (ready .decoded .range .prices .devices) i
+  prices-range = prices-at (caseIn c table) (ready .decoded .range .prices) i
 
   cell-prices-range : CellPriceRange (cellPrices (caseIn c table) t i)
-  cell-prices-range = all-any CellPriceRange noCellPrices (record { blocks = tt; reserves = omega arith }) (devicePrices (caseIn c table) i .cells) (prices-range .cells) t
+  cell-prices-range = cell-prices-at (caseIn c table) (ready .decoded .range .prices) t i
 
   pub reserve-prices-small : EachBelow 20000 (eightAt table (rowPlace t i + 12))
   reserve-prices-small =
@@ -143,7 +136,7 @@ module _ {d : DeviceRecord} {table plan forced : List ℕ} {t i : ℕ} (w : Rule
   cap-small : (k : ℕ) → cap q t i k ≤ 100000
   cap-small k =
       let g = all-at (DeviceRange (intervals q)) noDevice (q .devices) (ready .decoded .range .system .eachDevice) i in-devices in
-      let h = all-any CellRange noCell (record { status = omega arith; pmin = omega arith; pmax = omega arith; blocks = omega arith; caps = tt }) (device q i .cells) (g .cells) t in
+      let h = all-or CellRange noCell (record { status = omega arith; pmin = omega arith; pmax = omega arith; blocks = omega arith; caps = tt }) (device q i .cells) (g .cells) t in
       all-getD 100000 (cell q t i .caps) (h .caps) k
 
   abbrev ourBlock : ℕ → ℕ
@@ -154,7 +147,7 @@ module _ {d : DeviceRecord} {table plan forced : List ℕ} {t i : ℕ} (w : Rule
   block-cap k = filling-cap (blockPrice (caseIn c table) t i) (cap q t i) (power q p t i) (consuming q i) k
 
   price-range : (k : ℕ) → natAbs (blockPrice (caseIn c table) t i k) ≤ 10000
-  price-range k = all-any (λ z. natAbs z ≤ 10000) (pos 0) (omega arith) (cellPrices (caseIn c table) t i .blocks) (cell-prices-range .blocks) k
+  price-range k = all-or (λ z. natAbs z ≤ 10000) (pos 0) (omega arith) (cellPrices (caseIn c table) t i .blocks) (cell-prices-range .blocks) k
 
   -- an empty block, or its price
   pub block-priced : (k : ℕ) → k < 4 → (ourBlock k ≡ 0) ⊎ (less 10000 (getD table (rowPlace t i + 8 + k) 0) ≡ blockPrice (caseIn c table) t i k)
@@ -197,7 +190,7 @@ module _ {d : DeviceRecord} {table plan forced : List ℕ} {t i : ℕ} (w : Rule
 
   state-cost-small : (k : ℕ) → suc k ≤ length (statesOf d) → natAbs (less 1000000000 (getD (d .states) k noState .cost)) ≤ 1000000000
   unfolding costOf stateCost
-  state-cost-small k h = subst (λ (z : ℤ). natAbs z ≤ 1000000000) (sym (cost-is (w .cell) (suc k) h)) (all-any (λ z. natAbs z ≤ 1000000000) (pos 0) (omega arith) (devicePrices (caseIn c table) i .stateCosts) (prices-range .states) k)
+  state-cost-small k h = subst (λ (z : ℤ). natAbs z ≤ 1000000000) (sym (cost-is (w .cell) (suc k) h)) (all-or (λ z. natAbs z ≤ 1000000000) (pos 0) (omega arith) (devicePrices (caseIn c table) i .stateCosts) (prices-range .states) k)
 
   pub state-small : (state : ℕ) → state ≡ bestState (caseIn c table) p t i → (state ≤ 4) × StateBelow d state
   state-small state e = (omega (arith, state-known, states-few), go state (omega (arith, state-known)))

@@ -1,34 +1,33 @@
 -- The ledger's entries for one device in one interval are the definition's terms at our completion.
-use mathlib.Core.Path.{_≡_, refl, sym, ap, ap₂, subst, _∙_}
+use mathlib.Core.Path.{_≡_, refl, sym, ap, ap₂, _∙_}
 use mathlib.Core.Logic.{_⊎_, inl, inr}
 use mathlib.Core.Bool.{Bool, true, false}
-use mathlib.Core.List.{List, [], _∷_, map}
-use Prim.Native.Nat.{ℕ, zero, suc, _+_, _-_, _*_, _≤_, _<_}
+use mathlib.Core.List.{List, map}
+use Prim.Native.Nat.{ℕ, _+_, _*_, _≤_, _<_}
 use native.Mathlib.Omega.{arith}
 use native.Mathlib.Nat.{mul-zero}
 use lib.Dec.{eqb, ltb}
-use lib.ListN.{getD, length}
+use lib.ListN.{getD}
 use lib.IntN.{ℤ, pos, negℤ, _+ℤ_, _-ℤ_, _*ℤ_}
-use Rattle.numbers.specs.Z.{at, nat, _⊕_, _⊝_, _⊗_, neg, by≡}
+use Rattle.numbers.specs.Z.{nat, _⊕_, _⊝_, by≡}
 use Rattle.numbers.specs.Laws as L
-use Rattle.numbers.specs.Sum.{sumℤ, sumℕ, sum-cong}
+use Rattle.numbers.specs.Sum.{sumℤ, sumℕ}
 use Rattle.numbers.specs.declared.Ledger.{Ledger}
 use Rattle.model.specs.Base.{range}
 use Rattle.model.specs.Case.{System, Plan, Case, DevicePrices}
-use Rattle.model.specs.Forced.{consuming, duration, u, uBefore, su, sd, power, setting, cap}
+use Rattle.model.specs.Forced.{consuming, duration, u, uBefore, su, sd, power, cap}
 use Rattle.model.specs.Rules.{blocks}
-use Rattle.model.specs.Completion.{Completion, bySide, devicePrices, cellPrices, blockPrice, stateCost, reserveCost, blockWorth, onCost, changeCost, reservesCost}
+use Rattle.model.specs.Completion.{Completion, bySide, devicePrices, blockPrice, reserveCost, blockWorth, onCost, changeCost, reservesCost}
 use Rattle.model.specs.Sizes.{bit-le}
 use Rattle.model.specs.Ours.{ours, whole, bestState}
 use Rattle.model.specs.declared.DeviceRecord.{DeviceRecord}
 use Rattle.model.specs.declared.CaseRecord.{CaseRecord}
-use Rattle.model.specs.Views.{caseIn, Ready, deviceOf, statesOf, less, devicePart, cellsIn}
+use Rattle.model.specs.Views.{caseIn, Ready, deviceOf, less, devicePart, cellsIn}
 use Rattle.dispatch.specs.declared.Choice.{Choice}
 use Rattle.dispatch.specs.declared.Reserves.{Reserves as Eight}
 use Rattle.dispatch.specs.Filled.{filling-total}
 use Rattle.dispatch.specs.Cells as Cells
-use Rattle.dispatch.specs.Cells.{CellOf, systemOf, eightAt, reservesIn}
-use Rattle.dispatch.specs.Cells.{planOf as plannedOf}
+use Rattle.dispatch.specs.Cells.{systemOf, eightAt, planOf as plannedOf}
 use Rattle.dispatch.specs.States.{costOf}
 use Rattle.dispatch.specs.Choices.{fourAt, four-at, rowPlace, cost-is, ChoiceOf}
 use Rattle.surplus.specs.Entries.{Entered, entered-then, entered-as}

@@ -1,22 +1,17 @@
 -- Blocks' worth with prices kept from 0: Σ kept·power and 10,000·p, each without a sign.
-use mathlib.Core.Path.{_≡_, refl, sym, ap, ap₂, _∙_}
+use mathlib.Core.Path.{_≡_, refl, sym}
 use mathlib.Core.Logic.{_⊎_, inl, inr}
 use mathlib.Core.Bool.{Bool, true, false}
-use mathlib.Core.List.{List, [], _∷_, map}
-use Prim.Native.Nat.{ℕ, zero, suc, _+_, _*_, _≤_, _<_}
+use mathlib.Core.List.{List}
+use Prim.Native.Nat.{ℕ, _+_, _*_, _≤_, _<_}
 use native.Mathlib.Omega.{arith}
 use native.Mathlib.Nat.{mul-zero, mul-le-mul}
 use lib.Dec.{eqb}
 use lib.ListN.{getD}
-use lib.IntN.{ℤ, pos, negℤ, _+ℤ_, _-ℤ_, _*ℤ_}
-use Rattle.numbers.specs.Z.{at, nat, _⊕_, _⊝_, _⊗_, by≡}
+use lib.IntN.{ℤ, pos, negℤ, _-ℤ_}
 use Rattle.numbers.specs.Laws as L
-use Rattle.numbers.specs.Sum.{sumℤ, sumℕ}
 use Rattle.numbers.specs.declared.Ledger.{Ledger}
-use Rattle.model.specs.Base.{range}
-use Rattle.model.specs.Rules.{blocks}
 use Rattle.model.specs.Completion.{bySide}
-use Rattle.model.specs.Views.{less}
 use Rattle.surplus.specs.Entries.{Entered, entered-then, entered-as}
 
 -- one block: it is empty or its price is known

@@ -6,19 +6,13 @@ use std::io::{self, Write};
 use std::path::Path;
 use std::process::ExitCode;
 
-use reference::arguments::Arguments;
+use reference::arguments::{exit_code, Arguments};
 use reference::corpus::{check, write, DEFAULT_SEED};
 
 const USAGE: &str = "usage: corpus write DIR [--seed S]\n       corpus check DIR [--seed S]";
 
 fn main() -> ExitCode {
-    match perform() {
-        Ok(()) => ExitCode::SUCCESS,
-        Err(message) => {
-            eprintln!("{message}");
-            ExitCode::FAILURE
-        }
-    }
+    exit_code(perform())
 }
 
 fn perform() -> Result<(), String> {

@@ -4,20 +4,14 @@
 use std::fs;
 use std::process::ExitCode;
 
-use reference::arguments::Arguments;
+use reference::arguments::{exit_code, Arguments};
 use reference::packed::pack;
 use reference::worked_day::example_batch;
 
 const USAGE: &str = "usage: make FILE [--packed]";
 
 fn main() -> ExitCode {
-    match perform() {
-        Ok(()) => ExitCode::SUCCESS,
-        Err(message) => {
-            eprintln!("{message}");
-            ExitCode::FAILURE
-        }
-    }
+    exit_code(perform())
 }
 
 fn perform() -> Result<(), String> {

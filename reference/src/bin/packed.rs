@@ -4,16 +4,11 @@
 use std::io::{self, Read, Write};
 use std::process::ExitCode;
 
+use reference::arguments::exit_code;
 use reference::packed::{output, unpack};
 
 fn main() -> ExitCode {
-    match perform() {
-        Ok(()) => ExitCode::SUCCESS,
-        Err(message) => {
-            eprintln!("{message}");
-            ExitCode::FAILURE
-        }
-    }
+    exit_code(perform())
 }
 
 fn perform() -> Result<(), String> {

@@ -6,7 +6,7 @@
 use std::io::{self, Write};
 use std::process::ExitCode;
 
-use reference::arguments::Arguments;
+use reference::arguments::{exit_code, Arguments};
 use reference::tables::rows;
 
 const DEFAULT_SEED: u64 = 1;
@@ -14,13 +14,7 @@ const DEFAULT_ACCEPTED: u64 = 8;
 const USAGE: &str = "usage: tables [--seed S] [--accepted N] [--about]";
 
 fn main() -> ExitCode {
-    match perform() {
-        Ok(()) => ExitCode::SUCCESS,
-        Err(message) => {
-            eprintln!("{message}");
-            ExitCode::FAILURE
-        }
-    }
+    exit_code(perform())
 }
 
 fn perform() -> Result<(), String> {

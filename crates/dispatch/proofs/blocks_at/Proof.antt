@@ -1,12 +1,8 @@
+-- `blocks_at` meets its contract. Assumes nothing.
 use Rattle.dispatch.specs.Choices.{blocks-of}
 use borrow.Author.Needs.{needs}
 use Rattle.dispatch.proofs.blocks_at.Statement.{statement}
 use Rattle.dispatch.proofs.blocks_at.Tie as tie
-use Rattle.dispatch.proofs.blocks_at.Reads as reads
-use Rattle.dispatch.proofs.blocks_at.Lts as lts
-use Rattle.dispatch.proofs.fill.Reads as fill-reads
-use Rattle.dispatch.proofs.four_at.Reads as four-at-reads
-use Rattle.dispatch.proofs.number.Reads as number-reads
 
 mul-row : tie.Need-mul-row
 mul-row c = search needs

@@ -1,14 +1,8 @@
+-- `choose` meets its contract. Assumes nothing.
 use Rattle.dispatch.specs.Choices.{choice-of}
 use borrow.Author.Needs.{needs}
 use Rattle.dispatch.proofs.choose.Statement.{statement}
 use Rattle.dispatch.proofs.choose.Tie as tie
-use Rattle.dispatch.proofs.choose.Reads as reads
-use Rattle.dispatch.proofs.choose.Lts as lts
-use Rattle.dispatch.proofs.blocks_at.Reads as blocks-at-reads
-use Rattle.dispatch.proofs.number.Reads as number-reads
-use Rattle.dispatch.proofs.on_before.Reads as on-before-reads
-use Rattle.dispatch.proofs.rises.Reads as rises-reads
-use Rattle.dispatch.proofs.state_at.Reads as state-at-reads
 
 mul-number : tie.Need-mul-number
 mul-number c = search needs

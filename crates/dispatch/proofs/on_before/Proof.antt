@@ -1,10 +1,8 @@
+-- `on_before` meets its contract. Assumes nothing.
 use borrow.Author.Tests.{eq-eqb, ne-eqb}
 use borrow.Author.Needs.{needs}
 use Rattle.dispatch.proofs.on_before.Statement.{statement}
 use Rattle.dispatch.proofs.on_before.Tie as tie
-use Rattle.dispatch.proofs.on_before.Reads as reads
-use Rattle.dispatch.proofs.on_before.Lts as lts
-use Rattle.dispatch.proofs.number.Reads as number-reads
 
 sub-number : tie.Need-sub-number
 sub-number c = search needs

@@ -1,8 +1,7 @@
+-- `rises` meets its contract. Assumes nothing.
 use borrow.Author.Tests.{lt-ltb, le-ltb}
 use Rattle.dispatch.proofs.rises.Statement.{statement}
 use Rattle.dispatch.proofs.rises.Tie as tie
-use Rattle.dispatch.proofs.rises.Reads as reads
-use Rattle.dispatch.proofs.rises.Lts as lts
 
 returns : tie.Need-returns
 returns c = simp (lt-ltb _ _ (c .if1 .taken))

@@ -1,11 +1,8 @@
+-- `state_at` meets its contract. Assumes nothing.
 use Rattle.dispatch.specs.Choices.{chosen-start, chosen-none}
 use borrow.Author.Needs.{needs}
 use Rattle.dispatch.proofs.state_at.Statement.{statement}
 use Rattle.dispatch.proofs.state_at.Tie as tie
-use Rattle.dispatch.proofs.state_at.Reads as reads
-use Rattle.dispatch.proofs.state_at.Lts as lts
-use Rattle.dispatch.proofs.best_state.Reads as best-state-reads
-use Rattle.dispatch.proofs.downtime.Reads as downtime-reads
 
 downtime-requires : tie.Need-downtime-requires
 downtime-requires c κs = search needs

@@ -1,3 +1,4 @@
+-- `blocks_money` meets its contract. Assumes nothing.
 use borrow.Author.Tests.{eq-eqb, ne-eqb}
 use mathlib.Core.Logic.{inr}
 use native.Mathlib.Omega.{arith}
@@ -5,12 +6,6 @@ use Rattle.surplus.specs.Worth.{trade-consuming, trade-producing}
 use borrow.Author.Needs.{needs}
 use Rattle.surplus.proofs.blocks_money.Statement.{statement}
 use Rattle.surplus.proofs.blocks_money.Tie as tie
-use Rattle.surplus.proofs.blocks_money.Reads as reads
-use Rattle.surplus.proofs.blocks_money.Lts as lts
-use Rattle.surplus.proofs.power_value.Reads as power-value-reads
-use Rattle.surplus.proofs.blocks_value.Reads as blocks-value-reads
-use Rattle.surplus.proofs.earn.Reads as earn-reads
-use Rattle.surplus.proofs.spend.Reads as spend-reads
 
 power-value-requires : tie.Need-power-value-requires
 power-value-requires c κs = let k : _ = c .pre in (k .1, k .2, inr (omega arith))

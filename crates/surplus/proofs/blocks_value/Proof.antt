@@ -1,11 +1,8 @@
+-- `blocks_value` meets its contract. Assumes nothing.
 use native.Mathlib.Omega.{arith}
 use borrow.Author.Needs.{needs}
 use Rattle.surplus.proofs.blocks_value.Statement.{statement}
 use Rattle.surplus.proofs.blocks_value.Tie as tie
-use Rattle.surplus.proofs.blocks_value.Reads as reads
-use Rattle.surplus.proofs.blocks_value.Lts as lts
-use Rattle.numbers.proofs.Grains.plus.Reads as plus-reads
-use Rattle.surplus.proofs.power_value.Reads as power-value-reads
 
 array-read-t12 : tie.Need-array-read-t12
 array-read-t12 c = search needs

@@ -1,3 +1,4 @@
+-- `cell_money` meets its contract. Assumes nothing.
 use Rattle.surplus.specs.Costs.{EachBelow}
 use mathlib.Core.Path.{sym, subst}
 use Rattle.surplus.specs.Terms.{cell-entered, blocks-ready, changes-ready}
@@ -8,15 +9,6 @@ use native.Mathlib.Omega.{arith}
 use borrow.Author.Needs.{needs}
 use Rattle.surplus.proofs.cell_money.Statement.{statement}
 use Rattle.surplus.proofs.cell_money.Tie as tie
-use Rattle.surplus.proofs.cell_money.Reads as reads
-use Rattle.surplus.proofs.cell_money.Lts as lts
-use Rattle.dispatch.proofs.four_at.Reads as four-at-reads
-use Rattle.dispatch.proofs.number.Reads as number-reads
-use Rattle.dispatch.proofs.reserves_at.Reads as reserves-at-reads
-use Rattle.surplus.proofs.blocks_money.Reads as blocks-money-reads
-use Rattle.surplus.proofs.change_money.Reads as change-money-reads
-use Rattle.surplus.proofs.on_money.Reads as on-money-reads
-use Rattle.surplus.proofs.reserves_money.Reads as reserves-money-reads
 
 number-requires : tie.Need-number-requires
 number-requires c κs = search needs

@@ -1,14 +1,10 @@
+-- `change_money` meets its contract. Assumes nothing.
 use Rattle.surplus.specs.Entries.{room-after}
 use Rattle.surplus.specs.Costs.{change-cost}
 use native.Mathlib.Omega.{arith}
 use borrow.Author.Needs.{needs}
 use Rattle.surplus.proofs.change_money.Statement.{statement}
 use Rattle.surplus.proofs.change_money.Tie as tie
-use Rattle.surplus.proofs.change_money.Reads as reads
-use Rattle.surplus.proofs.change_money.Lts as lts
-use Rattle.surplus.proofs.due.Reads as due-reads
-use Rattle.surplus.proofs.spend.Reads as spend-reads
-use Rattle.surplus.proofs.state_money.Reads as state-money-reads
 
 due-requires : tie.Need-due-requires
 due-requires c κs = search needs

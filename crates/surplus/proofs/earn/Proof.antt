@@ -1,11 +1,9 @@
+-- `earn` meets its contract. Assumes nothing.
 use Rattle.surplus.specs.Entries.{earned}
 use mathlib.Core.Path.{refl}
 use borrow.Author.Needs.{needs}
 use Rattle.surplus.proofs.earn.Statement.{statement}
 use Rattle.surplus.proofs.earn.Tie as tie
-use Rattle.surplus.proofs.earn.Reads as reads
-use Rattle.surplus.proofs.earn.Lts as lts
-use Rattle.numbers.proofs.Grains.plus.Reads as plus-reads
 
 plus-requires : tie.Need-plus-requires
 plus-requires c κs = search needs

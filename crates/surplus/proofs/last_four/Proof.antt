@@ -1,11 +1,8 @@
+-- `last_four` meets its contract. Assumes nothing.
 use mathlib.Core.Logic.{inr}
 use borrow.Author.Needs.{needs}
 use Rattle.surplus.proofs.last_four.Statement.{statement}
 use Rattle.surplus.proofs.last_four.Tie as tie
-use Rattle.surplus.proofs.last_four.Reads as reads
-use Rattle.surplus.proofs.last_four.Lts as lts
-use Rattle.numbers.proofs.Grains.plus.Reads as plus-reads
-use Rattle.surplus.proofs.power_value.Reads as power-value-reads
 
 power-value-requires : tie.Need-power-value-requires
 power-value-requires c κs = let k : _ = c .pre in (k .1 .rruon, k .0, inr (k .2 .rruon))

@@ -1,15 +1,10 @@
+-- `mismatch_money` meets its contract. Assumes nothing.
 use Rattle.surplus.specs.Charges.{interval-minutes, mismatch-price, mismatch-power, energy-cost, mismatch-entered}
 use mathlib.Core.Path.{refl}
 use native.Mathlib.Omega.{arith}
 use borrow.Author.Needs.{needs}
 use Rattle.surplus.proofs.mismatch_money.Statement.{statement}
 use Rattle.surplus.proofs.mismatch_money.Tie as tie
-use Rattle.surplus.proofs.mismatch_money.Reads as reads
-use Rattle.surplus.proofs.mismatch_money.Lts as lts
-use Rattle.dispatch.proofs.number.Reads as number-reads
-use Rattle.numbers.proofs.Kw.over.Reads as over-reads
-use Rattle.numbers.proofs.KwMin.priced.Reads as priced-reads
-use Rattle.surplus.proofs.spend.Reads as spend-reads
 
 number-requires : tie.Need-number-requires
 number-requires c κs = search needs

@@ -1,17 +1,11 @@
+-- `on_money` meets its contract. Assumes nothing.
 use Rattle.surplus.specs.Costs.{spent-as}
 use Rattle.surplus.specs.Costs.{on-cost}
-use Rattle.surplus.specs.Entries.{entered-as}
-use Prim.Native.Nat.{ℕ}
-use lib.IntN.{pos, negℤ}
-use mathlib.Core.Path.{refl, ap}
+use mathlib.Core.Path.{refl}
 use native.Mathlib.Omega.{arith}
 use borrow.Author.Needs.{needs}
 use Rattle.surplus.proofs.on_money.Statement.{statement}
 use Rattle.surplus.proofs.on_money.Tie as tie
-use Rattle.surplus.proofs.on_money.Reads as reads
-use Rattle.surplus.proofs.on_money.Lts as lts
-use Rattle.surplus.proofs.due.Reads as due-reads
-use Rattle.surplus.proofs.spend.Reads as spend-reads
 
 due-requires : tie.Need-due-requires
 due-requires c κs = search needs

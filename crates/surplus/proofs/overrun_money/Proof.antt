@@ -1,12 +1,8 @@
+-- `overrun_money` meets its contract. Assumes nothing.
 use Rattle.surplus.specs.Charges.{overrun-price, overrun-energy, overrun-cost, overrun-entered}
-use mathlib.Core.Path.{refl}
 use native.Mathlib.Omega.{arith}
 use Rattle.surplus.proofs.overrun_money.Statement.{statement}
 use Rattle.surplus.proofs.overrun_money.Tie as tie
-use Rattle.surplus.proofs.overrun_money.Reads as reads
-use Rattle.surplus.proofs.overrun_money.Lts as lts
-use Rattle.numbers.proofs.KwMin.priced.Reads as priced-reads
-use Rattle.surplus.proofs.spend.Reads as spend-reads
 
 priced-requires : tie.Need-priced-requires
 priced-requires c κs = let k : _ = c .before .before .before .pre in omega (arith, overrun-price (k .1), overrun-energy (k .1))

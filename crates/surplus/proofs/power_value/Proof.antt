@@ -1,13 +1,10 @@
+-- `power_value` meets its contract. Assumes nothing.
 use mathlib.Core.Path.{refl}
 use native.Mathlib.Omega.{arith}
 use Rattle.surplus.specs.Worth.{price-known, value-small, empty-value, block-value}
 use borrow.Author.Needs.{needs}
 use Rattle.surplus.proofs.power_value.Statement.{statement}
 use Rattle.surplus.proofs.power_value.Tie as tie
-use Rattle.surplus.proofs.power_value.Reads as reads
-use Rattle.surplus.proofs.power_value.Lts as lts
-use Rattle.numbers.proofs.Kw.over.Reads as over-reads
-use Rattle.numbers.proofs.KwMin.priced.Reads as priced-reads
 
 returns : tie.Need-returns
 returns c = let a : _ = c .before .before .args in (empty-value (a .minutes) (a .kept) (a .p .0) (c .if1 .taken), search needs)

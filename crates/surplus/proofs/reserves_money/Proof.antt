@@ -1,18 +1,9 @@
+-- `reserves_money` meets its contract. Assumes nothing.
 use Rattle.surplus.specs.Costs.{eight-cost, spent-as}
-use Rattle.surplus.specs.Entries.{entered-as}
-use Prim.Native.Nat.{ℕ}
-use lib.IntN.{pos, negℤ}
-use mathlib.Core.Path.{_≡_, ap}
 use native.Mathlib.Omega.{arith}
 use borrow.Author.Needs.{needs}
 use Rattle.surplus.proofs.reserves_money.Statement.{statement}
 use Rattle.surplus.proofs.reserves_money.Tie as tie
-use Rattle.surplus.proofs.reserves_money.Reads as reads
-use Rattle.surplus.proofs.reserves_money.Lts as lts
-use Rattle.numbers.proofs.Grains.plus.Reads as plus-reads
-use Rattle.surplus.proofs.first_four.Reads as first-four-reads
-use Rattle.surplus.proofs.last_four.Reads as last-four-reads
-use Rattle.surplus.proofs.spend.Reads as spend-reads
 
 first-four-requires : tie.Need-first-four-requires
 first-four-requires c κs = search needs

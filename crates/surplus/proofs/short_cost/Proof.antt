@@ -1,10 +1,9 @@
+-- `short_cost` meets its contract. Assumes nothing.
 use mathlib.Core.Path.{refl}
 use native.Mathlib.Nat.{mul-le-mul}
 use native.Mathlib.Omega.{arith}
 use Rattle.surplus.proofs.short_cost.Statement.{statement}
 use Rattle.surplus.proofs.short_cost.Tie as tie
-use Rattle.surplus.proofs.short_cost.Reads as reads
-use Rattle.surplus.proofs.short_cost.Lts as lts
 
 mul-result : tie.Need-mul-result
 mul-result c = omega (arith, mul-le-mul (c .pre .0) (c .pre .1))

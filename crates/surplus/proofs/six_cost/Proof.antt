@@ -1,10 +1,8 @@
+-- `six_cost` meets its contract. Assumes nothing.
 use native.Mathlib.Omega.{arith}
 use borrow.Author.Needs.{needs}
 use Rattle.surplus.proofs.six_cost.Statement.{statement}
 use Rattle.surplus.proofs.six_cost.Tie as tie
-use Rattle.surplus.proofs.six_cost.Reads as reads
-use Rattle.surplus.proofs.six_cost.Lts as lts
-use Rattle.surplus.proofs.short_cost.Reads as short-cost-reads
 
 array-read-short-cost : tie.Need-array-read-short-cost
 array-read-short-cost c = search needs

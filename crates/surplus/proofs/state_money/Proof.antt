@@ -1,3 +1,4 @@
+-- `state_money` meets its contract. Assumes nothing.
 use native.Mathlib.Omega.{arith}
 use Rattle.surplus.specs.Costs.{cost-known}
 use mathlib.Core.Path.{refl}
@@ -5,10 +6,6 @@ use Rattle.surplus.specs.Costs.{no-state, state-cost}
 use borrow.Author.Needs.{needs}
 use Rattle.surplus.proofs.state_money.Statement.{statement}
 use Rattle.surplus.proofs.state_money.Tie as tie
-use Rattle.surplus.proofs.state_money.Reads as reads
-use Rattle.surplus.proofs.state_money.Lts as lts
-use Rattle.surplus.proofs.earn.Reads as earn-reads
-use Rattle.surplus.proofs.spend.Reads as spend-reads
 
 returns : tie.Need-returns
 returns c = let a : _ = c .before .args in no-state (a .l) (a .t2) (a .state) (c .if1 .taken)

@@ -1,3 +1,4 @@
+-- `zone_money` meets its contract. Assumes nothing.
 use Prim.Native.Nat.{_*_}
 use Rattle.surplus.specs.Charges.{six-small, zone-minutes, six-cost-small, zone-entered}
 use mathlib.Core.Path.{refl}
@@ -5,11 +6,6 @@ use native.Mathlib.Omega.{arith}
 use borrow.Author.Needs.{needs}
 use Rattle.surplus.proofs.zone_money.Statement.{statement}
 use Rattle.surplus.proofs.zone_money.Tie as tie
-use Rattle.surplus.proofs.zone_money.Reads as reads
-use Rattle.surplus.proofs.zone_money.Lts as lts
-use Rattle.dispatch.proofs.number.Reads as number-reads
-use Rattle.surplus.proofs.six_cost.Reads as six-cost-reads
-use Rattle.surplus.proofs.spend.Reads as spend-reads
 
 number-requires : tie.Need-number-requires
 number-requires c κs = search needs
