@@ -18,7 +18,7 @@ use Rattle.model.specs.Ranges.{SystemRange, PlanRange, SettingRange}
 use Rattle.model.specs.Back.{FitsSix, FitsDevice}
 use Rattle.model.specs.Sizes.{shortfall-bound, mismatch-bound, overrun-bound, device-fits, over-devices, device-at}
 use Rattle.model.specs.Base.{range, upTo}
-use Rattle.dispatch.specs.Sums.{sum-last}
+use Rattle.tables.specs.Sums.{sum-last}
 use Rattle.model.specs.Layout.{bytes, int}
 use Rattle.model.specs.Tests.{all-upTo}
 use Rattle.model.specs.Messages.{any, counts, edition1}
@@ -30,8 +30,8 @@ use Rattle.writing.specs.Puts.{Puts, Room, sixIn, choiceIn, countsIn}
 use Rattle.writing.specs.Runs.{run, run-none, puts-as, fits-more}
 use Rattle.writing.specs.Size.{deviceWidth, zoneWidth, mismatchWidth, overrunWidth, intervalWidth, headerWidth, surplusWidth, completionWidth, needed, needed-room}
 use Rattle.writing.specs.Whole.{sixAt, deviceAt, deviceBits, zoneBits, intervalBits, overrunBits, windowsOf, windowsTo, windows-none, windows-all, windows-within, interval-puts, completion-puts}
-use Rattle.dispatch.specs.Energies.{windowsIn}
-use Rattle.dispatch.specs.Cells.{intervals-of, devices-of, zones-of, device-of, CellOf}
+use Rattle.needs.specs.Energies.{windowsIn}
+use Rattle.tables.specs.Cells.{intervals-of, devices-of, zones-of, device-of, CellOf}
 use Rattle.dispatch.specs.Choices.{ChoiceOf}
 use Rattle.dispatch.specs.declared.Choice.{Choice}
 

@@ -23,10 +23,11 @@ use Rattle.model.specs.declared.DeviceRecord.{DeviceRecord}
 use Rattle.model.specs.Views.{deviceOf, stateIn, statesOf, less}
 use Rattle.model.specs.Viewed as W
 use Rattle.dispatch.specs.declared.Choice.{Choice}
-use Rattle.dispatch.specs.Filled.{Filled, priceOf, capOf, Alike, filling-same, filling-caps, four-same}
+use Rattle.filling.specs.Filled.{Filled, priceOf, capOf, Alike, filling-same, filling-caps, four-same}
 use Rattle.dispatch.specs.States.{noState, costOf, lastsOf, stateOf, best-same}
-use Rattle.dispatch.specs.Cells as Cells
-use Rattle.dispatch.specs.Cells.{CellOf, systemOf, planOf, caseOf, getD-any}
+use Rattle.tables.specs.Rows.{fourAt, four-at, rowPlace}
+use Rattle.tables.specs.Cells as Cells
+use Rattle.tables.specs.Cells.{CellOf, systemOf, planOf, caseOf, getD-any}
 
 -- ---- starts and stops
 
@@ -111,21 +112,6 @@ module _ {d : DeviceRecord} {table plan forced : List ℕ} {t i : ℕ} (w : Cell
   chosen-none {s} e f = sym (ap (λ (b : Bool). pick b (best (λ n. stateCost (caseOf w) i (pos n)) (lasts (systemOf w) (planOf w) t i) 0 (range 1 (length (device (systemOf w) i .longest)))) 0) (ne-eqb (su (systemOf w) (planOf w) t i) 1 (λ g. f (e ∙ g))))
 
 -- ---- block powers
-
--- four numbers of a table from place k on
-abbrev pub fourAt : List ℕ → ℕ → List ℕ
-fourAt s k = getD s k 0 ∷ getD s (k + 1) 0 ∷ getD s (k + 2) 0 ∷ getD s (k + 3) 0 ∷ []
-
-pub four-at : (s : List ℕ) (k j : ℕ) → j < 4 → getD (fourAt s k) j 0 ≡ getD s (k + j) 0
-four-at s k zero h = let z : k + 0 ≡ k = omega arith in rw z refl
-four-at s k (suc zero) h = refl
-four-at s k (suc (suc zero)) h = refl
-four-at s k (suc (suc (suc zero))) h = refl
-four-at s k (suc (suc (suc (suc j)))) h = absurd (omega arith)
-
--- where the row of device i in interval t begins
-abbrev pub rowPlace : ℕ → ℕ → ℕ
-rowPlace t i = 432 + i * 960 + t * 20
 
 module _ {d : DeviceRecord} {table plan forced : List ℕ} {t i : ℕ} (w : CellOf d table plan forced t i) where
   caps-are : (k : ℕ) → k < 4 → capOf (fourAt table (rowPlace t i + 4)) k ≡ cap (systemOf w) t i k

@@ -1,10 +1,3 @@
-pub mod Filled
 pub mod States
-pub mod Sums
-pub mod Differences
-pub mod Cells
 pub mod Rests
-pub mod Sides
-pub mod Zones
-pub mod Energies
 pub mod Choices

@@ -14,8 +14,8 @@ use Rattle.model.specs.Case.{System, Plan, Device}
 use Rattle.model.specs.Forced.{device, startOf, endOf, u, lastOn, downtime}
 use Rattle.model.specs.declared.DeviceRecord.{DeviceRecord}
 use Rattle.model.specs.Views.{deviceOf}
-use Rattle.dispatch.specs.Cells as Cells
-use Rattle.dispatch.specs.Cells.{CellOf, systemOf, planOf}
+use Rattle.tables.specs.Cells as Cells
+use Rattle.tables.specs.Cells.{CellOf, systemOf, planOf}
 
 -- minutes off before the day
 abbrev pub initial : DeviceRecord → ℕ

@@ -17,7 +17,7 @@ use Rattle.model.specs.Views.{less, stateIn, statesOf}
 use Rattle.model.specs.declared.State.{State}
 use Rattle.model.specs.declared.DeviceRecord.{DeviceRecord}
 use Rattle.dispatch.specs.declared.Chosen.{Chosen}
-use Rattle.dispatch.specs.Filled.{kept-lower}
+use Rattle.filling.specs.Filled.{kept-lower}
 
 abbrev pub noState : State
 noState = record { longest = 0; cost = 0 }

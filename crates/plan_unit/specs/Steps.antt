@@ -35,7 +35,7 @@ use Rattle.rules.specs.declared.Check.{Check}
 use Rattle.rules.specs.declared.Check.the-variants as K
 use Rattle.writing.specs.Size.{needed, written-needed}
 use Rattle.writing.specs.Whole.{windowsTo, windows-all}
-use Rattle.dispatch.specs.Cells.{intervals-of, devices-of, zones-of}
+use Rattle.tables.specs.Cells.{intervals-of, devices-of, zones-of}
 use Rattle.completion.specs.Unbroken.{Unbroken, windowsUpTo, messageOf, windows-same}
 use Rattle.plan_unit.specs.declared.Inspected.the-variants as I
 use Rattle.plan_unit.specs.Inspection.{inspectedOf}

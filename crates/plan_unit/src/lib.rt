@@ -42,8 +42,7 @@ fn complete(
     if (result.len() as u64) < needed {
         return Verdict::Refused(Subject::Result, Fault::TooShort(needed));
     }
-    let z = settlement::surplus_of(c, table, plan, forced);
-    completion::write_completion(c, table, plan, forced, z, result);
+    let z = settlement::settle(c, table, plan, forced, result);
     Verdict::Accepted(z)
 }
 

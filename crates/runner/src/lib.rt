@@ -209,12 +209,19 @@ pub struct Next {
     pub rest: u64,
 }
 
-// Reads and judges the next plan.
-fn next_plan(c: CaseRecord, table: &[u32], left: u64, index: u64, detail: bool) -> Next
-    requires { ⌜ Decoded c (now table) ⌝ }
+// Reads the next plan into the frame and judges it.
+fn next_plan(
+    c: CaseRecord,
+    table: &[u32],
+    frame: &mut [u8],
+    left: u64,
+    index: u64,
+    detail: bool,
+) -> Next
+    requires { ⌜ Decoded c (now table) × (length (now frame) ≡ 65539) ⌝ }
+    ensures { λ r. ⌜ r .rest ≤ left ⌝ }
 {
-    let mut frame = frame_buffer();
-    let n = read_frame(&mut frame, left);
+    let n = read_frame(frame, left);
     let part = &frame[0..n];
     let rest = left - least(n as u64, left);
     match bits::frame_at(part, 0, 65536) {
@@ -231,13 +238,14 @@ fn next_plan(c: CaseRecord, table: &[u32], left: u64, index: u64, detail: bool) 
 }
 
 // The plans of a batch, up to its end; answers how many of its bytes were not read.
-fn run_plans(c: CaseRecord, table: &[u32], left: u64, detail: bool) -> u64
-    requires { ⌜ Decoded c (now table) ⌝ }
+fn run_plans(c: CaseRecord, table: &[u32], frame: &mut [u8], left: u64, detail: bool) -> u64
+    requires { ⌜ Decoded c (now table) × (length (now frame) ≡ 65539) ⌝ }
+    ensures { λ r. ⌜ r ≤ left ⌝ }
 {
     let mut rest = left;
     let mut index: u64 = 1;
     while 0 < rest {
-        let next = next_plan(c, table, rest, index, detail);
+        let next = next_plan(c, table, frame, rest, index, detail);
         if !next.more {
             return next.rest;
         }
@@ -250,10 +258,13 @@ fn run_plans(c: CaseRecord, table: &[u32], left: u64, detail: bool) -> u64
     rest
 }
 
-// The case of a frame: its line, and then the plans.
-fn run_case(frame: &[u8], left: u64, detail: bool) -> u64 {
+// The case of the frame's first n bytes: its line, and then the plans, each in the same frame.
+fn run_case(frame: &mut [u8], n: usize, left: u64, detail: bool) -> u64
+    requires { ⌜ (length (now frame) ≡ 65539) × (n ≤ 65539) ⌝ }
+    ensures { λ r. ⌜ r ≤ left ⌝ }
+{
     let mut table = table_buffer();
-    let read = cases::read_case(bits::message_at(frame, 0, 65536), &mut table);
+    let read = cases::read_case(bits::message_at(&frame[0..n], 0, 65536), &mut table);
     let ending = read.ending;
     let c = read.record;
     match ending {
@@ -263,14 +274,16 @@ fn run_case(frame: &[u8], left: u64, detail: bool) -> u64 {
         }
         Ending::Passes => {
             print_case(c.ndevices as u64, c.nintervals as u64, c.nzones as u64);
-            run_plans(c, &table, left, detail)
+            run_plans(c, &table, frame, left, detail)
         }
     }
 }
 
 // Runs a batch of at most `left` bytes that comes by standard input, and answers how many of them were not read. With `detail` a line on each
 // completion's bytes follows the line of its plan.
-pub fn run(left: u64, detail: bool) -> u64 {
+pub fn run(left: u64, detail: bool) -> u64
+    ensures { λ r. ⌜ r ≤ left ⌝ }
+{
     let mut frame = frame_buffer();
     let n = read_frame(&mut frame, left);
     let part = &frame[0..n];
@@ -281,7 +294,7 @@ pub fn run(left: u64, detail: bool) -> u64 {
             print_framing(f);
             rest
         }
-        Framed::Message(_, _) => run_case(part, rest, detail),
+        Framed::Message(_, _) => run_case(&mut frame, n, rest, detail),
     }
 }
 

@@ -1,1 +1,3 @@
 pub mod Spare
+pub mod Settled
+pub mod Steps

@@ -13,7 +13,7 @@ use Rattle.model.specs.Completion.{shortfallCost, mismatchCost}
 use Rattle.model.specs.Judgement.{ourSurplus}
 use Rattle.model.specs.Views.{caseIn, planIn}
 use Rattle.model.specs.declared.CaseRecord.{CaseRecord}
-use Rattle.dispatch.specs.Cells.{intervals-of, devices-of, zones-of}
+use Rattle.tables.specs.Cells.{intervals-of, devices-of, zones-of}
 use Rattle.surplus.specs.Entries.{Entered, Room}
 use Rattle.surplus.specs.Terms.{our, cellBalance}
 use Rattle.surplus.specs.Day.{intervalBalance, windowsBalance, interval-entered, day-entered}
@@ -23,6 +23,9 @@ use Rattle.completion.specs.Unbroken.{Unbroken}
 pub record Spare (n : ℕ) (l : Ledger) : Type 0 where
   pub credit : l .credit .0 + n < 2 ^ 62
   pub debit : l .debit .0 + n < 2 ^ 62
+
+pub spare-none : Spare 300000000000000000 (record { credit = record { 0 = 0 }; debit = record { 0 = 0 } })
+spare-none = record { credit = omega arith; debit = omega arith }
 
 -- after entries of at most k, those of at most m more fit where k + m did
 pub spare-after : (n k m : ℕ) {l r : Ledger} {z : ℤ} → Spare n l → Entered l r z k → k + m ≤ n → Spare m r

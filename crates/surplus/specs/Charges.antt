@@ -19,7 +19,7 @@ use Rattle.model.specs.declared.ZoneRecord.{ZoneRecord}
 use Rattle.model.specs.declared.CaseRecord.{CaseRecord}
 use Rattle.model.specs.Views.{caseIn, caseOf, planIn, Ready, noZoneRecord, zoneOf, halvesIn, minimaIn, cellsIn}
 use Rattle.model.specs.Viewed as W
-use Rattle.dispatch.specs.Cells as Cells
+use Rattle.tables.specs.Cells as Cells
 use Rattle.surplus.specs.Entries.{Entered, entered-as}
 use Rattle.surplus.specs.Ruled.{plan-range-of}
 use Rattle.model.specs.Promise.{six-at}

@@ -9,7 +9,7 @@ use lib.IntN.{ℤ, pos, negℤ, _+ℤ_}
 use Rattle.numbers.specs.Laws as L
 use Rattle.numbers.specs.declared.Ledger.{Ledger}
 use Rattle.model.specs.declared.DeviceRecord.{DeviceRecord}
-use Rattle.dispatch.specs.declared.Reserves.{Reserves}
+use Rattle.tables.specs.declared.Reserves.{Reserves}
 use Rattle.dispatch.specs.States.{noState, costOf}
 use Rattle.surplus.specs.Entries.{Entered, entered-none, entered-then, entered-as}
 

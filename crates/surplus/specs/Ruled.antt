@@ -28,10 +28,11 @@ use Rattle.model.specs.declared.DeviceRecord.{DeviceRecord}
 use Rattle.model.specs.declared.CaseRecord.{CaseRecord}
 use Rattle.model.specs.Views.{caseIn, planIn, planOf, Ready, rows, less, deviceOf, statesOf}
 use Rattle.model.specs.Viewed as W
-use Rattle.dispatch.specs.Cells as Cells
-use Rattle.dispatch.specs.Cells.{CellOf, systemOf, eightAt, reservesIn, planOf as plannedOf}
+use Rattle.tables.specs.Cells as Cells
+use Rattle.tables.specs.Cells.{CellOf, systemOf, eightAt, reservesIn, planOf as plannedOf}
 use Rattle.dispatch.specs.States.{noState, costOf}
-use Rattle.dispatch.specs.Choices.{fourAt, four-at, rowPlace, longest-are, cost-is}
+use Rattle.dispatch.specs.Choices.{longest-are, cost-is}
+use Rattle.tables.specs.Rows.{fourAt, four-at, rowPlace}
 use Rattle.surplus.specs.Worth.{Priced, FourPriced}
 use Rattle.surplus.specs.Costs.{CostsBelow, StateBelow, EachBelow}
 

@@ -24,12 +24,13 @@ use Rattle.model.specs.declared.DeviceRecord.{DeviceRecord}
 use Rattle.model.specs.declared.CaseRecord.{CaseRecord}
 use Rattle.model.specs.Views.{caseIn, Ready, deviceOf, less, devicePart, cellsIn}
 use Rattle.dispatch.specs.declared.Choice.{Choice}
-use Rattle.dispatch.specs.declared.Reserves.{Reserves as Eight}
-use Rattle.dispatch.specs.Filled.{filling-total}
-use Rattle.dispatch.specs.Cells as Cells
-use Rattle.dispatch.specs.Cells.{systemOf, eightAt, planOf as plannedOf}
+use Rattle.tables.specs.declared.Reserves.{Reserves as Eight}
+use Rattle.filling.specs.Filled.{filling-total}
+use Rattle.tables.specs.Cells as Cells
+use Rattle.tables.specs.Cells.{systemOf, eightAt, planOf as plannedOf}
 use Rattle.dispatch.specs.States.{costOf}
-use Rattle.dispatch.specs.Choices.{fourAt, four-at, rowPlace, cost-is, ChoiceOf}
+use Rattle.dispatch.specs.Choices.{cost-is, ChoiceOf}
+use Rattle.tables.specs.Rows.{fourAt, four-at, rowPlace}
 use Rattle.surplus.specs.Entries.{Entered, entered-then, entered-as}
 use Rattle.surplus.specs.Worth.{valueOf, tradeOf, FourPriced}
 use Rattle.surplus.specs.Costs.{eightCost, StateBelow}

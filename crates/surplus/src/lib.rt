@@ -1,15 +1,15 @@
 // The money of a day's completion, in a ledger of credit and debit.
 use dispatch::Choice;
-use dispatch::Reserves;
-use dispatch::four_at;
-use dispatch::number;
-use dispatch::reserves_at;
 use model::DeviceRecord;
 use model::ZoneRecord;
 use numbers::Grains;
 use numbers::Kw;
 use numbers::KwMin;
 use numbers::Ledger;
+use tables::Reserves;
+use tables::four_at;
+use tables::number;
+use tables::reserves_at;
 ghost use mathlib.Core.Path.{_≡_};
 ghost use Prim.Native.Nat.{_+_, _-_, _*_, _^_, _<_, _≤_};
 ghost use lib.IntN.{pos, negℤ, _+ℤ_};

@@ -1,5 +1,5 @@
 -- `best_state` meets its contract. Assumes nothing.
-use Rattle.dispatch.proofs.Arrays.{unmapped}
+use Rattle.tables.specs.Arrays.{unmapped}
 use Rattle.dispatch.specs.States.{Best, best-start, best-next, best-end}
 use Prim.Native.Nat.{_≤_, _-_}
 use borrow.Author.Needs.{needs}

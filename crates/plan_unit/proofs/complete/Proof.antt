@@ -11,27 +11,16 @@ completion-bytes-requires : tie.Need-completion-bytes-requires
 completion-bytes-requires c κs = search needs
 
 returns : tie.Need-returns
-returns c = let s = c .before .before .before .before .before .before in decides-short _ _ _ _ (s .pre) _ (c .before .completion-bytes .ensures) (c .if1 .taken)
+returns c = decides-short _ _ _ _ (c .before .before .before .before .before .before .pre) _ (c .before .completion-bytes .ensures) (c .if1 .taken)
 
-surplus-of-requires : tie.Need-surplus-of-requires
-surplus-of-requires c κs = search needs
-
-write-completion-requires : tie.Need-write-completion-requires
-write-completion-requires c κs = search needs
+settle-requires : tie.Need-settle-requires
+settle-requires c κs = search needs
 
 same-length : tie.Need-same-length
 same-length c = search needs
 
 returns-2 : tie.Need-returns-2
-returns-2 c = let s = c .before .before .before .before .before .before .before .before .before .before .before in decides-accepted _ _ _ _ (s .pre) _ (c .before .before .before .before .before .before .completion-bytes .ensures) (c .before .before .before .before .before .if1 .left) (toZ-ofZ w64 (c .before .before .before .before .surplus-of .result) (record { sfits = c .before .before .before .before .surplus-of .ok }) ∙ c .before .before .before .before .surplus-of .ensures) (c .before .before .write-completion .ensures)
+returns-2 c = let e = toZ-ofZ w64 (c .before .before .settle .result) (record { sfits = c .before .before .settle .ok }) in decides-accepted _ _ _ _ (c .before .before .before .before .before .before .before .before .before .before .pre) _ (c .before .before .before .before .before .completion-bytes .ensures) (c .before .before .before .before .if1 .left) (e ∙ c .before .before .settle .ensures .0) (rw e (c .before .before .settle .ensures .1))
 
 pub complete-spec : {M : Type 1} → statement M
-complete-spec =
-    tie.close
-    (tie.spec
-    completion-bytes-requires
-    returns
-    surplus-of-requires
-    write-completion-requires
-    same-length
-    returns-2)
+complete-spec = tie.close (tie.spec completion-bytes-requires returns settle-requires same-length returns-2)

@@ -1,14 +1,16 @@
-use Prim.Native.Nat.{ℕ, _≤_, _<_, _-_, _+_, _*_}
+-- `runner::run_plans` meets its contract. Assumes nothing.
+use Prim.Native.Nat.{_≤_}
+use mathlib.Core.Path.{_≡_}
 use lib.ListN.{length}
 use borrow.Author.Needs.{needs}
 use Rattle.runner.proofs.run_plans.Statement.{statement}
 use Rattle.runner.proofs.run_plans.Tie as tie
 
 abbrev Inv-loop : tie.InvT-loop
-Inv-loop c table left detail rest₀ index₀ rest index = rest ≤ left
+Inv-loop c table frame₀ left detail rest₀ index₀ frame rest index = (rest ≤ left) × (length frame ≡ 65539)
 
 abbrev μ-loop : tie.MeasureT-loop
-μ-loop c table left detail rest₀ index₀ rest index = rest
+μ-loop c table frame₀ left detail rest₀ index₀ frame rest index = rest
 
 loop-holds : tie.Need-loop-holds Inv-loop μ-loop
 loop-holds c = search needs
@@ -16,8 +18,14 @@ loop-holds c = search needs
 next-plan-requires : tie.Need-next-plan-requires Inv-loop μ-loop
 next-plan-requires c κs = search needs
 
+same-length : tie.Need-same-length Inv-loop μ-loop
+same-length c = search needs
+
 returns : tie.Need-returns Inv-loop μ-loop
 returns c = search needs
+
+same-length-2 : tie.Need-same-length-2 Inv-loop μ-loop
+same-length-2 c = search needs
 
 returns-2 : tie.Need-returns-2 Inv-loop μ-loop
 returns-2 c = search needs
@@ -31,20 +39,11 @@ loop-less c = search needs
 loop-again : tie.Need-loop-again Inv-loop μ-loop
 loop-again c = search needs
 
+same-length-3 : tie.Need-same-length-3 Inv-loop μ-loop
+same-length-3 c = search needs
+
 returns-3 : tie.Need-returns-3 Inv-loop μ-loop
 returns-3 c = search needs
 
 pub run-plans-spec : {M : Type 1} → statement M
-run-plans-spec =
-    tie.close
-    (tie.spec
-    Inv-loop
-    μ-loop
-    loop-holds
-    next-plan-requires
-    returns
-    returns-2
-    wrapping-add-u64-requires
-    loop-less
-    loop-again
-    returns-3)
+run-plans-spec = tie.close (tie.spec Inv-loop μ-loop loop-holds next-plan-requires same-length returns same-length-2 returns-2 wrapping-add-u64-requires loop-less loop-again same-length-3 returns-3)

@@ -4,7 +4,7 @@ use mathlib.Core.Path.{sym, subst}
 use Rattle.surplus.specs.Terms.{cell-entered, blocks-ready, changes-ready}
 use Rattle.surplus.specs.Ruled.{minutes-small, power-small, on-small, costs-small, amounts-small, reserve-prices-small}
 use Rattle.surplus.specs.Entries.{room-more, room-after}
-use Rattle.dispatch.specs.Cells.{inside}
+use Rattle.tables.specs.Cells.{inside}
 use native.Mathlib.Omega.{arith}
 use borrow.Author.Needs.{needs}
 use Rattle.surplus.proofs.cell_money.Statement.{statement}

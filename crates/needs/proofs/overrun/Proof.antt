@@ -1,0 +1,25 @@
+-- `needs::overrun` meets its contract. Assumes nothing.
+use mathlib.Core.Path.{ap, _∙_}
+use Prim.Native.Nat.{_-_}
+use Rattle.needs.specs.Energies.{overOf, over-maximum, below-minimum}
+use borrow.Author.Needs.{needs}
+use Rattle.needs.proofs.overrun.Statement.{statement}
+use Rattle.needs.proofs.overrun.Tie as tie
+
+energy-in-requires : tie.Need-energy-in-requires
+energy-in-requires c κs = search needs
+
+less-requires : tie.Need-less-requires
+less-requires c κs = search needs
+
+less-requires-2 : tie.Need-less-requires-2
+less-requires-2 c κs = search needs
+
+returns : tie.Need-returns
+returns c = over-maximum (c .before .before .before .before .before .before .args .w) _ (c .before .if1 .taken) (c .less .ensures) ∙ ap (overOf (c .before .before .before .before .before .before .args .w)) (c .before .before .before .energy-in .ensures)
+
+returns-2 : tie.Need-returns-2
+returns-2 c = below-minimum (c .before .before .before .before .before .before .args .w) _ (c .before .if1 .left) (c .less2 .ensures) ∙ ap (overOf (c .before .before .before .before .before .before .args .w)) (c .before .before .before .energy-in .ensures)
+
+pub overrun-spec : {M : Type 1} → statement M
+overrun-spec = tie.close (tie.spec energy-in-requires less-requires less-requires-2 returns returns-2)

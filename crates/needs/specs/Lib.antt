@@ -1,0 +1,4 @@
+pub mod Fleets
+pub mod Sides
+pub mod Zones
+pub mod Energies

@@ -1,0 +1,5 @@
+pub mod Arrays
+pub mod Sums
+pub mod Differences
+pub mod Cells
+pub mod Rows
