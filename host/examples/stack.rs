@@ -1,0 +1,64 @@
+//! The smallest stack, in steps of 4 KB, in which a thread judges a batch's first plan: `stack BATCH`.
+//! Each size is tried in a process of its own, which ends by a signal where the stack is too small.
+
+use std::env;
+use std::fs;
+use std::process::{Command, ExitCode, Stdio};
+use std::thread;
+
+use host::judge;
+use reference::batch::{split, Split};
+
+const LARGEST: usize = 1024;
+
+fn main() -> ExitCode {
+    let words: Vec<String> = env::args().skip(1).collect();
+    match words.as_slice() {
+        [batch] => search(batch),
+        [batch, kilobytes] => attempt(batch, kilobytes.parse().expect("a number of KB")),
+        _ => {
+            eprintln!("usage: stack BATCH");
+            ExitCode::FAILURE
+        }
+    }
+}
+
+fn search(batch: &str) -> ExitCode {
+    let program = env::current_exe().expect("this program's path");
+    let enough = |kilobytes: &usize| {
+        Command::new(&program)
+            .args([batch, &kilobytes.to_string()])
+            .stderr(Stdio::null())
+            .status()
+            .is_ok_and(|status| status.success())
+    };
+    match (4..=LARGEST).step_by(4).find(enough) {
+        Some(kilobytes) => {
+            println!("{kilobytes} KB");
+            ExitCode::SUCCESS
+        }
+        None => ExitCode::FAILURE,
+    }
+}
+
+fn attempt(batch: &str, kilobytes: usize) -> ExitCode {
+    let bytes = fs::read(batch).expect("a batch");
+    let (case, next) = message(&bytes, 0);
+    let (plan, _) = message(&bytes, next);
+    let mut result = vec![0; 65_536];
+    let judging = thread::Builder::new()
+        .stack_size(kilobytes * 1024)
+        .spawn(move || judge(&case, &plan, &mut result).word)
+        .expect("a thread");
+    match judging.join() {
+        Ok(0) => ExitCode::SUCCESS,
+        _ => ExitCode::FAILURE,
+    }
+}
+
+fn message(batch: &[u8], at: usize) -> (Vec<u8>, usize) {
+    match split(batch, at) {
+        Split::Message { message, next } => (message.to_vec(), next),
+        _ => panic!("a batch of a case and a plan"),
+    }
+}
