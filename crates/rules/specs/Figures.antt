@@ -10,8 +10,8 @@ use Rattle.model.specs.Base.{implies}
 use Rattle.model.specs.declared.DeviceRecord.{DeviceRecord}
 use Rattle.forced.specs.Places.{startedAt, stoppedAt}
 use Rattle.rules.specs.Apart.{apartAt}
-use Rattle.rules.specs.Tests.{Small}
-use Rattle.rules.specs.declared.Figures.{Figures}
+use Rattle.checks.specs.Tests.{Small}
+use Rattle.checks.specs.declared.Figures.{Figures}
 use Rattle.rules.specs.declared.Setting.{Setting}
 use Rattle.rules.specs.declared.Cell.{Cell}
 

@@ -24,14 +24,14 @@ use Rattle.model.specs.declared.DeviceRecord.{DeviceRecord}
 use Rattle.model.specs.declared.CaseRecord.{CaseRecord}
 use Rattle.forced.specs.Places.{onAt, startedAt}
 use Rattle.forced.specs.Tied.{plan-place, cell-place, intervals-here, devices-here, duration-here, device-here, cell-here, setting-here, on-here, before-here, online-here, pmin-here, started-here, stopped-here, halves-here, device-range, cell-range}
-use Rattle.rules.specs.First.{first, firstIn}
-use Rattle.rules.specs.Tests.{Sized, tests, stateTests, rampTests, onTests, offTests, powerTests}
+use Rattle.checks.specs.First.{first, firstIn}
+use Rattle.checks.specs.Tests.{Sized, tests, stateTests, rampTests, onTests, offTests, powerTests}
 use Rattle.rules.specs.Apart.{apartAt}
 use Rattle.rules.specs.Figures.{settingAt, cellAt, powerAt, previousAt, restedAt, ranAt, figuresFrom, figuresAt, Fits}
-use Rattle.rules.specs.declared.Figures.{Figures}
+use Rattle.checks.specs.declared.Figures.{Figures}
 use Rattle.rules.specs.declared.Setting.{Setting}
 use Rattle.rules.specs.declared.Cell.{Cell}
-use Rattle.rules.specs.declared.Check.{Check}
+use Rattle.checks.specs.declared.Check.{Check}
 
 -- the figures that the model's tests compare
 abbrev pub figuresOf : System → Plan → ℕ → ℕ → Figures

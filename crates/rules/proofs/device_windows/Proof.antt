@@ -3,7 +3,7 @@ use Prim.Native.Nat.{_≤_, _-_}
 use native.Mathlib.Omega.{arith}
 use mathlib.Core.Path.{_≡_, refl, sym, _∙_}
 use lib.ListN.{length, length-take, length-map}
-use Rattle.rules.specs.First.{Left, loop-start, loop-held, loop-broken, loop-done}
+use Rattle.checks.specs.First.{Left, loop-start, loop-held, loop-broken, loop-done}
 use Rattle.rules.specs.Windows.{windowHere, windowCount, window-held, window-broken}
 use borrow.Author.Needs.{needs}
 use Rattle.rules.proofs.device_windows.Statement.{statement}
