@@ -7,9 +7,9 @@ ghost use lib.IntN.{pos, _-ℤ_};
 ghost use lib.Signed.{leZ};
 ghost use Rattle.bits.specs.Pick.{pick};
 ghost use Rattle.model.specs.Base.{implies};
-ghost use Rattle.checks.specs.First.{breachAt, firstIn};
+ghost use Rattle.checks.specs.First.{breachAt, firstIn, firstNumber};
 ghost use Rattle.checks.specs.Sign.{mayRise, mayFall};
-ghost use Rattle.checks.specs.Tests.{Sized, Small, onTests, powerTests, rampTests, offTests, stateTests, tests};
+ghost use Rattle.checks.specs.Tests.{Sized, Small, powerTests, offTests, onTests, rampTests, tests};
 use model::Breach;
 use model::DeviceRecord;
 
@@ -68,28 +68,28 @@ fn at_most(x: u64, limit: u64, on: u64) -> bool
     if on == 0 { x == 0 } else { x <= limit }
 }
 
-// Rules 7 to 11.
-fn while_on(d: DeviceRecord, f: Figures, t: usize, i: usize) -> Check
-    requires { ⌜ (t < 48) × (i < 16) × Sized f ⌝ }
-    ensures { λ r. ⌜ r ≡ firstIn t i (onTests d f) ⌝ }
+// Rules 7 on: the number of the first broken one, 0 where each holds.
+fn on_rules(d: DeviceRecord, f: Figures) -> u64
+    requires { ⌜ Sized f ⌝ }
+    ensures { λ r. ⌜ r ≡ firstNumber (onTests d f) ⌝ }
 {
     let up = f.rgu + f.scr;
     if !at_most(f.rgu, d.limits[0], f.on) {
-        return broken(7, t, i);
+        return 7;
     }
     if !at_most(f.rgd, d.limits[1], f.on) {
-        return broken(8, t, i);
+        return 8;
     }
     if !at_most(up, d.limits[2], f.on) {
-        return broken(9, t, i);
+        return 9;
     }
     if !at_most(up + f.rruon, d.limits[4], f.on) {
-        return broken(10, t, i);
+        return 10;
     }
     if !at_most(f.rgd + f.rrdon, d.limits[6], f.on) {
-        return broken(11, t, i);
+        return 11;
     }
-    Check::Held
+    off_rules(d, f)
 }
 
 // The one for a consuming device, the other for a producing one.
@@ -109,26 +109,26 @@ fn none_held(side: u64, consuming: u64, producing: u64) -> bool
     held == 0
 }
 
-// Rules 12 to 15.
-fn while_off(d: DeviceRecord, f: Figures, t: usize, i: usize) -> Check
-    requires { ⌜ (t < 48) × (i < 16) × Sized f ⌝ }
-    ensures { λ r. ⌜ r ≡ firstIn t i (offTests d f) ⌝ }
+// Rules 12 on.
+fn off_rules(d: DeviceRecord, f: Figures) -> u64
+    requires { ⌜ Sized f ⌝ }
+    ensures { λ r. ⌜ r ≡ firstNumber (offTests d f) ⌝ }
 {
     let off = 1 - f.on;
     let up = f.nsc + f.rruoff;
     if !at_most(f.nsc, d.limits[3], off) {
-        return broken(12, t, i);
+        return 12;
     }
     if !at_most(up, d.limits[5], off) {
-        return broken(13, t, i);
+        return 13;
     }
     if !at_most(f.rrdoff, d.limits[7], off) {
-        return broken(14, t, i);
+        return 14;
     }
     if !none_held(d.side, up, f.rrdoff) {
-        return broken(15, t, i);
+        return 15;
     }
-    Check::Held
+    power_rules(d, f)
 }
 
 // Rules 16 and 18: a power and the side's reserves, at most pmax while on (or off).
@@ -167,18 +167,18 @@ fn room_kept(power: u64, room: u64) -> bool
     power <= room
 }
 
-// Rules 16 to 19.
-fn powers_kept(d: DeviceRecord, f: Figures, t: usize, i: usize) -> Check
-    requires { ⌜ (t < 48) × (i < 16) × Sized f ⌝ }
-    ensures { λ r. ⌜ r ≡ firstIn t i (powerTests d f) ⌝ }
+// Rules 16 to 19: the number of the first broken one, 0 where each holds.
+fn power_rules(d: DeviceRecord, f: Figures) -> u64
+    requires { ⌜ Sized f ⌝ }
+    ensures { λ r. ⌜ r ≡ firstNumber (powerTests d f) ⌝ }
 {
     let ups = f.rgu + f.scr + f.rruon;
     let downs = f.rgd + f.rrdon;
     if !roof_kept(d.side, downs, ups, f.online, f.pmax, f.on) {
-        return broken(16, t, i);
+        return 16;
     }
     if !floor_kept(d.side, ups, downs, f.pmin, f.on, f.online) {
-        return broken(17, t, i);
+        return 17;
     }
     if !roof_kept(
         d.side,
@@ -188,12 +188,12 @@ fn powers_kept(d: DeviceRecord, f: Figures, t: usize, i: usize) -> Check
         f.pmax,
         1 - f.on,
     ) {
-        return broken(18, t, i);
+        return 18;
     }
     if !room_kept(f.power, f.room) {
-        return broken(19, t, i);
+        return 19;
     }
-    Check::Held
+    0
 }
 
 // Rule 5.
@@ -232,30 +232,26 @@ fn fall_kept(power: u64, previous: u64, minutes: u64, down: u64, stopping: u64, 
     }
 }
 
-// Rules 5 and 6.
-fn ramps_kept(d: DeviceRecord, f: Figures, t: usize, i: usize) -> Check
-    requires { ⌜ (t < 48) × (i < 16) × Sized f × Small d ⌝ }
-    ensures { λ r. ⌜ r ≡ firstIn t i (rampTests d f) ⌝ }
+// Rules 5 on.
+fn ramp_rules(d: DeviceRecord, f: Figures) -> u64
+    requires { ⌜ Sized f × Small d ⌝ }
+    ensures { λ r. ⌜ r ≡ firstNumber (rampTests d f) ⌝ }
 {
-    let up = d.ramps[0];
-    let down = d.ramps[1];
-    let starting = d.ramps[2];
-    let stopping = d.ramps[3];
     if !rise_kept(
         f.power,
         f.previous,
         f.minutes,
-        up,
-        starting,
+        d.ramps[0],
+        d.ramps[2],
         f.on,
         f.started,
     ) {
-        return broken(5, t, i);
+        return 5;
     }
-    if !fall_kept(f.power, f.previous, f.minutes, down, stopping, f.on) {
-        return broken(6, t, i);
+    if !fall_kept(f.power, f.previous, f.minutes, d.ramps[1], d.ramps[3], f.on) {
+        return 6;
     }
-    Check::Held
+    on_rules(d, f)
 }
 
 // Rule 1.
@@ -291,24 +287,24 @@ fn initial_kept(start: u64, d: DeviceRecord, on: u64) -> bool
     state_kept(start + d.minutes0, least, on, d.on0)
 }
 
-// Rules 1 to 4.
-fn states_kept(d: DeviceRecord, f: Figures, t: usize, i: usize) -> Check
-    requires { ⌜ (t < 48) × (i < 16) × Sized f × Small d ⌝ }
-    ensures { λ r. ⌜ r ≡ firstIn t i (stateTests d f) ⌝ }
+// Rules 1 on.
+fn state_rules(d: DeviceRecord, f: Figures) -> u64
+    requires { ⌜ Sized f × Small d ⌝ }
+    ensures { λ r. ⌜ r ≡ firstNumber (tests d f) ⌝ }
 {
     if !status_kept(f.status, f.on) {
-        return broken(1, t, i);
+        return 1;
     }
     if !initial_kept(f.start, d, f.on) {
-        return broken(2, t, i);
+        return 2;
     }
     if !f.rested {
-        return broken(3, t, i);
+        return 3;
     }
     if !f.ran {
-        return broken(4, t, i);
+        return 4;
     }
-    Check::Held
+    ramp_rules(d, f)
 }
 
 // Rules 1 to 19 of one interval and device.
@@ -316,21 +312,10 @@ pub fn cell_kept(d: DeviceRecord, f: Figures, t: usize, i: usize) -> Check
     requires { ⌜ (t < 48) × (i < 16) × Sized f × Small d ⌝ }
     ensures { λ r. ⌜ r ≡ firstIn t i (tests d f) ⌝ }
 {
-    let states = states_kept(d, f, t, i);
-    let Check::Held = states else {
-        return states;
-    };
-    let ramps = ramps_kept(d, f, t, i);
-    let Check::Held = ramps else {
-        return ramps;
-    };
-    let on = while_on(d, f, t, i);
-    let Check::Held = on else {
-        return on;
-    };
-    let off = while_off(d, f, t, i);
-    let Check::Held = off else {
-        return off;
-    };
-    powers_kept(d, f, t, i)
+    let rule = state_rules(d, f);
+    if rule == 0 {
+        Check::Held
+    } else {
+        broken(rule, t, i)
+    }
 }

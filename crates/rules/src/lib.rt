@@ -260,8 +260,7 @@ fn interval_rules(c: CaseRecord, table: &[u32], plan: &[u32], forced: &[u32], t:
 {
     let mut i = 0;
     while i < c.ndevices {
-        let d = c.devices[i];
-        let r = cell_rules(d, table, plan, forced, t, i);
+        let r = cell_rules(c.devices[i], table, plan, forced, t, i);
         let Check::Held = r else {
             return r;
         };
@@ -358,8 +357,7 @@ fn window_rules(c: CaseRecord, table: &[u32], plan: &[u32], forced: &[u32]) -> C
 {
     let mut i = 0;
     while i < c.ndevices {
-        let d = c.devices[i];
-        let r = device_windows(d, plan, forced, c.nintervals, i);
+        let r = device_windows(c.devices[i], plan, forced, c.nintervals, i);
         let Check::Held = r else {
             return r;
         };
