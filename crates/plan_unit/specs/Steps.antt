@@ -30,9 +30,9 @@ use Rattle.fields.specs.declared.Ending.{Ending}
 use Rattle.fields.specs.declared.Ending.the-variants.{Passes, Fails}
 use Rattle.cases.specs.Whole.{CaseDone}
 use Rattle.plans.specs.Plans.{PlanRead}
-use Rattle.rules.specs.First.{first}
-use Rattle.rules.specs.declared.Check.{Check}
-use Rattle.rules.specs.declared.Check.the-variants as K
+use Rattle.checks.specs.First.{first}
+use Rattle.checks.specs.declared.Check.{Check}
+use Rattle.checks.specs.declared.Check.the-variants as K
 use Rattle.writing.specs.Size.{needed, written-needed}
 use Rattle.writing.specs.Whole.{windowsTo, windows-all}
 use Rattle.tables.specs.Cells.{intervals-of, devices-of, zones-of}

@@ -1,10 +1,10 @@
 // Judging a plan against a case, on bytes. Nothing is required of the caller of `judge`; every judgement ends.
 use bits::Fault;
+use checks::Check;
 use fields::Ending;
 use model::CaseRecord;
 use model::Subject;
 use model::Verdict;
-use rules::Check;
 ghost use mathlib.Core.Path.{_≡_};
 ghost use Rattle.bits.specs.Faults.{numberOf, returnedBy};
 ghost use Rattle.model.specs.Judgement.{readCase};

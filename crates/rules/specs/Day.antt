@@ -10,13 +10,13 @@ use Rattle.model.specs.Views.{caseIn, planIn, recordAt, Ready}
 use Rattle.model.specs.declared.Breach.{Breach}
 use Rattle.model.specs.declared.CaseRecord.{CaseRecord}
 use Rattle.forced.specs.Tied.{intervals-here, devices-here}
-use Rattle.rules.specs.First.{first, firstIn, orElse, first-append, Left, loop-start, loop-held, loop-broken, loop-done}
-use Rattle.rules.specs.Tests.{tests}
+use Rattle.checks.specs.First.{first, firstIn, orElse, first-append, Left, loop-start, loop-held, loop-broken, loop-done}
+use Rattle.checks.specs.Tests.{tests}
 use Rattle.rules.specs.Figures.{figuresAt}
 use Rattle.rules.specs.Ties.{cell-first}
 use Rattle.rules.specs.Windows.{windowHere, windowCount, windows-are}
-use Rattle.rules.specs.declared.Check.{Check}
-use Rattle.rules.specs.declared.Check.the-variants.{Held, Broken}
+use Rattle.checks.specs.declared.Check.{Check}
+use Rattle.checks.specs.declared.Check.the-variants.{Held, Broken}
 
 module _ (c : CaseRecord) (table plan : List ℕ) where
   abbrev cells : ℕ → ℕ → List Breach

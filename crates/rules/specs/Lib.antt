@@ -1,6 +1,3 @@
-pub mod First
-pub mod Sign
-pub mod Tests
 pub mod Apart
 pub mod Figures
 pub mod Ties

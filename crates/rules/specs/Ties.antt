@@ -22,16 +22,16 @@ use Rattle.model.specs.Views.{caseIn, planIn, reservesOf, recordAt, cellsIn, ce
 use Rattle.model.specs.Viewed.{cap-is}
 use Rattle.model.specs.declared.DeviceRecord.{DeviceRecord}
 use Rattle.model.specs.declared.CaseRecord.{CaseRecord}
-use Rattle.forced.specs.Places.{onAt, startedAt}
+use Rattle.forced.specs.Places.{onAt, startedAt, stoppedAt}
 use Rattle.forced.specs.Tied.{plan-place, cell-place, intervals-here, devices-here, duration-here, device-here, cell-here, setting-here, on-here, before-here, online-here, pmin-here, started-here, stopped-here, halves-here, device-range, cell-range}
-use Rattle.rules.specs.First.{first, firstIn}
-use Rattle.rules.specs.Tests.{Sized, tests, stateTests, rampTests, onTests, offTests, powerTests}
+use Rattle.checks.specs.First.{first, firstIn}
+use Rattle.checks.specs.Tests.{Sized, tests, rampTests, onTests, offTests, powerTests}
 use Rattle.rules.specs.Apart.{apartAt}
-use Rattle.rules.specs.Figures.{settingAt, cellAt, powerAt, previousAt, restedAt, ranAt, figuresFrom, figuresAt, Fits}
-use Rattle.rules.specs.declared.Figures.{Figures}
+use Rattle.rules.specs.Figures.{settingAt, cellAt, powerAt, previousAt, stopsOf, startsOf, figuresFrom, figuresAt, Fits}
+use Rattle.checks.specs.declared.Figures.{Figures}
 use Rattle.rules.specs.declared.Setting.{Setting}
 use Rattle.rules.specs.declared.Cell.{Cell}
-use Rattle.rules.specs.declared.Check.{Check}
+use Rattle.checks.specs.declared.Check.{Check}
 
 -- the figures that the model's tests compare
 abbrev pub figuresOf : System → Plan → ℕ → ℕ → Figures
@@ -62,7 +62,7 @@ figuresOf q p t i = record {
 
 -- the code's tests are the model's
 pub tests-are : (q : System) (p : Plan) (t i n : ℕ) (d : DeviceRecord) (part : List ℕ) → F.device q i ≡ deviceOf n d part .0 → tests d (figuresOf q p t i) ≡ cellTests q p t i
-unfolding tests stateTests rampTests onTests offTests powerTests cellTests R.initialMinimum R.mayRise R.mayFall deviceOf
+unfolding tests rampTests onTests offTests powerTests cellTests R.initialMinimum R.mayRise R.mayFall deviceOf
 tests-are q p t i n d part e = rw (
   ap (λ (x : C.Device). x .side) e,
   ap (λ (x : C.Device). x .on0) e,
@@ -84,16 +84,14 @@ tests-are q p t i n d part e = rw (
 ) refl
 
 -- what the code reads is what the figures say
-pub figures-read : (d : DeviceRecord) (table plan forced : List ℕ) (t i : ℕ) {s : Setting} {w : Cell} {started start minutes power previous : ℕ} {rested ran : Bool} {f : Figures}
-    → f ≡ figuresFrom s w started rested ran start minutes power previous
-    → s ≡ settingAt plan (t * 160 + i * 10) → w ≡ cellAt table (432 + i * 960 + t * 20) → started ≡ startedAt (d .on0) plan t i → rested ≡ restedAt d plan forced t i → ran ≡ ranAt d plan forced t i
-    → start ≡ getD forced t 0 → minutes ≡ 2 * getD table t 0 → power ≡ powerAt forced t i → previous ≡ previousAt (d .power0) forced t i
+pub figures-read : (d : DeviceRecord) (table plan forced : List ℕ) (t i : ℕ) {s : Setting} {w : Cell} {started stopped start half power previous : ℕ} {rested ran : Bool} {f : Figures}
+    → f ≡ figuresFrom s w started rested ran start (2 * half) power previous
+    → s ≡ settingAt plan (t * 160 + i * 10) → w ≡ cellAt table (432 + i * 960 + t * 20) → started ≡ startedAt (d .on0) plan t i → stopped ≡ stoppedAt (d .on0) plan t i
+    → rested ≡ implies (eqb started 1) (apartAt (stopsOf d) plan forced t i) → ran ≡ implies (eqb stopped 1) (apartAt (startsOf d) plan forced t i)
+    → start ≡ getD forced t 0 → half ≡ getD table t 0 → power ≡ powerAt forced t i → previous ≡ previousAt (d .power0) forced t i
     → f ≡ figuresAt d table plan forced t i
 unfolding figuresAt
-figures-read d table plan forced t i e e1 e2 e3 e4 e5 e6 e7 e8 e9 = e ∙ rw (e1, e2, e3, e4, e5, e6, e7, e8, e9) refl
-
-pub kept-read : (far : Bool) {b : Bool} (x y : ℕ) → b ≡ implies (eqb x 1) far → x ≡ y → b ≡ implies (eqb y 1) far
-kept-read far x y e q = e ∙ ap (λ (k : ℕ). implies (eqb k 1) far) q
+figures-read d table plan forced t i e e1 e2 e3 e4 e5 e6 e7 e8 e9 e10 = e ∙ rw (e5, e6, e1, e2, e3, e4, e7, e8, e9, e10) refl
 
 -- ---- sizes
 

@@ -24,9 +24,9 @@ use Rattle.model.specs.declared.CaseRecord.{CaseRecord}
 use Rattle.forced.specs.Places.{startedAt}
 use Rattle.forced.specs.Sums.{sum-last, sum-same}
 use Rattle.forced.specs.Tied.{intervals-here, device-here, started-here}
-use Rattle.rules.specs.First.{first}
+use Rattle.checks.specs.First.{first}
 use Rattle.rules.specs.Ties.{start-is}
-use Rattle.rules.specs.declared.Check.the-variants.{Held, Broken}
+use Rattle.checks.specs.declared.Check.the-variants.{Held, Broken}
 
 -- the start in interval t, where it counts
 abbrev pub countedStart : StartWindow → ℕ → List ℕ → List ℕ → ℕ → ℕ → ℕ

@@ -1,4 +1,5 @@
 -- `rules::cell_at` meets its contract: a row's numbers, and the sum of four. Assumes nothing.
+use Rattle.rules.specs.Figures.{cell-read}
 use borrow.Author.Needs.{needs}
 use Rattle.rules.proofs.cell_at.Statement.{statement}
 use Rattle.rules.proofs.cell_at.Tie as tie
@@ -52,7 +53,9 @@ add-room-3 : tie.Need-add-room-3
 add-room-3 c = search needs
 
 returns : tie.Need-returns
-returns c = cc
+returns c =
+    let a : _ = c .before .before .before .before .before .before .before .before .args in
+    cell-read (a .table .now) (a .a) (c .before .before .before .before .before .before .word .ensures .0) (c .before .before .before .before .before .word2 .ensures .0) (c .before .before .before .before .word3 .ensures .0) (c .before .before .before .word4 .ensures .0) (c .before .before .word5 .ensures .0) (c .before .word6 .ensures .0) (c .word7 .ensures .0)
 
 pub cell-at-spec : {M : Type 1} → statement M
 cell-at-spec =

@@ -1,9 +1,9 @@
 -- `rules::cell_rules` meets its contract: the figures are within their sizes. Assumes nothing.
 use mathlib.Core.Path.{ap, _∙_}
-use Rattle.rules.specs.First.{firstIn}
-use Rattle.rules.specs.Tests.{tests}
+use Rattle.checks.specs.First.{firstIn}
+use Rattle.checks.specs.Tests.{tests}
 use Rattle.rules.specs.Ties.{fits-sized}
-use Rattle.rules.specs.declared.Figures.{Figures}
+use Rattle.checks.specs.declared.Figures.{Figures}
 use borrow.Author.Needs.{needs}
 use Rattle.rules.proofs.cell_rules.Statement.{statement}
 use Rattle.rules.proofs.cell_rules.Tie as tie

@@ -3,7 +3,7 @@ use Prim.Native.Nat.{_≤_, _-_}
 use native.Mathlib.Omega.{arith}
 use mathlib.Core.Path.{_≡_, refl, sym, _∙_}
 use lib.ListN.{length, length-take, length-map}
-use Rattle.rules.specs.First.{Left, loop-start, loop-held, loop-broken, loop-done}
+use Rattle.checks.specs.First.{Left, loop-start, loop-held, loop-broken, loop-done}
 use Rattle.rules.specs.Windows.{windowHere, windowCount, window-held, window-broken}
 use borrow.Author.Needs.{needs}
 use Rattle.rules.proofs.device_windows.Statement.{statement}
@@ -31,7 +31,7 @@ element-copy-out-window : tie.Need-element-copy-out-window Inv-loop μ-loop
 element-copy-out-window c = search needs
 
 starts-in-requires : tie.Need-starts-in-requires Inv-loop μ-loop
-starts-in-requires c κs = search needs
+starts-in-requires c κs = c .before .before .before .before .before .before .pre
 
 window-broken-requires : tie.Need-window-broken-requires Inv-loop μ-loop
 window-broken-requires c κs = search needs
@@ -52,7 +52,7 @@ loop-again : tie.Need-loop-again Inv-loop μ-loop
 loop-again c =
     let s : _ = c .before .before .before .before .before .before .before .before .before in
     let h : _ = c .before .before .before .before .before .loop in
-    (search needs, search needs, search needs, loop-held (windowHere (s .args .t1) (s .args .plan .now) (s .args .forced .now) (s .args .n) (s .args .i)) (omega arith) (h .inv .3) (window-held (s .args .t1) (s .args .plan .now) (s .args .forced .now) (s .args .n) (s .args .i) (h .w) (c .before .before .starts-in .ensures) (c .if1 .left)) refl)
+    (search needs, h .inv .1, h .inv .2, loop-held (windowHere (s .args .t1) (s .args .plan .now) (s .args .forced .now) (s .args .n) (s .args .i)) (omega arith) (h .inv .3) (window-held (s .args .t1) (s .args .plan .now) (s .args .forced .now) (s .args .n) (s .args .i) (h .w) (c .before .before .starts-in .ensures) (c .if1 .left)) refl)
 
 returns-2 : tie.Need-returns-2 Inv-loop μ-loop
 returns-2 c =

@@ -1,7 +1,5 @@
 -- `rules::figures_at` meets its contract: each figure from its place. Assumes nothing.
-use mathlib.Core.Path.{ap}
-use Prim.Native.Nat.{ℕ, _*_}
-use Rattle.rules.specs.Ties.{figures-read, kept-read}
+use Rattle.rules.specs.Ties.{figures-read}
 use borrow.Author.Needs.{needs}
 use Rattle.rules.proofs.figures_at.Statement.{statement}
 use Rattle.rules.proofs.figures_at.Tie as tie
@@ -34,16 +32,16 @@ cell-at-requires : tie.Need-cell-at-requires
 cell-at-requires c κs = search needs
 
 started-requires : tie.Need-started-requires
-started-requires c κs = search needs
+started-requires c κs = let h : _ = c .before .before .before .before .before .pre in (h .interval, h .device, h .planLong)
 
 stopped-requires : tie.Need-stopped-requires
-stopped-requires c κs = search needs
+stopped-requires c κs = let h : _ = c .before .before .before .before .before .before .pre in (h .interval, h .device, h .planLong)
 
 rest-kept-requires : tie.Need-rest-kept-requires
-rest-kept-requires c κs = search needs
+rest-kept-requires c κs = let h : _ = c .before .before .before .before .before .before .before .pre in (h .interval, h .device, h .planLong, h .forcedLong)
 
 rest-kept-requires-2 : tie.Need-rest-kept-requires-2
-rest-kept-requires-2 c κs = search needs
+rest-kept-requires-2 c κs = let h : _ = c .before .before .before .before .before .before .before .before .pre in (h .interval, h .device, h .planLong, h .forcedLong)
 
 word-requires : tie.Need-word-requires
 word-requires c κs = search needs
@@ -55,10 +53,10 @@ mul-minutes : tie.Need-mul-minutes
 mul-minutes c = search needs
 
 power-at-requires : tie.Need-power-at-requires
-power-at-requires c κs = search needs
+power-at-requires c κs = let h : _ = c .before .before .before .before .before .before .before .before .before .before .before .pre in (h .interval, h .device, h .forcedLong)
 
 previous-power-requires : tie.Need-previous-power-requires
-previous-power-requires c κs = search needs
+previous-power-requires c κs = let h : _ = c .before .before .before .before .before .before .before .before .before .before .before .before .pre in (h .interval, h .device, h .forcedLong)
 
 gathered-requires : tie.Need-gathered-requires
 gathered-requires c κs = search needs
@@ -66,9 +64,7 @@ gathered-requires c κs = search needs
 returns : tie.Need-returns
 returns c =
     let a : _ = c .before .before .before .before .before .before .before .before .before .before .before .before .before .before .args in
-    figures-read (a .d) (a .table .now) (a .plan .now) (a .forced .now) (a .t) (a .i) (c .gathered .ensures) (c .before .before .before .before .before .before .before .before .before .before .setting-at .ensures) (c .before .before .before .before .before .before .before .before .before .cell-at .ensures) (c .before .before .before .before .before .before .before .before .started .ensures .0)
-    (kept-read _ _ _ (c .before .before .before .before .before .before .rest-kept .ensures) (c .before .before .before .before .before .before .before .before .started .ensures .0)) (kept-read _ _ _ (c .before .before .before .before .before .rest-kept2 .ensures) (c .before .before .before .before .before .before .before .stopped .ensures .0))
-    (c .before .before .before .before .word .ensures .0) (ap (λ (x : ℕ). 2 * x) (c .before .before .before .word2 .ensures .0)) (c .before .before .power-at .ensures) (c .before .previous-power .ensures)
+    figures-read (a .d) (a .table .now) (a .plan .now) (a .forced .now) (a .t) (a .i) (c .gathered .ensures) (c .before .before .before .before .before .before .before .before .before .before .setting-at .ensures) (c .before .before .before .before .before .before .before .before .before .cell-at .ensures) (c .before .before .before .before .before .before .before .before .started .ensures .0) (c .before .before .before .before .before .before .before .stopped .ensures .0) (c .before .before .before .before .before .before .rest-kept .ensures) (c .before .before .before .before .before .rest-kept2 .ensures) (c .before .before .before .before .word .ensures .0) (c .before .before .before .word2 .ensures .0) (c .before .before .power-at .ensures) (c .before .previous-power .ensures)
 
 pub figures-at-spec : {M : Type 1} → statement M
 figures-at-spec =

@@ -1,5 +1,5 @@
 -- `rules::first_breach` meets its contract: the cells' breaches come ahead of the windows'. Assumes nothing.
-use Rattle.rules.specs.First.{else-stop, else-pass}
+use Rattle.checks.specs.First.{else-stop, else-pass}
 use Rattle.rules.specs.Day.{day-first}
 use borrow.Author.Needs.{needs}
 use Rattle.rules.proofs.first_breach.Statement.{statement}

@@ -15,11 +15,11 @@ abbrev μ-loop : tie.MeasureT-loop
 loop-holds : tie.Need-loop-holds Inv-loop μ-loop
 loop-holds c = (search needs, cells-start _ _ _ _)
 
-mul-d : tie.Need-mul-d Inv-loop μ-loop
-mul-d c = search needs
+mul-cell-rules : tie.Need-mul-cell-rules Inv-loop μ-loop
+mul-cell-rules c = search needs
 
-element-copy-out-d : tie.Need-element-copy-out-d Inv-loop μ-loop
-element-copy-out-d c = search needs
+element-copy-out-cell-rules : tie.Need-element-copy-out-cell-rules Inv-loop μ-loop
+element-copy-out-cell-rules c = search needs
 
 cell-rules-requires : tie.Need-cell-rules-requires Inv-loop μ-loop
 cell-rules-requires c κs = let s : _ = c .before .before .before .before .before .before in fits-here (s .args .t1) (s .args .table .now) (s .args .plan .now) (s .args .forced .now) (s .pre .0) (c .before .before .loop .i) (search needs) (s .args .t) (s .pre .1)
@@ -52,8 +52,8 @@ interval-rules-spec =
     Inv-loop
     μ-loop
     loop-holds
-    mul-d
-    element-copy-out-d
+    mul-cell-rules
+    element-copy-out-cell-rules
     cell-rules-requires
     enum-told
     enum-told-2

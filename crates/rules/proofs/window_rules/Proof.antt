@@ -14,11 +14,11 @@ abbrev μ-loop : tie.MeasureT-loop
 loop-holds : tie.Need-loop-holds Inv-loop μ-loop
 loop-holds c = (search needs, windows-start _ _ _)
 
-mul-d : tie.Need-mul-d Inv-loop μ-loop
-mul-d c = search needs
+mul-device-windows : tie.Need-mul-device-windows Inv-loop μ-loop
+mul-device-windows c = search needs
 
-element-copy-out-d : tie.Need-element-copy-out-d Inv-loop μ-loop
-element-copy-out-d c = search needs
+element-copy-out-device-windows : tie.Need-element-copy-out-device-windows Inv-loop μ-loop
+element-copy-out-device-windows c = search needs
 
 device-windows-requires : tie.Need-device-windows-requires Inv-loop μ-loop
 device-windows-requires c κs = let h : _ = c .before .before .before .before .before .before .pre in (h .decoded .intervals, search needs, h .planned .long, h .forced-table .long)
@@ -51,8 +51,8 @@ window-rules-spec =
     Inv-loop
     μ-loop
     loop-holds
-    mul-d
-    element-copy-out-d
+    mul-device-windows
+    element-copy-out-device-windows
     device-windows-requires
     enum-told
     enum-told-2
