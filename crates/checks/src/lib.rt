@@ -9,7 +9,7 @@ ghost use Rattle.bits.specs.Pick.{pick};
 ghost use Rattle.model.specs.Base.{implies};
 ghost use Rattle.checks.specs.First.{breachAt, firstIn, firstNumber};
 ghost use Rattle.checks.specs.Sign.{mayRise, mayFall};
-ghost use Rattle.checks.specs.Tests.{Sized, Small, powerTests, offTests, onTests, rampTests, tests};
+ghost use Rattle.checks.specs.Tests.{limit, Sized, Small, powerTests, offTests, onTests, rampTests, tests};
 use model::Breach;
 use model::DeviceRecord;
 
@@ -60,12 +60,21 @@ fn broken(rule: u64, t: usize, i: usize) -> Check
     })
 }
 
-// Rules 7 to 14: at most a limit while on (or off).
+// At most a limit while on (or off).
 fn at_most(x: u64, limit: u64, on: u64) -> bool
     requires { ⌜ on ≤ 1 ⌝ }
     ensures { λ r. ⌜ r ≡ leb x (limit * on) ⌝ }
 {
     if on == 0 { x == 0 } else { x <= limit }
+}
+
+// Rules 7 to 14: at most the device's limit k while on (or off).
+fn limit_kept(d: DeviceRecord, k: usize, x: u64, on: u64) -> bool
+    requires { ⌜ (k < 8) × (on ≤ 1) ⌝ }
+    ensures { λ r. ⌜ r ≡ leb x (limit d k * on) ⌝ }
+{
+    let limit = d.limits[k];
+    at_most(x, limit, on)
 }
 
 // Rules 7 on: the number of the first broken one, 0 where each holds.
@@ -74,19 +83,19 @@ fn on_rules(d: DeviceRecord, f: Figures) -> u64
     ensures { λ r. ⌜ r ≡ firstNumber (onTests d f) ⌝ }
 {
     let up = f.rgu + f.scr;
-    if !at_most(f.rgu, d.limits[0], f.on) {
+    if !limit_kept(d, 0, f.rgu, f.on) {
         return 7;
     }
-    if !at_most(f.rgd, d.limits[1], f.on) {
+    if !limit_kept(d, 1, f.rgd, f.on) {
         return 8;
     }
-    if !at_most(up, d.limits[2], f.on) {
+    if !limit_kept(d, 2, up, f.on) {
         return 9;
     }
-    if !at_most(up + f.rruon, d.limits[4], f.on) {
+    if !limit_kept(d, 4, up + f.rruon, f.on) {
         return 10;
     }
-    if !at_most(f.rgd + f.rrdon, d.limits[6], f.on) {
+    if !limit_kept(d, 6, f.rgd + f.rrdon, f.on) {
         return 11;
     }
     off_rules(d, f)
@@ -109,20 +118,20 @@ fn none_held(side: u64, consuming: u64, producing: u64) -> bool
     held == 0
 }
 
-// Rules 12 on.
+// Rules 12 on: the number of the first broken one, 0 where each holds.
 fn off_rules(d: DeviceRecord, f: Figures) -> u64
     requires { ⌜ Sized f ⌝ }
     ensures { λ r. ⌜ r ≡ firstNumber (offTests d f) ⌝ }
 {
     let off = 1 - f.on;
     let up = f.nsc + f.rruoff;
-    if !at_most(f.nsc, d.limits[3], off) {
+    if !limit_kept(d, 3, f.nsc, off) {
         return 12;
     }
-    if !at_most(up, d.limits[5], off) {
+    if !limit_kept(d, 5, up, off) {
         return 13;
     }
-    if !at_most(f.rrdoff, d.limits[7], off) {
+    if !limit_kept(d, 7, f.rrdoff, off) {
         return 14;
     }
     if !none_held(d.side, up, f.rrdoff) {
@@ -232,7 +241,7 @@ fn fall_kept(power: u64, previous: u64, minutes: u64, down: u64, stopping: u64, 
     }
 }
 
-// Rules 5 on.
+// Rules 5 on: the number of the first broken one, 0 where each holds.
 fn ramp_rules(d: DeviceRecord, f: Figures) -> u64
     requires { ⌜ Sized f × Small d ⌝ }
     ensures { λ r. ⌜ r ≡ firstNumber (rampTests d f) ⌝ }
@@ -287,7 +296,7 @@ fn initial_kept(start: u64, d: DeviceRecord, on: u64) -> bool
     state_kept(start + d.minutes0, least, on, d.on0)
 }
 
-// Rules 1 on.
+// Rules 1 to 19: the number of the first broken one, 0 where each holds.
 fn state_rules(d: DeviceRecord, f: Figures) -> u64
     requires { ⌜ Sized f × Small d ⌝ }
     ensures { λ r. ⌜ r ≡ firstNumber (tests d f) ⌝ }
@@ -307,7 +316,7 @@ fn state_rules(d: DeviceRecord, f: Figures) -> u64
     ramp_rules(d, f)
 }
 
-// Rules 1 to 19 of one interval and device.
+// Rules 1 to 19 of one interval and device: the first broken one with its place.
 pub fn cell_kept(d: DeviceRecord, f: Figures, t: usize, i: usize) -> Check
     requires { ⌜ (t < 48) × (i < 16) × Sized f × Small d ⌝ }
     ensures { λ r. ⌜ r ≡ firstIn t i (tests d f) ⌝ }
