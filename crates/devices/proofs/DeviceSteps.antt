@@ -19,12 +19,14 @@ use Rattle.fields.specs.Each.{list-natural, counted-natural}
 use Rattle.fields.proofs.Steps.{eight-natural}
 use Rattle.cells.specs.Cells.{CellsDone}
 use Rattle.cells.proofs.CellSteps.{cell-natural}
-use Rattle.devices.specs.Parts.{state, Counted}
+use Rattle.windows.specs.Counted.{Counted}
+use Rattle.windows.proofs.Steps.{start-natural, energy-natural}
+use Rattle.devices.specs.Parts.{state}
 use Rattle.devices.specs.Device.{front, headOf, deviceFrom, DeviceDone}
 use Rattle.devices.specs.declared.StatesRead.{StatesRead}
-use Rattle.devices.specs.declared.windows.StartsRead.{StartsRead}
-use Rattle.devices.specs.declared.windows.EnergiesRead.{EnergiesRead}
-use Rattle.devices.proofs.Steps.{state-natural, start-natural, energy-natural}
+use Rattle.windows.specs.declared.StartsRead.{StartsRead}
+use Rattle.windows.specs.declared.EnergiesRead.{EnergiesRead}
+use Rattle.devices.proofs.Steps.{state-natural}
 use Rattle.devices.proofs.HeadSteps.{front-natural, head-natural, costs-natural}
 
 abbrev states : Layout (List (ℕ × ℤ))

@@ -1,4 +1,3 @@
-pub mod Counting
 pub mod Steps
 pub mod HeadSteps
 pub mod DeviceSteps

@@ -13,8 +13,8 @@ use Rattle.fields.specs.declared.Went.{Went}
 use Rattle.fields.specs.declared.Went.the-variants.{On}
 use Rattle.fields.specs.Got.{got, told}
 use Rattle.devices.specs.declared.StatesRead.{StatesRead}
-use Rattle.devices.specs.declared.windows.StartsRead.{StartsRead}
-use Rattle.devices.specs.declared.windows.EnergiesRead.{EnergiesRead}
+use Rattle.windows.specs.declared.StartsRead.{StartsRead}
+use Rattle.windows.specs.declared.EnergiesRead.{EnergiesRead}
 
 abbrev pub front : ℕ → Layout (Head × (Costs × Reserves))
 front zones = head zones ▸ costs ▸ eight kW

@@ -1,19 +1,8 @@
--- The counted parts of a device: startup states, start windows, energy windows.
-use mathlib.Core.Path.{_≡_}
-use mathlib.Core.List.{List, map}
-use Prim.Native.Nat.{ℕ, _≤_}
+-- A startup state: its longest downtime and its cost.
+use Prim.Native.Nat.{ℕ}
 use lib.IntN.{ℤ}
-use lib.ListN.{take}
-use Rattle.model.specs.declared.Place.{Place}
-use Rattle.model.specs.Layout.{Layout, int, _▸_, counted}
-use Rattle.model.specs.Messages.{minutes, countOf}
-use Rattle.fields.specs.declared.Went.{Went}
-use Rattle.fields.specs.Got.{got, told}
+use Rattle.model.specs.Layout.{Layout, int, _▸_}
+use Rattle.model.specs.Messages.{minutes}
 
 abbrev pub state : Layout (ℕ × ℤ)
 state = minutes ▸ int 31 1000000000
-
--- the first n of the items are what was read, seen as values of the layout
-pub record Counted {A B : Type 0} (l : Layout A) (view : B → A) (s : List ℕ) (p : Place) (w : Went) (n : ℕ) (items : List B) : Type 0 where
-  pub is : told w (map view (take n items)) ≡ got (counted (countOf 3 0 4) l) s p
-  pub few : n ≤ 4

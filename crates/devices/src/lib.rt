@@ -1,6 +1,4 @@
 // What a case says of one device: a record by value, and its cells in its part of the table.
-mod windows;
-
 use fields::Figure;
 use fields::Went;
 use model::DeviceRecord;
@@ -18,7 +16,8 @@ ghost use Rattle.devices.specs.Device.{front, headOf, deviceFrom, Device
 ghost use Rattle.model.specs.Layout.{noted};
 ghost use Rattle.model.specs.Views.{stateIn};
 ghost use Rattle.fields.specs.Got.{got, told};
-ghost use Rattle.devices.specs.Parts.{state, Counted};
+ghost use Rattle.windows.specs.Counted.{Counted};
+ghost use Rattle.devices.specs.Parts.{state};
 
 // A startup state: the longest downtime, and the cost kept from 0.
 pub struct StateRead {

@@ -31,6 +31,10 @@ startedAt on0 plan t i = bit (ltb (onBefore on0 plan t i) (onAt plan t i))
 abbrev pub stoppedAt : ℕ → List ℕ → ℕ → ℕ → ℕ
 stoppedAt on0 plan t i = bit (ltb (onAt plan t i) (onBefore on0 plan t i))
 
+-- su or sd, from the two commitments that the code reads
+pub same-rise : {r a b x y : ℕ} → r ≡ bit (ltb a b) → a ≡ x → b ≡ y → r ≡ bit (ltb x y)
+same-rise e h k = e ∙ rw (h, k) refl
+
 -- the case's pmin, and the power that a device leaves when it stops
 abbrev pub pminAt : List ℕ → ℕ → ℕ → ℕ
 pminAt table t i = getD table (432 + i * 960 + t * 20 + 1) 0

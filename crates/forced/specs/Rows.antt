@@ -85,17 +85,28 @@ module _ (f : ℕ → ℕ) (a : ℕ) where
       go k (no x) d = getD-set-other new b k v 0 (λ q. omega arith) ∙ h .number k ∙ ap (λ (t : Bool). getD old k 0 + gate t (f k)) (past a b k (omega arith) ∙ sym (past a (b + 1) k (omega arith)))
 
 -- the trajectories of device i's start and stop in e
-abbrev pub startRamp : DeviceRecord → List ℕ → List ℕ → ℕ → ℕ → Trajectory
-startRamp d table times i e = record { at = getD times (e + 1) 0; power = pminAt table e i; ramp = getD (d .ramps) 2 0 }
+abbrev pub startRamp : ℕ → List ℕ → List ℕ → ℕ → ℕ → Trajectory
+startRamp ramp table times i e = record { at = getD times (e + 1) 0; power = pminAt table e i; ramp = ramp }
 
-abbrev pub stopRamp : DeviceRecord → List ℕ → List ℕ → ℕ → ℕ → Trajectory
-stopRamp d table times i e = record { at = getD times e 0; power = leavesAt (d .power0) table e i; ramp = getD (d .ramps) 3 0 }
+abbrev pub stopRamp : ℕ → ℕ → List ℕ → List ℕ → ℕ → ℕ → Trajectory
+stopRamp power0 ramp table times i e = record { at = getD times e 0; power = leavesAt power0 table e i; ramp = ramp }
+
+-- a trajectory by its moment and power
+pub same-trajectory : {at at' power power' : ℕ} (ramp : ℕ) → at ≡ at' → power ≡ power' → _≡_ {A = Trajectory} (record { at = at; power = power; ramp = ramp }) (record { at = at'; power = power'; ramp = ramp })
+same-trajectory ramp e h = rw (e, h) refl
+
+module _ {x y : Trajectory} (e : x ≡ y) where
+  pub same-small : Small y → Small x
+  same-small s = rw e s
+
+  pub same-raised : (times : List ℕ) {a b : ℕ} {old new : List ℕ} → Raised (leftIn x times) a b old new → Raised (leftIn y times) a b old new
+  same-raised times r = rw (← e) r
 
 -- what interval e adds to interval k
 unfoldable pub added : DeviceRecord → List ℕ → List ℕ → List ℕ → ℕ → ℕ → ℕ → ℕ → ℕ
 added d table plan times n i e k =
-    startedAt (d .on0) plan e i * gate (leb 0 k && ltb k e) (leftIn (startRamp d table times i e) times k)
-    + stoppedAt (d .on0) plan e i * gate (leb e k && ltb k n) (leftIn (stopRamp d table times i e) times k)
+    startedAt (d .on0) plan e i * gate (leb 0 k && ltb k e) (leftIn (startRamp (getD (d .ramps) 2 0) table times i e) times k)
+    + stoppedAt (d .on0) plan e i * gate (leb e k && ltb k n) (leftIn (stopRamp (d .power0) (getD (d .ramps) 3 0) table times i e) times k)
 
 -- the online powers, 0 past the last interval
 pub record Online (plan : List ℕ) (n i : ℕ) (row : List ℕ) : Type 0 where
@@ -125,7 +136,7 @@ pub record Powers (d : DeviceRecord) (table plan times : List ℕ) (n i : ℕ) (
 
 -- ---- one interval's change
 
-pub leaves-low : (d : DeviceRecord) (table plan : List ℕ) (n i e : ℕ) → Rampable d table plan n i → e < n → leavesAt (d .power0) table e i ≤ 100000
+leaves-low : (d : DeviceRecord) (table plan : List ℕ) (n i e : ℕ) → Rampable d table plan n i → e < n → leavesAt (d .power0) table e i ≤ 100000
 leaves-low d table plan n i e h l = go (decLe e 0)
   where
     go : Dec (e ≤ 0) → leavesAt (d .power0) table e i ≤ 100000
@@ -133,15 +144,22 @@ leaves-low d table plan n i e h l = go (decLe e 0)
     go (no z) = rw (ne-eqb e 0 (λ q. omega arith)) (h .pmin (e - 1) (omega arith))
 
 module _ (d : DeviceRecord) (table plan times : List ℕ) (n i e : ℕ) where
+  module _ (h : Rampable d table plan n i) (m : Low 17280 times) (l : e < n) where
+    pub start-small : Small (startRamp (getD (d .ramps) 2 0) table times i e)
+    start-small = record { at = m .below (e + 1); power = h .pmin e l; ramp = h .starting }
+
+    pub stop-small : Small (stopRamp (d .power0) (getD (d .ramps) 3 0) table times i e)
+    stop-small = record { at = m .below e; power = leaves-low d table plan n i e h l; ramp = h .stopping }
+
   -- a start, a stop, or neither
   module _ {before on : ℕ} (b : before ≡ onBefore (d .on0) plan e i) (o : on ≡ onAt plan e i) where
-    pub started-adds : {r : Trajectory} {old new : List ℕ} → before < on → r ≡ startRamp d table times i e → Raised (leftIn r times) 0 e old new → Changed (added d table plan times n i e) old new
+    pub started-adds : {old new : List ℕ} → before < on → Raised (leftIn (startRamp (getD (d .ramps) 2 0) table times i e) times) 0 e old new → Changed (added d table plan times n i e) old new
     unfolding added
-    started-adds {r} {old} {new} l q h = record { long = h .long; number = λ k. h .number k ∙ rw q (simp (← b, ← o, lt-ltb before on l, le-ltb on before (omega arith), one-mul, zero-mul, add-zero)) }
+    started-adds {old} {new} l h = record { long = h .long; number = λ k. h .number k ∙ simp (← b, ← o, lt-ltb before on l, le-ltb on before (omega arith), one-mul, zero-mul, add-zero) }
 
-    pub stopped-adds : {r : Trajectory} {old new : List ℕ} → on < before → r ≡ stopRamp d table times i e → Raised (leftIn r times) e n old new → Changed (added d table plan times n i e) old new
+    pub stopped-adds : {old new : List ℕ} → on < before → Raised (leftIn (stopRamp (d .power0) (getD (d .ramps) 3 0) table times i e) times) e n old new → Changed (added d table plan times n i e) old new
     unfolding added
-    stopped-adds {r} {old} {new} l q h = record { long = h .long; number = λ k. h .number k ∙ rw q (simp (← b, ← o, lt-ltb on before l, le-ltb before on (omega arith), one-mul, zero-mul, zero-add)) }
+    stopped-adds {old} {new} l h = record { long = h .long; number = λ k. h .number k ∙ simp (← b, ← o, lt-ltb on before l, le-ltb before on (omega arith), one-mul, zero-mul, zero-add) }
 
     pub kept-adds : (old : List ℕ) → on ≤ before → before ≤ on → Changed (added d table plan times n i e) old old
     unfolding added
@@ -159,7 +177,7 @@ module _ (d : DeviceRecord) (table plan times : List ℕ) (n i e : ℕ) where
   pub added-low : (k : ℕ) → Rampable d table plan n i → e < n → added d table plan times n i e k ≤ 100000
   unfolding added
   added-low k h l = added-one (ltb b o) (ltb o b) _ _ (λ q. le-ltb o b (omega (arith, ltb-true b o q)))
-      (gate-low (leb 0 k && ltb k e) (startRamp d table times i e) k (h .pmin e l)) (gate-low (leb e k && ltb k n) (stopRamp d table times i e) k (leaves-low d table plan n i e h l))
+      (gate-low (leb 0 k && ltb k e) (startRamp (getD (d .ramps) 2 0) table times i e) k (h .pmin e l)) (gate-low (leb e k && ltb k n) (stopRamp (d .power0) (getD (d .ramps) 3 0) table times i e) k (leaves-low d table plan n i e h l))
     where
       b : ℕ
       b = onBefore (d .on0) plan e i

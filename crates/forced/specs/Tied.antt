@@ -188,11 +188,11 @@ module _ (c : CaseRecord) (table plan times : List ℕ) (known : Decoded c table
   nearer x y h = omega arith
 
   module _ (t e : ℕ) (h : t < n) (l : e < n) where
-    starts-add : startedAt (d .on0) plan e i * gate (leb 0 t && ltb t e) (leftIn (startRamp d table times i e) times t) ≡ rise t e
+    starts-add : startedAt (d .on0) plan e i * gate (leb 0 t && ltb t e) (leftIn (startRamp (getD (d .ramps) 2 0) table times i e) times t) ≡ rise t e
     unfolding deviceOf
     starts-add = go (decLe e t)
       where
-        go : Dec (e ≤ t) → startedAt (d .on0) plan e i * gate (leb 0 t && ltb t e) (leftIn (startRamp d table times i e) times t) ≡ rise t e
+        go : Dec (e ≤ t) → startedAt (d .on0) plan e i * gate (leb 0 t && ltb t e) (leftIn (startRamp (getD (d .ramps) 2 0) table times i e) times t) ≡ rise t e
         go (yes x) = rw (past 0 e t x, le-ltb t e x) (mul-zero (startedAt (d .on0) plan e i))
         go (no x) =
             let b : t < e = omega arith in
@@ -200,11 +200,11 @@ module _ (c : CaseRecord) (table plan times : List ℕ) (known : Decoded c table
             rw (within 0 e t (omega arith) b, lt-ltb t e b, started-here c table plan known i m e l, pmin-here c table plan known i m e l, device-here c table plan known i m, end-at t h, end-at e l)
             (ap (λ (x : ℕ). startedAt (d .on0) plan e i * (pminAt table e i - getD (d .ramps) 2 0 * x)) (farther (F.endOf s e) (F.endOf s t) o))
 
-    stops-add : stoppedAt (d .on0) plan e i * gate (leb e t && ltb t n) (leftIn (stopRamp d table times i e) times t) ≡ gate (leb e t) (fall t e)
+    stops-add : stoppedAt (d .on0) plan e i * gate (leb e t && ltb t n) (leftIn (stopRamp (d .power0) (getD (d .ramps) 3 0) table times i e) times t) ≡ gate (leb e t) (fall t e)
     unfolding deviceOf
     stops-add = go (decLe e t)
       where
-        go : Dec (e ≤ t) → stoppedAt (d .on0) plan e i * gate (leb e t && ltb t n) (leftIn (stopRamp d table times i e) times t) ≡ gate (leb e t) (fall t e)
+        go : Dec (e ≤ t) → stoppedAt (d .on0) plan e i * gate (leb e t && ltb t n) (leftIn (stopRamp (d .power0) (getD (d .ramps) 3 0) table times i e) times t) ≡ gate (leb e t) (fall t e)
         go (yes x) =
             let o : F.startOf s e ≤ F.endOf s t = omega (arith, end-here c table plan known t h, start-here c table plan known e (omega arith), start-order table e (t + 1) (omega arith)) in
             rw (within e n t x h, le-leb e t x, stopped-here c table plan known i m e l, leaves-here c table plan known i m e l, device-here c table plan known i m, end-at t h, start-at e l)

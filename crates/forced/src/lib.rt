@@ -7,7 +7,7 @@ ghost use Rattle.numbers.specs.Sum.{gate};
 ghost use Rattle.model.specs.Base.{bit};
 ghost use Rattle.model.specs.Views.{caseIn, planIn, Decoded, Planned, ForcedTable};
 ghost use Rattle.forced.specs.Places.{onAt, onlineAt, onBefore, startedAt, stoppedAt, pminAt, leavesAt, Times, Halves, Rampable};
-ghost use Rattle.forced.specs.Rows.{distance, leftAt, leftIn, Low, Small, Raised, Changed, added, Online, Powers};
+ghost use Rattle.forced.specs.Rows.{distance, leftAt, leftIn, startRamp, stopRamp, Low, Small, Raised, Changed, added, Online, Powers};
 ghost use Rattle.forced.specs.Table.{Blank, Timed};
 use model::CaseRecord;
 use model::DeviceRecord;
@@ -141,6 +141,36 @@ fn add_trajectory(row: &mut [u32], times: &[u32; 49], a: usize, b: usize, r: Tra
     }
 }
 
+// Adds what a start of device i in interval e gives those before it.
+fn add_start(ramp: u64, table: &[u32], times: &[u32; 49], i: usize, e: usize, row: &mut [u32])
+    requires { ⌜ (e < 48) × (i < 16) × (length (now table) ≡ 15792) × (length (now row) ≡ 48) × Low 9800000 (now row) × Low 17280 (now times) × Small (startRamp ramp (now table) (now times) i e) ⌝ }
+    ensures { λ _. ⌜ Raised (leftIn (startRamp ramp (now (table .entry)) (now (times .entry)) i e) (now (times .entry))) 0 e (now (row .entry)) (now (row .exit)) ⌝ }
+{
+    let next = e + 1;
+    let power = pmin_at(table, e, i);
+    let at = wide(times[next]);
+    add_trajectory(row, times, 0, e, Trajectory { at, power, ramp });
+}
+
+// Adds what a stop of device i in interval e gives itself and those after it.
+fn add_stop(
+    power0: u64,
+    ramp: u64,
+    table: &[u32],
+    times: &[u32; 49],
+    i: usize,
+    n: usize,
+    e: usize,
+    row: &mut [u32],
+)
+    requires { ⌜ (e < n) × (n ≤ 48) × (i < 16) × (length (now table) ≡ 15792) × (length (now row) ≡ 48) × Low 9800000 (now row) × Low 17280 (now times) × Small (stopRamp power0 ramp (now table) (now times) i e) ⌝ }
+    ensures { λ _. ⌜ Raised (leftIn (stopRamp power0 ramp (now (table .entry)) (now (times .entry)) i e) (now (times .entry))) e n (now (row .entry)) (now (row .exit)) ⌝ }
+{
+    let power = leaves_at(power0, table, e, i);
+    let at = wide(times[e]);
+    add_trajectory(row, times, e, n, Trajectory { at, power, ramp });
+}
+
 // Adds to the powers of device i what interval e gives the others: a start to those before it, a stop to itself and those after it.
 fn add_change(
     d: DeviceRecord,
@@ -155,19 +185,14 @@ fn add_change(
     requires { ⌜ Rampable d (now table) (now plan) n i × Low 17280 (now times) × (e < n) × (length (now row) ≡ 48) × Low 9800000 (now row) ⌝ }
     ensures { λ _. ⌜ Changed (added d (now (table .entry)) (now (plan .entry)) (now (times .entry)) n i e) (now (row .entry)) (now (row .exit)) ⌝ }
 {
-    let next = e + 1;
     let before = on_before(d.on0, plan, e, i);
     let on = on_at(plan, e, i);
     if before < on {
-        let power = pmin_at(table, e, i);
         let ramp = d.ramps[2];
-        let at = wide(times[next]);
-        add_trajectory(row, times, 0, e, Trajectory { at, power, ramp });
+        add_start(ramp, table, times, i, e, row);
     } else if on < before {
-        let power = leaves_at(d.power0, table, e, i);
         let ramp = d.ramps[3];
-        let at = wide(times[e]);
-        add_trajectory(row, times, e, n, Trajectory { at, power, ramp });
+        add_stop(d.power0, ramp, table, times, i, n, e, row);
     }
 }
 

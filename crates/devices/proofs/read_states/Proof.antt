@@ -3,7 +3,7 @@ use Prim.Native.Nat.{_-_}
 use borrow.Author.Needs.{needs}
 use Rattle.model.specs.Views.{stateIn}
 use Rattle.devices.specs.Parts.{state}
-use Rattle.devices.proofs.Counting.{Filling, fill-no-count, fill-none, fill-more, fill-off, fill-done}
+use Rattle.windows.proofs.Counting.{Filling, fill-no-count, fill-none, fill-more, fill-off, fill-done}
 use Rattle.devices.proofs.Steps.{state-natural}
 use Rattle.devices.proofs.read_states.Statement.{statement}
 use Rattle.devices.proofs.read_states.Tie as tie

@@ -1,0 +1,94 @@
+-- `windows::read_energies` meets its contract. The loop's invariant: i of the records have been read. Assumes nothing.
+use Prim.Native.Nat.{_-_}
+use borrow.Author.Needs.{needs}
+use Rattle.model.specs.Messages.{energyWindow}
+use Rattle.model.specs.Views.{energyIn}
+use Rattle.windows.proofs.Counting.{Filling, fill-no-count, fill-none, fill-more, fill-off, fill-done}
+use Rattle.windows.proofs.Steps.{energy-natural}
+use Rattle.windows.proofs.read_energies.Statement.{statement}
+use Rattle.windows.proofs.read_energies.Tie as tie
+
+abbrev Inv-loop : tie.InvT-loop
+Inv-loop s last items₀ n q₀ i₀ items q i = Filling (energyWindow last) energyIn s n q₀ i items q
+
+abbrev μ-loop : tie.MeasureT-loop
+μ-loop s last items₀ n q₀ i₀ items q i = n - i
+
+read-count-requires : tie.Need-read-count-requires Inv-loop μ-loop
+read-count-requires c κs = search needs
+
+enum-known-count : tie.Need-enum-known-count Inv-loop μ-loop
+enum-known-count c = search needs
+
+enum-told : tie.Need-enum-told Inv-loop μ-loop
+enum-told c = search needs
+
+place-of-requires : tie.Need-place-of-requires Inv-loop μ-loop
+place-of-requires c κs = search needs
+
+returns : tie.Need-returns Inv-loop μ-loop
+returns c = search fill-no-count
+
+loop-holds : tie.Need-loop-holds Inv-loop μ-loop
+loop-holds c = search fill-none
+
+cast-loop : tie.Need-cast-loop Inv-loop μ-loop
+cast-loop c = search needs
+
+read-energy-requires : tie.Need-read-energy-requires Inv-loop μ-loop
+read-energy-requires c κs = search needs
+
+enum-known-went : tie.Need-enum-known-went Inv-loop μ-loop
+enum-known-went c = search needs
+
+enum-told-2 : tie.Need-enum-told-2 Inv-loop μ-loop
+enum-told-2 c = search needs
+
+returns-2 : tie.Need-returns-2 Inv-loop μ-loop
+returns-2 c = search (fill-off, energy-natural)
+
+mul-items : tie.Need-mul-items Inv-loop μ-loop
+mul-items c = search needs
+
+array-set-from-items : tie.Need-array-set-from-items Inv-loop μ-loop
+array-set-from-items c = search needs
+
+add-i : tie.Need-add-i Inv-loop μ-loop
+add-i c = search needs
+
+loop-less : tie.Need-loop-less Inv-loop μ-loop
+loop-less c = search needs
+
+loop-again : tie.Need-loop-again Inv-loop μ-loop
+loop-again c = search (fill-more, energy-natural)
+
+cast-t23 : tie.Need-cast-t23 Inv-loop μ-loop
+cast-t23 c = search needs
+
+returns-3 : tie.Need-returns-3 Inv-loop μ-loop
+returns-3 c = search (fill-done, energy-natural)
+
+pub read-energies-spec : {M : Type 1} → statement M
+read-energies-spec =
+    tie.close
+    (tie.spec
+    Inv-loop
+    μ-loop
+    read-count-requires
+    enum-known-count
+    enum-told
+    place-of-requires
+    returns
+    loop-holds
+    cast-loop
+    read-energy-requires
+    enum-known-went
+    enum-told-2
+    returns-2
+    mul-items
+    array-set-from-items
+    add-i
+    loop-less
+    loop-again
+    cast-t23
+    returns-3)
