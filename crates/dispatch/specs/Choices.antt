@@ -25,15 +25,12 @@ use Rattle.model.specs.Viewed as W
 use Rattle.dispatch.specs.declared.Choice.{Choice}
 use Rattle.filling.specs.Filled.{Filled, priceOf, capOf, Alike, filling-same, filling-caps, four-same}
 use Rattle.dispatch.specs.States.{noState, costOf, lastsOf, stateOf, best-same}
+use Rattle.tables.specs.Changes.{onBefore, startedAt, stoppedAt}
 use Rattle.tables.specs.Rows.{fourAt, four-at, rowPlace}
 use Rattle.tables.specs.Cells as Cells
 use Rattle.tables.specs.Cells.{CellOf, systemOf, planOf, caseOf, getD-any}
 
 -- ---- starts and stops
-
--- "before interval 1 the initial state stands"
-abbrev pub onBefore : DeviceRecord → List ℕ → ℕ → ℕ → ℕ
-onBefore d plan t i = pick (eqb t 0) (d .on0) (getD plan ((t - 1) * 160 + i * 10) 0)
 
 module _ {d : DeviceRecord} {table plan forced : List ℕ} {t i : ℕ} (w : CellOf d table plan forced t i) where
   abbrev q : System
@@ -45,7 +42,7 @@ module _ {d : DeviceRecord} {table plan forced : List ℕ} {t i : ℕ} (w : Cell
   abbrev c : Case
   c = caseOf w
 
-  before-is : (k : ℕ) → k < w .case .nintervals → onBefore d plan k i ≡ uBefore q p k i
+  before-is : (k : ℕ) → k < w .case .nintervals → onBefore (d .on0) plan k i ≡ uBefore q p k i
   unfolding uBefore deviceOf
   before-is zero h = sym (ap (λ (x : Device). x .on0) (Cells.device-of (w .case) table plan forced (w .ready) i (w .device)) ∙ ap (λ (x : DeviceRecord). x .on0) (w .is))
   before-is (suc k) h =
@@ -55,11 +52,11 @@ module _ {d : DeviceRecord} {table plan forced : List ℕ} {t i : ℕ} (w : Cell
   on-is : getD plan (t * 160 + i * 10) 0 ≡ u q p t i
   on-is = Cells.on-at (w .case) table plan forced (w .ready) t i (w .interval) (w .device) (t * 160 + i * 10) refl
 
-  pub start-is : bit (ltb (onBefore d plan t i) (getD plan (t * 160 + i * 10) 0)) ≡ su q p t i
+  pub start-is : bit (ltb (onBefore (d .on0) plan t i) (getD plan (t * 160 + i * 10) 0)) ≡ su q p t i
   unfolding su
   start-is = ap₂ (λ (a b : ℕ). bit (ltb a b)) (before-is t (w .interval)) on-is
 
-  pub stop-is : bit (ltb (getD plan (t * 160 + i * 10) 0) (onBefore d plan t i)) ≡ sd q p t i
+  pub stop-is : bit (ltb (getD plan (t * 160 + i * 10) 0) (onBefore (d .on0) plan t i)) ≡ sd q p t i
   unfolding sd
   stop-is = ap₂ (λ (a b : ℕ). bit (ltb a b)) on-is (before-is t (w .interval))
 
@@ -164,15 +161,15 @@ module _ (d : DeviceRecord) (table plan forced : List ℕ) (t i : ℕ) where
       side : (w : CellOf d table plan forced t i) → eqb (d .side) 1 ≡ consuming (systemOf w) i
       side w = ap (λ (x : DeviceRecord). eqb (x .side) 1) (sym (w .is)) ∙ Cells.side-at (w .case) table plan forced (w .ready) i (w .device)
 
-  pub choice-of : {on before s e x : ℕ} {b : List ℕ} → on ≡ getD plan (t * 160 + i * 10) 0 → before ≡ onBefore d plan t i → s ≡ bit (ltb before on) → e ≡ bit (ltb on before)
+  pub choice-of : {s e x : ℕ} {b : List ℕ} → s ≡ startedAt (d .on0) plan t i → e ≡ stoppedAt (d .on0) plan t i
       → StateOf s x → BlocksOf b → ChoiceOf (record { started = s; stopped = e; state = x; blocks = b })
   unfolding ours
-  choice-of {on} {before} {s} {e} {x} {b} f g h j k l = record {
+  choice-of {s} {e} {x} {b} h j k l = record {
     started = started;
-    stopped = λ w. j ∙ rw (f, g) (stop-is w);
+    stopped = λ w. j ∙ stop-is w;
     state = λ w. k .is w (started w);
     blocks = l .is;
   }
     where
       started : (w : CellOf d table plan forced t i) → s ≡ su (systemOf w) (planOf w) t i
-      started w = h ∙ rw (f, g) (start-is w)
+      started w = h ∙ start-is w

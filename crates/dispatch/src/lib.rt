@@ -7,13 +7,11 @@ use tables::less;
 use tables::number;
 ghost use mathlib.Core.Path.{_≡_};
 ghost use Prim.Native.Nat.{_<_, _≤_};
-ghost use lib.Dec.{ltb};
 ghost use lib.ListN.{length};
-ghost use Rattle.model.specs.Base.{bit};
 ghost use Rattle.tables.specs.Cells.{CellOf};
 ghost use Rattle.dispatch.specs.States.{chosen, stateOf};
 ghost use Rattle.dispatch.specs.Rests.{initial, DowntimeOf};
-ghost use Rattle.dispatch.specs.Choices.{onBefore, StateOf, BlocksOf, ChoiceOf};
+ghost use Rattle.dispatch.specs.Choices.{StateOf, BlocksOf, ChoiceOf};
 
 // The startup state chosen so far, 0 none, and its cost kept from 0.
 pub struct Chosen {
@@ -85,25 +83,6 @@ pub fn downtime(
     start + initial_rest(d)
 }
 
-// 1 where the second is above the first.
-fn rises(a: u64, b: u64) -> u64
-    ensures { λ r. ⌜ r ≡ bit (ltb a b) ⌝ }
-{
-    if a < b { 1 } else { 0 }
-}
-
-// "before interval 1 the initial state stands"
-fn on_before(d: DeviceRecord, plan: &[u32], t: usize, i: usize) -> u64
-    requires { ⌜ (t < 48) × (i < 16) × (length (now plan) ≡ 7680) ⌝ }
-    ensures { λ r. ⌜ r ≡ onBefore d (now (plan .entry)) t i ⌝ }
-{
-    if t == 0 {
-        d.on0
-    } else {
-        number(plan, (t - 1) * 160 + i * 10)
-    }
-}
-
 // The startup state at a start, elsewhere none.
 fn state_at(
     d: DeviceRecord,
@@ -161,10 +140,8 @@ pub fn choose(
     requires { ⌜ CellOf d (now table) (now plan) (now forced) t i ⌝ }
     ensures { λ r. ⌜ ChoiceOf d (now (table .entry)) (now (plan .entry)) (now (forced .entry)) t i r ⌝ }
 {
-    let on = number(plan, t * 160 + i * 10);
-    let before = on_before(d, plan, t, i);
-    let started = rises(before, on);
-    let stopped = rises(on, before);
+    let started = tables::started(d.on0, plan, t, i);
+    let stopped = tables::stopped(d.on0, plan, t, i);
     let state = state_at(d, table, plan, forced, t, i, started);
     let blocks = blocks_at(d, table, plan, forced, t, i);
     Choice {

@@ -11,29 +11,11 @@ use Rattle.numbers.specs.Sum.{sumℕ}
 use Rattle.bits.specs.Pick.{pick}
 use Rattle.model.specs.Base.{range, upTo, bit}
 use Rattle.model.specs.declared.DeviceRecord.{DeviceRecord}
-use Rattle.forced.specs.Sums.{sum-last}
+use Rattle.tables.specs.Sums.{sum-more}
 
--- the plan's u and online power
-abbrev pub onAt : List ℕ → ℕ → ℕ → ℕ
-onAt plan t i = getD plan (t * 160 + i * 10) 0
-
+-- the plan's online power
 abbrev pub onlineAt : List ℕ → ℕ → ℕ → ℕ
 onlineAt plan t i = getD plan (t * 160 + i * 10 + 1) 0
-
--- u of the interval before; "before interval 1 the initial state stands"
-abbrev pub onBefore : ℕ → List ℕ → ℕ → ℕ → ℕ
-onBefore on0 plan t i = pick (eqb t 0) on0 (onAt plan (t - 1) i)
-
--- su and sd
-abbrev pub startedAt : ℕ → List ℕ → ℕ → ℕ → ℕ
-startedAt on0 plan t i = bit (ltb (onBefore on0 plan t i) (onAt plan t i))
-
-abbrev pub stoppedAt : ℕ → List ℕ → ℕ → ℕ → ℕ
-stoppedAt on0 plan t i = bit (ltb (onAt plan t i) (onBefore on0 plan t i))
-
--- su or sd, from the two commitments that the code reads
-pub same-rise : {r a b x y : ℕ} → r ≡ bit (ltb a b) → a ≡ x → b ≡ y → r ≡ bit (ltb x y)
-same-rise e h k = e ∙ rw (h, k) refl
 
 -- the case's pmin, and the power that a device leaves when it stops
 abbrev pub pminAt : List ℕ → ℕ → ℕ → ℕ
@@ -69,7 +51,7 @@ module _ (table : List ℕ) where
   -- the next interval's end
   pub start-next : (t : ℕ) → startAt table (t + 1) ≡ startAt table t + 2 * getD table t 0
   unfolding startAt
-  start-next t = sum-last (λ k. 2 * getD table k 0) t
+  start-next t = sum-more (λ k. 2 * getD table k 0) t
 
   pub times-next : {t v : ℕ} {times : List ℕ} → t < 48 → Times table t times → v ≡ startAt table (t + 1) → v ≤ 17280 → Times table (t + 1) (set times (t + 1) v)
   times-next {t} {v} {times} l h e m = record { long = length-set times (t + 1) v ∙ h .long; starts = λ k b. starts k b (decLe (t + 1) k); early = λ k. early k (decLe (t + 1) k) (decLe k (t + 1)) }
@@ -82,9 +64,6 @@ module _ (table : List ℕ) where
       early k (yes x) (yes y) = let q : k ≡ t + 1 = omega arith in rw (q, getD-set-same times (t + 1) v 0 (omega (arith, h .long))) m
       early k (yes x) (no y) = rw (getD-set-other times (t + 1) k v 0 (λ q. omega arith)) (h .early k)
       early k (no x) y = rw (getD-set-other times (t + 1) k v 0 (λ q. omega arith)) (h .early k)
-
-pub record Halves (table : List ℕ) (n : ℕ) : Type 0 where
-  pub half : (t : ℕ) → t < n → getD table t 0 ≤ 180
 
 -- the figures of device i that its powers are computed from
 pub record Rampable (d : DeviceRecord) (table plan : List ℕ) (n i : ℕ) : Type 0 where

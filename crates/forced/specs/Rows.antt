@@ -13,8 +13,10 @@ use lib.Seq.{getD-set-same, getD-set-other}
 use Rattle.numbers.specs.Sum.{sumℕ, gate}
 use Rattle.model.specs.Base.{range, upTo, bit}
 use Rattle.model.specs.declared.DeviceRecord.{DeviceRecord}
-use Rattle.forced.specs.Sums.{sum-last, sum-most}
-use Rattle.forced.specs.Places.{onAt, onBefore, onlineAt, startedAt, stoppedAt, pminAt, leavesAt, Rampable}
+use Rattle.tables.specs.Sums.{sum-more}
+use Rattle.forced.specs.Sums.{sum-most}
+use Rattle.tables.specs.Changes.{onAt, onBefore, startedAt, stoppedAt}
+use Rattle.forced.specs.Places.{onlineAt, pminAt, leavesAt, Rampable}
 use Rattle.forced.specs.declared.Trajectory.{Trajectory}
 
 abbrev pub distance : ℕ → ℕ → ℕ
@@ -197,7 +199,7 @@ module _ (f : ℕ → ℕ → ℕ) (base : List ℕ) where
   grown-none = record { long = refl; number = λ k. omega arith }
 
   pub grown-next : {e : ℕ} {row new : List ℕ} → Grown f e base row → Changed (f e) row new → Grown f (e + 1) base new
-  grown-next {e} h c = record { long = c .long ∙ h .long; number = λ k. omega (arith, c .number k, h .number k, sum-last (λ j. f j k) e) }
+  grown-next {e} h c = record { long = c .long ∙ h .long; number = λ k. omega (arith, c .number k, h .number k, sum-more (λ j. f j k) e) }
 
 module _ (d : DeviceRecord) (table plan times : List ℕ) (n i : ℕ) (h : Rampable d table plan n i) {base : List ℕ} (o : Online plan n i base) where
   online-low : (k : ℕ) → getD base k 0 ≤ 100000

@@ -1,4 +1,4 @@
--- Sums over 0, 1, .., n − 1, by their last number, by two parts, and cut at a limit.
+-- Sums over 0, 1, .., n − 1: bounded, by two parts, and cut at a limit.
 use mathlib.Core.Path.{_≡_, refl, ap, ap₂, _∙_}
 use mathlib.Core.List.{List, [], _∷_}
 use Prim.Native.Nat.{ℕ, zero, suc, _+_, _-_, _*_, _≤_, _<_}
@@ -8,19 +8,7 @@ use borrow.Author.Tests.{le-leb, lt-leb}
 use lib.Dec.{leb}
 use Rattle.numbers.specs.Sum.{sumℕ, gate}
 use Rattle.model.specs.Base.{range, upTo}
-
-module _ (f : ℕ → ℕ) where
-  range-last : (k n : ℕ) → sumℕ f (range k (suc n)) ≡ sumℕ f (range k n) + f (k + n)
-  unfolding range
-  range-last k zero = let e : k + 0 ≡ k = omega arith in rw e (omega arith)
-  range-last k (suc n) = let e : suc k + n ≡ k + suc n = omega arith in omega (arith, range-last (suc k) n, ap f e)
-
-  -- one number more
-  pub sum-last : (n : ℕ) → sumℕ f (upTo (n + 1)) ≡ sumℕ f (upTo n) + f n
-  sum-last n =
-      let e : n + 1 ≡ suc n = omega arith in
-      let z : 0 + n ≡ n = omega arith in
-      rw e (range-last 0 n ∙ ap (λ (k : ℕ). sumℕ f (upTo n) + f k) z)
+use Rattle.tables.specs.Sums.{sum-more}
 
 pub sum-range : (f g : ℕ → ℕ) (k n : ℕ) → ((e : ℕ) → k ≤ e → e < k + n → f e ≡ g e) → sumℕ f (range k n) ≡ sumℕ g (range k n)
 unfolding range
@@ -30,7 +18,7 @@ sum-range f g k (suc n) h = ap₂ (λ (a b : ℕ). a + b) (h k (omega arith) (om
 pub sum-most : (f : ℕ → ℕ) (m n : ℕ) → ((e : ℕ) → e < n → f e ≤ m) → sumℕ f (upTo n) ≤ n * m
 unfolding range
 sum-most f m zero h = omega arith
-sum-most f m (suc n) h = let e : n + 1 ≡ suc n = omega arith in omega (arith, sum-most f m n (λ k l. h k (omega arith)), h n (omega arith), rw e at (sum-last f n))
+sum-most f m (suc n) h = let e : n + 1 ≡ suc n = omega arith in omega (arith, sum-most f m n (λ k l. h k (omega arith)), h n (omega arith), rw e at (sum-more f n))
 
 -- the same terms below n
 pub sum-same : (f g : ℕ → ℕ) (n : ℕ) → ((e : ℕ) → e < n → f e ≡ g e) → sumℕ f (upTo n) ≡ sumℕ g (upTo n)

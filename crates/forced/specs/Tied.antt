@@ -20,7 +20,9 @@ use Rattle.model.specs.Viewed.{devices-are, intervals-are, duration-is, device-
 use Rattle.model.specs.declared.DeviceRecord.{DeviceRecord}
 use Rattle.model.specs.declared.CaseRecord.{CaseRecord}
 use Rattle.forced.specs.Sums.{sum-same, sum-both, sum-cut}
-use Rattle.forced.specs.Places.{onAt, onlineAt, onBefore, startedAt, stoppedAt, pminAt, leavesAt, startAt, start-next, Times, Halves, Rampable}
+use Rattle.tables.specs.Changes.{onAt, onBefore, startedAt, stoppedAt}
+use Rattle.tables.specs.Cells.{Halves}
+use Rattle.forced.specs.Places.{onlineAt, pminAt, leavesAt, startAt, start-next, Times, Rampable}
 use Rattle.forced.specs.Rows.{distance, leftIn, startRamp, stopRamp, added, within, past, ahead}
 
 -- number j of the row of interval t and device i, in the plan's table and in the case's

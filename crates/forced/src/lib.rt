@@ -6,19 +6,16 @@ ghost use lib.Dec.{ltb};
 ghost use Rattle.numbers.specs.Sum.{gate};
 ghost use Rattle.model.specs.Base.{bit};
 ghost use Rattle.model.specs.Views.{caseIn, planIn, Decoded, Planned, ForcedTable};
-ghost use Rattle.forced.specs.Places.{onAt, onlineAt, onBefore, startedAt, stoppedAt, pminAt, leavesAt, Times, Halves, Rampable};
+ghost use Rattle.tables.specs.Cells.{Halves};
+ghost use Rattle.forced.specs.Places.{onlineAt, pminAt, leavesAt, Times, Rampable};
 ghost use Rattle.forced.specs.Rows.{distance, leftAt, leftIn, startRamp, stopRamp, Low, Small, Raised, Changed, added, Online, Powers};
 ghost use Rattle.forced.specs.Table.{Blank, Timed};
 use model::CaseRecord;
 use model::DeviceRecord;
-
-// A number of a table.
-pub fn word(s: &[u32], k: usize) -> u64
-    requires { ⌜ k < length (now s) ⌝ }
-    ensures { λ r. ⌜ (r ≡ getD (now (s .entry)) k 0) × (r < 4294967296) ⌝ }
-{
-    wide(s[k])
-}
+use tables::less;
+use tables::number;
+use tables::on_at;
+use tables::on_before;
 
 fn wide(x: u32) -> u64
     ensures { λ r. ⌜ (r ≡ x) × (r < 4294967296) ⌝ }
@@ -33,61 +30,11 @@ fn narrow(x: u64) -> u32
     x as u32
 }
 
-// The first less the second, 0 where the second is above.
-pub fn less(a: u64, b: u64) -> u64
-    ensures { λ r. ⌜ (r ≡ a - b) × (r ≤ a) ⌝ }
-{
-    if b <= a { a - b } else { 0 }
-}
-
-// 1 where the second is above the first.
-fn rises(a: u64, b: u64) -> u64
-    ensures { λ r. ⌜ (r ≡ bit (ltb a b)) × (r ≤ b) × (r ≤ 1) ⌝ }
-{
-    if a < b { 1 } else { 0 }
-}
-
-// "u = on (1/0)"
-pub fn on_at(plan: &[u32], t: usize, i: usize) -> u64
-    requires { ⌜ (t < 48) × (i < 16) × (length (now plan) ≡ 7680) ⌝ }
-    ensures { λ r. ⌜ r ≡ onAt (now (plan .entry)) t i ⌝ }
-{
-    word(plan, t * 160 + i * 10)
-}
-
-// "before interval 1 the initial state stands"
-pub fn on_before(on0: u64, plan: &[u32], t: usize, i: usize) -> u64
-    requires { ⌜ (t < 48) × (i < 16) × (length (now plan) ≡ 7680) ⌝ }
-    ensures { λ r. ⌜ r ≡ onBefore on0 (now (plan .entry)) t i ⌝ }
-{
-    if t == 0 { on0 } else { on_at(plan, t - 1, i) }
-}
-
-// "su = 1 where u rises"
-pub fn started(on0: u64, plan: &[u32], t: usize, i: usize) -> u64
-    requires { ⌜ (t < 48) × (i < 16) × (length (now plan) ≡ 7680) ⌝ }
-    ensures { λ r. ⌜ (r ≡ startedAt on0 (now (plan .entry)) t i) × (r ≤ onAt (now (plan .entry)) t i) × (r ≤ 1) ⌝ }
-{
-    let before = on_before(on0, plan, t, i);
-    let on = on_at(plan, t, i);
-    rises(before, on)
-}
-
-// "sd = 1 where it falls"
-pub fn stopped(on0: u64, plan: &[u32], t: usize, i: usize) -> u64
-    requires { ⌜ (t < 48) × (i < 16) × (length (now plan) ≡ 7680) ⌝ }
-    ensures { λ r. ⌜ (r ≡ stoppedAt on0 (now (plan .entry)) t i) × (r ≤ 1) ⌝ }
-{
-    let before = on_before(on0, plan, t, i);
-    let on = on_at(plan, t, i);
-    rises(on, before)
-}
-
 fn pmin_at(table: &[u32], t: usize, i: usize) -> u64
     requires { ⌜ (t < 48) × (i < 16) × (length (now table) ≡ 15792) ⌝ }
     ensures { λ r. ⌜ r ≡ pminAt (now (table .entry)) t i ⌝ }
 {
-    word(table, 432 + i * 960 + t * 20 + 1)
+    number(table, 432 + i * 960 + t * 20 + 1)
 }
 
 // "pmin(t'−1) ..; for t' = 1 the initial power replaces pmin"

@@ -26,6 +26,7 @@ use Rattle.model.specs.Viewed.{getD-map}
 use Rattle.tables.specs.Sums.{sum-next}
 use Rattle.tables.specs.Differences.{above-is}
 use Rattle.tables.specs.Cells as Cells
+use Rattle.tables.specs.Cells.{Halves}
 
 abbrev pub noWindow : EnergyRecord
 noWindow = record { kind = 0; from = 0; until = 0; energy = 0 }
@@ -43,9 +44,6 @@ windows-few d n e f = (f ∙ sym (length-take (d .nenergies) (d .energies) ∙ a
 -- the minutes of an interval that count: "window start < M ≤ window end"
 abbrev pub minutesOf : EnergyRecord → ℕ → ℕ → ℕ
 minutesOf w start half = gate (ltb (w .from) (start + half) && leb (start + half) (w .until)) (2 * half)
-
-pub record Halves (table : List ℕ) (n : ℕ) : Type 0 where
-  pub half : (t : ℕ) → t < n → getD table t 0 ≤ 180
 
 -- device i's energy in the first n intervals
 unfoldable pub energyTo : EnergyRecord → List ℕ → List ℕ → ℕ → ℕ → ℕ

@@ -14,12 +14,12 @@ ghost use Prim.Native.Nat.{_+_, _-_, _*_, _<_, _≤_, max};
 ghost use lib.ListN.{getD, length};
 ghost use lib.IntN.{pos, natAbs, _-ℤ_};
 ghost use Rattle.numbers.specs.Sum.{gate};
-ghost use Rattle.tables.specs.Cells.{inZone};
+ghost use Rattle.tables.specs.Cells.{inZone, Halves};
 ghost use Rattle.tables.specs.Rows.{EightWords};
 ghost use Rattle.needs.specs.Fleets.{FleetOf};
 ghost use Rattle.needs.specs.Sides.{withSide, sidesTo, mismatchOf};
 ghost use Rattle.needs.specs.Zones.{SumsOf, withMember, DeviceAdded, sumsTo, Thousandths, requiredOf, needsOf, zoneNeeds};
-ghost use Rattle.needs.specs.Energies.{minutesOf, windowsIn, Halves, energyTo, overOf};
+ghost use Rattle.needs.specs.Energies.{minutesOf, windowsIn, energyTo, overOf};
 
 // The devices' sides and zone bits: all that a mismatch or a zone asks of the devices' records.
 pub struct Fleet {

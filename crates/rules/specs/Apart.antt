@@ -8,7 +8,7 @@ use lib.Dec.{leb, eqb}
 use lib.ListN.{getD}
 use Rattle.bits.specs.Pick.{pick}
 use Rattle.model.specs.Base.{upTo, implies, every}
-use Rattle.forced.specs.Places.{startedAt, stoppedAt}
+use Rattle.tables.specs.Changes.{startedAt, stoppedAt}
 use Rattle.checks.specs.First.{from, from-all, from-next, from-end}
 use Rattle.rules.specs.declared.Rest.{Rest}
 

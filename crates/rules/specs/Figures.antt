@@ -9,7 +9,7 @@ use lib.ListN.{getD, length}
 use Rattle.bits.specs.Pick.{pick}
 use Rattle.model.specs.Base.{implies}
 use Rattle.model.specs.declared.DeviceRecord.{DeviceRecord}
-use Rattle.forced.specs.Places.{startedAt, stoppedAt}
+use Rattle.tables.specs.Changes.{startedAt, stoppedAt}
 use Rattle.rules.specs.Apart.{apartAt}
 use Rattle.checks.specs.Tests.{Small}
 use Rattle.checks.specs.declared.Figures.{Figures}

@@ -22,7 +22,7 @@ use Rattle.model.specs.Views.{caseIn, planIn, reservesOf, recordAt, cellsIn, ce
 use Rattle.model.specs.Viewed.{cap-is}
 use Rattle.model.specs.declared.DeviceRecord.{DeviceRecord}
 use Rattle.model.specs.declared.CaseRecord.{CaseRecord}
-use Rattle.forced.specs.Places.{onAt, startedAt, stoppedAt}
+use Rattle.tables.specs.Changes.{onAt, startedAt, stoppedAt}
 use Rattle.forced.specs.Tied.{plan-place, cell-place, intervals-here, devices-here, duration-here, device-here, cell-here, setting-here, on-here, before-here, online-here, pmin-here, started-here, stopped-here, halves-here, device-range, cell-range}
 use Rattle.checks.specs.First.{first, firstIn}
 use Rattle.checks.specs.Tests.{Sized, tests, rampTests, onTests, offTests, powerTests}

@@ -21,8 +21,9 @@ use Rattle.model.specs.declared.Breach.{Breach}
 use Rattle.model.specs.declared.StartWindow.{StartWindow}
 use Rattle.model.specs.declared.DeviceRecord.{DeviceRecord}
 use Rattle.model.specs.declared.CaseRecord.{CaseRecord}
-use Rattle.forced.specs.Places.{startedAt}
-use Rattle.forced.specs.Sums.{sum-last, sum-same}
+use Rattle.tables.specs.Changes.{startedAt}
+use Rattle.tables.specs.Sums.{sum-more}
+use Rattle.forced.specs.Sums.{sum-same}
 use Rattle.forced.specs.Tied.{intervals-here, device-here, started-here}
 use Rattle.checks.specs.First.{first}
 use Rattle.rules.specs.Ties.{start-is}
@@ -73,7 +74,7 @@ module _ (w : StartWindow) (on0 : ℕ) (plan forced : List ℕ) (i : ℕ) where
   counted-none = record { total = refl; few = omega arith }
 
   pub counted-next : {t sum x : ℕ} → Counted w on0 plan forced i t sum → x ≡ countedStart w on0 plan forced i t → x ≤ 1 → Counted w on0 plan forced i (t + 1) (sum + x)
-  counted-next {t} h e l = record { total = omega (arith, h .total, sum-last (countedStart w on0 plan forced i) t); few = omega (arith, h .few) }
+  counted-next {t} h e l = record { total = omega (arith, h .total, sum-more (countedStart w on0 plan forced i) t); few = omega (arith, h .few) }
 
 -- inside the window, before it, after it
 module _ (w : StartWindow) (s n : ℕ) where

@@ -18,6 +18,8 @@ use model::Breach;
 use model::CaseRecord;
 use model::DeviceRecord;
 use model::StartWindow;
+use tables::less;
+use tables::number;
 
 // What must lie back: starts or stops, and by how many minutes.
 pub struct Rest {
@@ -31,9 +33,9 @@ fn changes(r: Rest, plan: &[u32], e: usize, i: usize) -> u64
     ensures { λ x. ⌜ x ≡ changedAt r (now (plan .entry)) e i ⌝ }
 {
     if r.starts {
-        forced::started(r.on0, plan, e, i)
+        tables::started(r.on0, plan, e, i)
     } else {
-        forced::stopped(r.on0, plan, e, i)
+        tables::stopped(r.on0, plan, e, i)
     }
 }
 
@@ -41,7 +43,7 @@ fn far_back(r: Rest, plan: &[u32], forced: &[u32], t: usize, i: usize, e: usize)
     requires { ⌜ (t < 48) × (i < 16) × (e < 48) × (length (now plan) ≡ 7680) × (length (now forced) ≡ 817) ⌝ }
     ensures { λ x. ⌜ x ≡ farAt r (now (plan .entry)) (now (forced .entry)) t i e ⌝ }
 {
-    let gone = forced::less(forced::word(forced, t), forced::word(forced, e));
+    let gone = less(number(forced, t), number(forced, e));
     if r.least <= gone {
         return true;
     }
@@ -101,16 +103,16 @@ fn setting_at(plan: &[u32], b: usize) -> Setting
     requires { ⌜ b + 9 < length (now plan) ⌝ }
     ensures { λ r. ⌜ r ≡ settingAt (now (plan .entry)) b ⌝ }
 {
-    let on = forced::word(plan, b);
-    let online = forced::word(plan, b + 1);
-    let rgu = forced::word(plan, b + 2);
-    let rgd = forced::word(plan, b + 3);
-    let scr = forced::word(plan, b + 4);
-    let nsc = forced::word(plan, b + 5);
-    let rruon = forced::word(plan, b + 6);
-    let rruoff = forced::word(plan, b + 7);
-    let rrdon = forced::word(plan, b + 8);
-    let rrdoff = forced::word(plan, b + 9);
+    let on = number(plan, b);
+    let online = number(plan, b + 1);
+    let rgu = number(plan, b + 2);
+    let rgd = number(plan, b + 3);
+    let scr = number(plan, b + 4);
+    let nsc = number(plan, b + 5);
+    let rruon = number(plan, b + 6);
+    let rruoff = number(plan, b + 7);
+    let rrdon = number(plan, b + 8);
+    let rrdoff = number(plan, b + 9);
     Setting {
         on,
         online,
@@ -129,13 +131,13 @@ fn cell_at(table: &[u32], a: usize) -> Cell
     requires { ⌜ a + 7 < length (now table) ⌝ }
     ensures { λ r. ⌜ r ≡ cellAt (now (table .entry)) a ⌝ }
 {
-    let status = forced::word(table, a);
-    let pmin = forced::word(table, a + 1);
-    let pmax = forced::word(table, a + 2);
-    let room = forced::word(table, a + 4)
-        + forced::word(table, a + 5)
-        + forced::word(table, a + 6)
-        + forced::word(table, a + 7);
+    let status = number(table, a);
+    let pmin = number(table, a + 1);
+    let pmax = number(table, a + 2);
+    let room = number(table, a + 4)
+        + number(table, a + 5)
+        + number(table, a + 6)
+        + number(table, a + 7);
     Cell {
         status,
         pmin,
@@ -148,7 +150,7 @@ fn power_at(forced: &[u32], t: usize, i: usize) -> u64
     requires { ⌜ (t < 48) × (i < 16) × (length (now forced) ≡ 817) ⌝ }
     ensures { λ r. ⌜ r ≡ powerAt (now (forced .entry)) t i ⌝ }
 {
-    forced::word(forced, 49 + i * 48 + t)
+    number(forced, 49 + i * 48 + t)
 }
 
 // "Previous p in interval 1 is initial power."
@@ -176,7 +178,7 @@ fn gathered(
 ) -> Figures
     ensures { λ r. ⌜ r ≡ figuresFrom s w started rested ran start minutes power previous ⌝ }
 {
-    let forced = forced::less(power, s.online);
+    let forced = less(power, s.online);
     Figures {
         status: w.status,
         on: s.on,
@@ -226,12 +228,12 @@ fn figures_at(
     };
     let s = setting_at(plan, t * 160 + i * 10);
     let w = cell_at(table, 432 + i * 960 + t * 20);
-    let started = forced::started(d.on0, plan, t, i);
-    let stopped = forced::stopped(d.on0, plan, t, i);
+    let started = tables::started(d.on0, plan, t, i);
+    let stopped = tables::stopped(d.on0, plan, t, i);
     let rested = rest_kept(started, stops, plan, forced, t, i);
     let ran = rest_kept(stopped, starts, plan, forced, t, i);
-    let start = forced::word(forced, t);
-    let minutes = 2 * forced::word(table, t);
+    let start = number(forced, t);
+    let minutes = 2 * number(table, t);
     let power = power_at(forced, t, i);
     let previous = previous_power(d.power0, forced, t, i);
     gathered(s, w, started, rested, ran, start, minutes, power, previous)
@@ -304,14 +306,14 @@ fn counted_start(w: StartWindow, on0: u64, plan: &[u32], forced: &[u32], i: usiz
     requires { ⌜ (t < 48) × (i < 16) × (length (now plan) ≡ 7680) × (length (now forced) ≡ 817) ⌝ }
     ensures { λ r. ⌜ (r ≡ countedStart w on0 (now (plan .entry)) (now (forced .entry)) i t) × (r ≤ 1) ⌝ }
 {
-    let start = forced::word(forced, t);
+    let start = number(forced, t);
     if start < w.from {
         return 0;
     }
     if w.until <= start {
         return 0;
     }
-    forced::started(on0, plan, t, i)
+    tables::started(on0, plan, t, i)
 }
 
 fn starts_in(w: StartWindow, on0: u64, plan: &[u32], forced: &[u32], n: usize, i: usize) -> u64

@@ -4,50 +4,50 @@ use borrow.Author.Needs.{needs}
 use Rattle.rules.proofs.cell_at.Statement.{statement}
 use Rattle.rules.proofs.cell_at.Tie as tie
 
-word-requires : tie.Need-word-requires
-word-requires c κs = search needs
+number-requires : tie.Need-number-requires
+number-requires c κs = search needs
 
-add-word : tie.Need-add-word
-add-word c = search needs
+add-number : tie.Need-add-number
+add-number c = search needs
 
-word-requires-2 : tie.Need-word-requires-2
-word-requires-2 c κs = search needs
+number-requires-2 : tie.Need-number-requires-2
+number-requires-2 c κs = search needs
 
-add-word-2 : tie.Need-add-word-2
-add-word-2 c = search needs
+add-number-2 : tie.Need-add-number-2
+add-number-2 c = search needs
 
-word-requires-3 : tie.Need-word-requires-3
-word-requires-3 c κs = search needs
+number-requires-3 : tie.Need-number-requires-3
+number-requires-3 c κs = search needs
 
-add-word-3 : tie.Need-add-word-3
-add-word-3 c = search needs
+add-number-3 : tie.Need-add-number-3
+add-number-3 c = search needs
 
-word-requires-4 : tie.Need-word-requires-4
-word-requires-4 c κs = search needs
+number-requires-4 : tie.Need-number-requires-4
+number-requires-4 c κs = search needs
 
-add-word-4 : tie.Need-add-word-4
-add-word-4 c = search needs
+add-number-4 : tie.Need-add-number-4
+add-number-4 c = search needs
 
-word-requires-5 : tie.Need-word-requires-5
-word-requires-5 c κs = search needs
+number-requires-5 : tie.Need-number-requires-5
+number-requires-5 c κs = search needs
 
 add-room : tie.Need-add-room
 add-room c = search needs
 
-add-word-5 : tie.Need-add-word-5
-add-word-5 c = search needs
+add-number-5 : tie.Need-add-number-5
+add-number-5 c = search needs
 
-word-requires-6 : tie.Need-word-requires-6
-word-requires-6 c κs = search needs
+number-requires-6 : tie.Need-number-requires-6
+number-requires-6 c κs = search needs
 
 add-room-2 : tie.Need-add-room-2
 add-room-2 c = search needs
 
-add-word-6 : tie.Need-add-word-6
-add-word-6 c = search needs
+add-number-6 : tie.Need-add-number-6
+add-number-6 c = search needs
 
-word-requires-7 : tie.Need-word-requires-7
-word-requires-7 c κs = search needs
+number-requires-7 : tie.Need-number-requires-7
+number-requires-7 c κs = search needs
 
 add-room-3 : tie.Need-add-room-3
 add-room-3 c = search needs
@@ -55,26 +55,26 @@ add-room-3 c = search needs
 returns : tie.Need-returns
 returns c =
     let a : _ = c .before .before .before .before .before .before .before .before .args in
-    cell-read (a .table .now) (a .a) (c .before .before .before .before .before .before .word .ensures .0) (c .before .before .before .before .before .word2 .ensures .0) (c .before .before .before .before .word3 .ensures .0) (c .before .before .before .word4 .ensures .0) (c .before .before .word5 .ensures .0) (c .before .word6 .ensures .0) (c .word7 .ensures .0)
+    cell-read (a .table .now) (a .a) (c .before .before .before .before .before .before .number .ensures .0) (c .before .before .before .before .before .number2 .ensures .0) (c .before .before .before .before .number3 .ensures .0) (c .before .before .before .number4 .ensures .0) (c .before .before .number5 .ensures .0) (c .before .number6 .ensures .0) (c .number7 .ensures .0)
 
 pub cell-at-spec : {M : Type 1} → statement M
 cell-at-spec =
     tie.close
     (tie.spec
-    word-requires
-    add-word
-    word-requires-2
-    add-word-2
-    word-requires-3
-    add-word-3
-    word-requires-4
-    add-word-4
-    word-requires-5
+    number-requires
+    add-number
+    number-requires-2
+    add-number-2
+    number-requires-3
+    add-number-3
+    number-requires-4
+    add-number-4
+    number-requires-5
     add-room
-    add-word-5
-    word-requires-6
+    add-number-5
+    number-requires-6
     add-room-2
-    add-word-6
-    word-requires-7
+    add-number-6
+    number-requires-7
     add-room-3
     returns)

@@ -2,14 +2,14 @@
 use mathlib.Core.Path.{_∙_}
 use native.Mathlib.Omega.{arith}
 use lib.ListN.{getD}
-use Rattle.forced.specs.Places.{startedAt}
+use Rattle.tables.specs.Changes.{startedAt}
 use Rattle.rules.specs.Windows.{inside, too-early, too-late}
 use borrow.Author.Needs.{needs}
 use Rattle.rules.proofs.counted_start.Statement.{statement}
 use Rattle.rules.proofs.counted_start.Tie as tie
 
-word-requires : tie.Need-word-requires
-word-requires c κs = search needs
+number-requires : tie.Need-number-requires
+number-requires c κs = search needs
 
 returns : tie.Need-returns
 returns c = let a : _ = c .before .before .before .before .before .args in (too-early (a .w) (getD (a .forced .now) (a .t) 0) (startedAt (a .on0) (a .plan .now) (a .t) (a .i)) (omega arith), search needs)
@@ -25,4 +25,4 @@ returns-3 c = let a : _ = c .before .before .before .before .before .before .bef
 
 pub counted-start-spec : {M : Type 1} → statement M
 counted-start-spec =
-    tie.close (tie.spec word-requires returns returns-2 started-requires returns-3)
+    tie.close (tie.spec number-requires returns returns-2 started-requires returns-3)

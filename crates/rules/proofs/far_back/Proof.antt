@@ -10,11 +10,11 @@ use borrow.Author.Needs.{needs}
 use Rattle.rules.proofs.far_back.Statement.{statement}
 use Rattle.rules.proofs.far_back.Tie as tie
 
-word-requires : tie.Need-word-requires
-word-requires c κs = search needs
+number-requires : tie.Need-number-requires
+number-requires c κs = search needs
 
-word-requires-2 : tie.Need-word-requires-2
-word-requires-2 c κs = search needs
+number-requires-2 : tie.Need-number-requires-2
+number-requires-2 c κs = search needs
 
 less-requires : tie.Need-less-requires
 less-requires c κs = search needs
@@ -35,4 +35,4 @@ returns-2 c =
 pub far-back-spec : {M : Type 1} → statement M
 far-back-spec =
     tie.close
-    (tie.spec word-requires word-requires-2 less-requires returns changes-requires returns-2)
+    (tie.spec number-requires number-requires-2 less-requires returns changes-requires returns-2)

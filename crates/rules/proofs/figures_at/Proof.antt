@@ -43,11 +43,11 @@ rest-kept-requires c κs = let h : _ = c .before .before .before .before .before
 rest-kept-requires-2 : tie.Need-rest-kept-requires-2
 rest-kept-requires-2 c κs = let h : _ = c .before .before .before .before .before .before .before .before .pre in (h .interval, h .device, h .planLong, h .forcedLong)
 
-word-requires : tie.Need-word-requires
-word-requires c κs = search needs
+number-requires : tie.Need-number-requires
+number-requires c κs = search needs
 
-word-requires-2 : tie.Need-word-requires-2
-word-requires-2 c κs = search needs
+number-requires-2 : tie.Need-number-requires-2
+number-requires-2 c κs = search needs
 
 mul-minutes : tie.Need-mul-minutes
 mul-minutes c = search needs
@@ -64,7 +64,7 @@ gathered-requires c κs = search needs
 returns : tie.Need-returns
 returns c =
     let a : _ = c .before .before .before .before .before .before .before .before .before .before .before .before .before .before .args in
-    figures-read (a .d) (a .table .now) (a .plan .now) (a .forced .now) (a .t) (a .i) (c .gathered .ensures) (c .before .before .before .before .before .before .before .before .before .before .setting-at .ensures) (c .before .before .before .before .before .before .before .before .before .cell-at .ensures) (c .before .before .before .before .before .before .before .before .started .ensures .0) (c .before .before .before .before .before .before .before .stopped .ensures .0) (c .before .before .before .before .before .before .rest-kept .ensures) (c .before .before .before .before .before .rest-kept2 .ensures) (c .before .before .before .before .word .ensures .0) (c .before .before .before .word2 .ensures .0) (c .before .before .power-at .ensures) (c .before .previous-power .ensures)
+    figures-read (a .d) (a .table .now) (a .plan .now) (a .forced .now) (a .t) (a .i) (c .gathered .ensures) (c .before .before .before .before .before .before .before .before .before .before .setting-at .ensures) (c .before .before .before .before .before .before .before .before .before .cell-at .ensures) (c .before .before .before .before .before .before .before .before .started .ensures .0) (c .before .before .before .before .before .before .before .stopped .ensures .0) (c .before .before .before .before .before .before .rest-kept .ensures) (c .before .before .before .before .before .rest-kept2 .ensures) (c .before .before .before .before .number .ensures .0) (c .before .before .before .number2 .ensures .0) (c .before .before .power-at .ensures) (c .before .previous-power .ensures)
 
 pub figures-at-spec : {M : Type 1} → statement M
 figures-at-spec =
@@ -83,8 +83,8 @@ figures-at-spec =
     stopped-requires
     rest-kept-requires
     rest-kept-requires-2
-    word-requires
-    word-requires-2
+    number-requires
+    number-requires-2
     mul-minutes
     power-at-requires
     previous-power-requires

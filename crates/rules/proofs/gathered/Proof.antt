@@ -10,7 +10,7 @@ less-requires c κs = search needs
 returns : tie.Need-returns
 returns c =
     let a : _ = c .before .args in
-    figures-gathered (a .s) (a .w) (a .started) (a .rested) (a .ran) (a .start) (a .minutes) (a .power) (a .previous) (c .less .ensures .0)
+    figures-gathered (a .s) (a .w) (a .started) (a .rested) (a .ran) (a .start) (a .minutes) (a .power) (a .previous) (c .less .ensures)
 
 pub gathered-spec : {M : Type 1} → statement M
 gathered-spec = tie.close (tie.spec less-requires returns)

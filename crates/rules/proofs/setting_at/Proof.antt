@@ -5,89 +5,89 @@ use borrow.Author.Needs.{needs}
 use Rattle.rules.proofs.setting_at.Statement.{statement}
 use Rattle.rules.proofs.setting_at.Tie as tie
 
-word-requires : tie.Need-word-requires
-word-requires c κs = search needs
+number-requires : tie.Need-number-requires
+number-requires c κs = search needs
 
-add-word : tie.Need-add-word
-add-word c = search needs
+add-number : tie.Need-add-number
+add-number c = search needs
 
-word-requires-2 : tie.Need-word-requires-2
-word-requires-2 c κs = let s : _ = c .before .before in within (s .args .b) (length (s .args .plan .now)) 1 (s .pre) tt
+number-requires-2 : tie.Need-number-requires-2
+number-requires-2 c κs = let s : _ = c .before .before in within (s .args .b) (length (s .args .plan .now)) 1 (s .pre) tt
 
-add-word-2 : tie.Need-add-word-2
-add-word-2 c = search needs
+add-number-2 : tie.Need-add-number-2
+add-number-2 c = search needs
 
-word-requires-3 : tie.Need-word-requires-3
-word-requires-3 c κs = let s : _ = c .before .before .before in within (s .args .b) (length (s .args .plan .now)) 2 (s .pre) tt
+number-requires-3 : tie.Need-number-requires-3
+number-requires-3 c κs = let s : _ = c .before .before .before in within (s .args .b) (length (s .args .plan .now)) 2 (s .pre) tt
 
-add-word-3 : tie.Need-add-word-3
-add-word-3 c = search needs
+add-number-3 : tie.Need-add-number-3
+add-number-3 c = search needs
 
-word-requires-4 : tie.Need-word-requires-4
-word-requires-4 c κs = let s : _ = c .before .before .before .before in within (s .args .b) (length (s .args .plan .now)) 3 (s .pre) tt
+number-requires-4 : tie.Need-number-requires-4
+number-requires-4 c κs = let s : _ = c .before .before .before .before in within (s .args .b) (length (s .args .plan .now)) 3 (s .pre) tt
 
-add-word-4 : tie.Need-add-word-4
-add-word-4 c = search needs
+add-number-4 : tie.Need-add-number-4
+add-number-4 c = search needs
 
-word-requires-5 : tie.Need-word-requires-5
-word-requires-5 c κs = let s : _ = c .before .before .before .before .before in within (s .args .b) (length (s .args .plan .now)) 4 (s .pre) tt
+number-requires-5 : tie.Need-number-requires-5
+number-requires-5 c κs = let s : _ = c .before .before .before .before .before in within (s .args .b) (length (s .args .plan .now)) 4 (s .pre) tt
 
-add-word-5 : tie.Need-add-word-5
-add-word-5 c = search needs
+add-number-5 : tie.Need-add-number-5
+add-number-5 c = search needs
 
-word-requires-6 : tie.Need-word-requires-6
-word-requires-6 c κs = let s : _ = c .before .before .before .before .before .before in within (s .args .b) (length (s .args .plan .now)) 5 (s .pre) tt
+number-requires-6 : tie.Need-number-requires-6
+number-requires-6 c κs = let s : _ = c .before .before .before .before .before .before in within (s .args .b) (length (s .args .plan .now)) 5 (s .pre) tt
 
-add-word-6 : tie.Need-add-word-6
-add-word-6 c = search needs
+add-number-6 : tie.Need-add-number-6
+add-number-6 c = search needs
 
-word-requires-7 : tie.Need-word-requires-7
-word-requires-7 c κs = let s : _ = c .before .before .before .before .before .before .before in within (s .args .b) (length (s .args .plan .now)) 6 (s .pre) tt
+number-requires-7 : tie.Need-number-requires-7
+number-requires-7 c κs = let s : _ = c .before .before .before .before .before .before .before in within (s .args .b) (length (s .args .plan .now)) 6 (s .pre) tt
 
-add-word-7 : tie.Need-add-word-7
-add-word-7 c = search needs
+add-number-7 : tie.Need-add-number-7
+add-number-7 c = search needs
 
-word-requires-8 : tie.Need-word-requires-8
-word-requires-8 c κs = let s : _ = c .before .before .before .before .before .before .before .before in within (s .args .b) (length (s .args .plan .now)) 7 (s .pre) tt
+number-requires-8 : tie.Need-number-requires-8
+number-requires-8 c κs = let s : _ = c .before .before .before .before .before .before .before .before in within (s .args .b) (length (s .args .plan .now)) 7 (s .pre) tt
 
-add-word-8 : tie.Need-add-word-8
-add-word-8 c = search needs
+add-number-8 : tie.Need-add-number-8
+add-number-8 c = search needs
 
-word-requires-9 : tie.Need-word-requires-9
-word-requires-9 c κs = let s : _ = c .before .before .before .before .before .before .before .before .before in within (s .args .b) (length (s .args .plan .now)) 8 (s .pre) tt
+number-requires-9 : tie.Need-number-requires-9
+number-requires-9 c κs = let s : _ = c .before .before .before .before .before .before .before .before .before in within (s .args .b) (length (s .args .plan .now)) 8 (s .pre) tt
 
-add-word-9 : tie.Need-add-word-9
-add-word-9 c = search needs
+add-number-9 : tie.Need-add-number-9
+add-number-9 c = search needs
 
-word-requires-10 : tie.Need-word-requires-10
-word-requires-10 c κs = c .before .before .before .before .before .before .before .before .before .before .pre
+number-requires-10 : tie.Need-number-requires-10
+number-requires-10 c κs = c .before .before .before .before .before .before .before .before .before .before .pre
 
 returns : tie.Need-returns
 returns c =
     let a : _ = c .before .before .before .before .before .before .before .before .before .before .before .args in
-    setting-read (a .plan .now) (a .b) (c .before .before .before .before .before .before .before .before .before .word .ensures .0) (c .before .before .before .before .before .before .before .before .word2 .ensures .0) (c .before .before .before .before .before .before .before .word3 .ensures .0) (c .before .before .before .before .before .before .word4 .ensures .0) (c .before .before .before .before .before .word5 .ensures .0) (c .before .before .before .before .word6 .ensures .0) (c .before .before .before .word7 .ensures .0) (c .before .before .word8 .ensures .0) (c .before .word9 .ensures .0) (c .word10 .ensures .0)
+    setting-read (a .plan .now) (a .b) (c .before .before .before .before .before .before .before .before .before .number .ensures .0) (c .before .before .before .before .before .before .before .before .number2 .ensures .0) (c .before .before .before .before .before .before .before .number3 .ensures .0) (c .before .before .before .before .before .before .number4 .ensures .0) (c .before .before .before .before .before .number5 .ensures .0) (c .before .before .before .before .number6 .ensures .0) (c .before .before .before .number7 .ensures .0) (c .before .before .number8 .ensures .0) (c .before .number9 .ensures .0) (c .number10 .ensures .0)
 
 pub setting-at-spec : {M : Type 1} → statement M
 setting-at-spec =
     tie.close
     (tie.spec
-    word-requires
-    add-word
-    word-requires-2
-    add-word-2
-    word-requires-3
-    add-word-3
-    word-requires-4
-    add-word-4
-    word-requires-5
-    add-word-5
-    word-requires-6
-    add-word-6
-    word-requires-7
-    add-word-7
-    word-requires-8
-    add-word-8
-    word-requires-9
-    add-word-9
-    word-requires-10
+    number-requires
+    add-number
+    number-requires-2
+    add-number-2
+    number-requires-3
+    add-number-3
+    number-requires-4
+    add-number-4
+    number-requires-5
+    add-number-5
+    number-requires-6
+    add-number-6
+    number-requires-7
+    add-number-7
+    number-requires-8
+    add-number-8
+    number-requires-9
+    add-number-9
+    number-requires-10
     returns)
