@@ -18,13 +18,13 @@ use Rattle.fields.specs.Got.{good, bad, got, told, Natural, nat-natural, goes-o
 use Rattle.fields.specs.Each.{list-natural}
 use Rattle.fields.proofs.Lists.{stored, stored-long, span-long, span-same, span-before}
 use Rattle.devices.proofs.DeviceSteps.{device-natural}
-use Rattle.cases.specs.declared.zones.ZonesRead.{ZonesRead}
+use Rattle.zones.specs.declared.ZonesRead.{ZonesRead}
 use Rattle.cases.specs.declared.fleet.FleetRead.{FleetRead}
-use Rattle.cases.specs.Header.{countsOf, headerOf, Within}
-use Rattle.cases.specs.Zones.{zonesOf}
+use Rattle.header.specs.Header.{countsOf, headerOf, Within}
+use Rattle.zones.specs.Zones.{zonesOf}
 use Rattle.cases.specs.Devices.{devicesOf, FleetDone}
 use Rattle.cases.specs.Whole.{caseFrom, madeCase, bodyGot, BodyDone}
-use Rattle.cases.proofs.ZoneSteps.{zone-natural}
+use Rattle.zones.proofs.ZoneSteps.{zone-natural}
 
 -- a table from its three parts
 module _ (t h z d : List ℕ) (lt : length t ≡ 15792) (kh : length h ≡ length (span t 0 48)) where

@@ -20,10 +20,10 @@ use Rattle.fields.specs.Got.{bad, got, Natural, Inside, nat-natural, then-natur
 use Rattle.fields.specs.Each.{list-natural}
 use Rattle.fields.specs.Ended.{ended, endingOf, whole-inside, whole-ended, whole-failed}
 use Rattle.devices.proofs.DeviceSteps.{device-natural}
-use Rattle.cases.specs.Header.{header, headerOf, HeaderDone}
+use Rattle.header.specs.Header.{header, headerOf, HeaderDone}
 use Rattle.cases.specs.Whole.{bodyGot, BodyDone, FieldsDone, CaseDone}
-use Rattle.cases.proofs.HeaderSteps.{counts-natural, header-natural}
-use Rattle.cases.proofs.ZoneSteps.{zone-natural}
+use Rattle.header.proofs.HeaderSteps.{counts-natural, header-natural}
+use Rattle.zones.proofs.ZoneSteps.{zone-natural}
 
 layout-is : (s : List ℕ) (p : Place) → got (caseLayout edition1) s p ≡ header .read s p bad (λ h p. bodyGot h s p)
 unfolding caseLayout held _then_ apart bodyGot

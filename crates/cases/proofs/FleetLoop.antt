@@ -18,7 +18,7 @@ use Rattle.fields.proofs.Lists.{stored, span-long, span-same, span-before}
 use Rattle.devices.specs.Device.{DeviceDone}
 use Rattle.devices.proofs.DeviceSteps.{device-natural}
 use Rattle.cases.specs.Devices.{devicesOf, Manned, FleetDone}
-use Rattle.cases.proofs.Parts.{Fleet, fleet-none, fleet-more, fleet-off, fleet-done, fleet-fits, stride}
+use Rattle.zones.proofs.Parts.{Fleet, fleet-none, fleet-more, fleet-off, fleet-done, fleet-fits, stride}
 
 -- i of m devices have been read
 pub record Manning (s : List ℕ) (m n zones last : ℕ) (start : Place) (i : ℕ) (records : List DeviceRecord) (t : List ℕ) (p : Place) : Type 0 where

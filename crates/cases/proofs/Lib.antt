@@ -1,6 +1,3 @@
-pub mod ZoneSteps
-pub mod Parts
 pub mod FleetLoop
-pub mod HeaderSteps
 pub mod Body
 pub mod Ends

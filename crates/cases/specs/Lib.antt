@@ -1,4 +1,2 @@
-pub mod Header
-pub mod Zones
 pub mod Devices
 pub mod Whole

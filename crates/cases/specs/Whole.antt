@@ -18,9 +18,9 @@ use Rattle.fields.specs.declared.Ending.the-variants.{Passes}
 use Rattle.fields.specs.Got.{Got, good, bad, got, told}
 use Rattle.fields.specs.Ended.{ended}
 use Rattle.devices.specs.Device.{Few}
-use Rattle.cases.specs.declared.zones.ZonesRead.{ZonesRead}
+use Rattle.zones.specs.declared.ZonesRead.{ZonesRead}
 use Rattle.cases.specs.declared.fleet.FleetRead.{FleetRead}
-use Rattle.cases.specs.Header.{headerOf}
+use Rattle.header.specs.Header.{headerOf}
 use Rattle.cases.specs.Devices.{Manned}
 
 abbrev pub caseFrom : List ℕ → ZonesRead → FleetRead → CaseRecord

@@ -1,7 +1,5 @@
 // A case, read once: a record by value, and one table of durations, minima and cells.
 mod fleet;
-mod header;
-mod zones;
 
 use fields::Ending;
 use fields::Went;
@@ -13,7 +11,7 @@ use model::ZoneRecord;
 use zones::ZonesRead;
 ghost use mathlib.Core.Path.{_≡_};
 ghost use lib.ListN.{length};
-ghost use Rattle.cases.specs.Header.{countsOf, Within};
+ghost use Rattle.header.specs.Header.{countsOf, Within};
 ghost use Rattle.cases.specs.Whole.{caseFrom, BodyDone, FieldsDone, CaseDone};
 
 pub struct FieldsRead {

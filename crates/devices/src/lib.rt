@@ -102,69 +102,101 @@ fn read_states(s: &[u8], p: Place) -> StatesRead
     }
 }
 
-// The row behind the zone bits, by width, least and greatest: initially on, initial power; minutes already so, minimum up, minimum down;
-// ramps up, down, starting, stopping; on cost, start cost, stop cost; the eight reserve limits.
+// "A 17-bit power is 0..100,000"; a ramp is 1..100,000.
+const KW: u32 = 100000;
+
+const LEAST_RAMP: u32 = 1;
+
+// Minutes already so, minimum up and down: 0..60,000.
+const MINUTES: u32 = 60000;
+
+// On cost per minute 0..100,000; start, stop cost 0..10^9.
+const ON_COST: u32 = 100000;
+
+const COST: u32 = 1000000000;
+
+// The row behind the zone bits: each field's width, least and greatest.
 const ROW: [u32; 60] = [
+    // initially on
     1,
     0,
     1,
+    // initial power
     17,
     0,
-    100000,
+    KW,
+    // minutes already so
     16,
     0,
-    60000,
+    MINUTES,
+    // minimum up minutes
     16,
     0,
-    60000,
+    MINUTES,
+    // minimum down minutes
     16,
     0,
-    60000,
+    MINUTES,
+    // ramp up
     17,
-    1,
-    100000,
+    LEAST_RAMP,
+    KW,
+    // ramp down
     17,
-    1,
-    100000,
+    LEAST_RAMP,
+    KW,
+    // starting ramp
     17,
-    1,
-    100000,
+    LEAST_RAMP,
+    KW,
+    // stopping ramp
     17,
-    1,
-    100000,
+    LEAST_RAMP,
+    KW,
+    // on cost per minute
     17,
     0,
-    100000,
+    ON_COST,
+    // start cost
     30,
     0,
-    1000000000,
+    COST,
+    // stop cost
     30,
     0,
-    1000000000,
+    COST,
+    // rgu limit
     17,
     0,
-    100000,
+    KW,
+    // rgd limit
     17,
     0,
-    100000,
+    KW,
+    // scr limit
     17,
     0,
-    100000,
+    KW,
+    // nsc limit
     17,
     0,
-    100000,
+    KW,
+    // rru_on limit
     17,
     0,
-    100000,
+    KW,
+    // rru_off limit
     17,
     0,
-    100000,
+    KW,
+    // rrd_on limit
     17,
     0,
-    100000,
+    KW,
+    // rrd_off limit
     17,
     0,
-    100000,
+    KW,
 ];
 
 // The place behind the zone bits, which start at bit b.

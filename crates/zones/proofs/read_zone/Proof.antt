@@ -1,9 +1,9 @@
--- `cases::zones::read_zone` meets its contract: the row, then the minima. Assumes nothing.
+-- `zones::read_zone` meets its contract: the row, then the minima. Assumes nothing.
 use native.Mathlib.Omega.{arith}
-use Rattle.cases.proofs.ZoneSteps.{zone-no-row, zone-done}
+use Rattle.zones.proofs.ZoneSteps.{zone-no-row, zone-done}
 use borrow.Author.Needs.{needs}
-use Rattle.cases.proofs.zones.read_zone.Statement.{statement}
-use Rattle.cases.proofs.zones.read_zone.Tie as tie
+use Rattle.zones.proofs.read_zone.Statement.{statement}
+use Rattle.zones.proofs.read_zone.Tie as tie
 
 slice-aggregate-read-row : tie.Need-slice-aggregate-read-row
 slice-aggregate-read-row c = search needs

@@ -1,13 +1,13 @@
--- `cases::header::last_end` meets its contract. The loop's invariant: the sum of the first i halves. Assumes nothing.
+-- `header::last_end` meets its contract. The loop's invariant: the sum of the first i halves. Assumes nothing.
 use Prim.Native.Nat.{ℕ, _-_, _*_, _≤_}
 use mathlib.Core.Path.{_≡_, refl, ap}
 use native.Mathlib.Omega.{arith}
 use borrow.Author.Needs.{needs}
 use lib.ListN.{take}
 use Rattle.numbers.specs.Sum.{sumℕ}
-use Rattle.cases.proofs.HeaderSteps.{sum-next}
-use Rattle.cases.proofs.header.last_end.Statement.{statement}
-use Rattle.cases.proofs.header.last_end.Tie as tie
+use Rattle.header.proofs.HeaderSteps.{sum-next}
+use Rattle.header.proofs.last_end.Statement.{statement}
+use Rattle.header.proofs.last_end.Tie as tie
 
 abbrev Inv-loop : tie.InvT-loop
 Inv-loop halves n sum₀ i₀ sum i = (i ≤ n) × (sum ≡ sumℕ (λ h. h) (take i halves)) × (sum ≤ 4294967295 * i)

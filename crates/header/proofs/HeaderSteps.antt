@@ -20,7 +20,7 @@ use Rattle.fields.specs.Got.{Got, good, bad, got, told, figured, placed, Natura
 use Rattle.fields.specs.Each.{list-natural}
 use Rattle.fields.proofs.Lists.{of-tab, of-tabs, stored, stored-long, span-long}
 use Rattle.fields.proofs.Steps.{figure-on, figure-off}
-use Rattle.cases.specs.Header.{front, countsOf, CountsDone, header, headerOf, HeaderDone}
+use Rattle.header.specs.Header.{front, countsOf, CountsDone, header, headerOf, HeaderDone}
 
 pub counts-natural : Natural (counts 1 edition1)
 unfolding counts

@@ -1,10 +1,10 @@
--- `cases::header::read_counts` meets its contract, field by field. Assumes nothing.
+-- `header::read_counts` meets its contract, field by field. Assumes nothing.
 use native.Mathlib.Omega.{arith}
 use lib.ListN.{length-set}
-use Rattle.cases.proofs.HeaderSteps.{no-front, no-devices, no-intervals, no-zones, counts-done}
+use Rattle.header.proofs.HeaderSteps.{no-front, no-devices, no-intervals, no-zones, counts-done}
 use borrow.Author.Needs.{needs}
-use Rattle.cases.proofs.header.read_counts.Statement.{statement}
-use Rattle.cases.proofs.header.read_counts.Tie as tie
+use Rattle.header.proofs.read_counts.Statement.{statement}
+use Rattle.header.proofs.read_counts.Tie as tie
 
 read-front-requires : tie.Need-read-front-requires
 read-front-requires c κs = search needs

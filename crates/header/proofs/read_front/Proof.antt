@@ -1,8 +1,8 @@
--- `cases::header::read_front` meets its contract. Assumes nothing.
-use Rattle.cases.proofs.HeaderSteps.{front-no-kind, front-done}
+-- `header::read_front` meets its contract. Assumes nothing.
+use Rattle.header.proofs.HeaderSteps.{front-no-kind, front-done}
 use borrow.Author.Needs.{needs}
-use Rattle.cases.proofs.header.read_front.Statement.{statement}
-use Rattle.cases.proofs.header.read_front.Tie as tie
+use Rattle.header.proofs.read_front.Statement.{statement}
+use Rattle.header.proofs.read_front.Tie as tie
 
 read-fixed-requires : tie.Need-read-fixed-requires
 read-fixed-requires c κs = search needs

@@ -1,4 +1,4 @@
--- `cases::zones::read_zones` meets its contract. The loop's invariant: i of the zones have been read. Assumes nothing.
+-- `zones::read_zones` meets its contract. The loop's invariant: i of the zones have been read. Assumes nothing.
 use Prim.Native.Nat.{_-_, _+_, _*_}
 use mathlib.Core.Path.{refl}
 use native.Mathlib.Omega.{arith}
@@ -6,10 +6,10 @@ use borrow.Author.Needs.{needs}
 use Rattle.model.specs.Messages.{zone}
 use Rattle.model.specs.Views.{zoneOf, noZoneRecord}
 use Rattle.fields.specs.Got.{told-off}
-use Rattle.cases.proofs.ZoneSteps.{zone-natural}
-use Rattle.cases.proofs.Parts.{Fleet, fleet-none, fleet-more, fleet-off, fleet-done}
-use Rattle.cases.proofs.zones.read_zones.Statement.{statement}
-use Rattle.cases.proofs.zones.read_zones.Tie as tie
+use Rattle.zones.proofs.ZoneSteps.{zone-natural}
+use Rattle.zones.proofs.Parts.{Fleet, fleet-none, fleet-more, fleet-off, fleet-done}
+use Rattle.zones.proofs.read_zones.Statement.{statement}
+use Rattle.zones.proofs.read_zones.Tie as tie
 
 abbrev Inv-loop : tie.InvT-loop
 Inv-loop s m n t₀ zones₀ q₀ i₀ t zones q i = Fleet (zone n) (zoneOf n) noZoneRecord 96 s m q₀ 384 i zones t q

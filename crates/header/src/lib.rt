@@ -7,7 +7,7 @@ ghost use Prim.Native.Nat.{_*_, _≤_};
 ghost use lib.ListN.{length, take};
 ghost use Rattle.numbers.specs.Sum.{sumℕ};
 ghost use Rattle.fields.specs.Got.{got, told};
-ghost use Rattle.cases.specs.Header.{front, CountsDone, HeaderDone};
+ghost use Rattle.header.specs.Header.{front, CountsDone, HeaderDone};
 
 // Kind and edition.
 fn read_front(s: &[u8], p: Place) -> Went

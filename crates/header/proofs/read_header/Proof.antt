@@ -1,8 +1,8 @@
--- `cases::header::read_header` meets its contract: counts, then prices. Assumes nothing.
-use Rattle.cases.proofs.HeaderSteps.{header-no-counts, header-done}
+-- `header::read_header` meets its contract: counts, then prices. Assumes nothing.
+use Rattle.header.proofs.HeaderSteps.{header-no-counts, header-done}
 use borrow.Author.Needs.{needs}
-use Rattle.cases.proofs.header.read_header.Statement.{statement}
-use Rattle.cases.proofs.header.read_header.Tie as tie
+use Rattle.header.proofs.read_header.Statement.{statement}
+use Rattle.header.proofs.read_header.Tie as tie
 
 sub-read-counts : tie.Need-sub-read-counts
 sub-read-counts c = search needs

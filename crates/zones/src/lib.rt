@@ -9,40 +9,58 @@ ghost use Rattle.model.specs.Layout.{list};
 ghost use Rattle.model.specs.Messages.{zone};
 ghost use Rattle.model.specs.Views.{zoneOf};
 ghost use Rattle.fields.specs.Got.{got, told};
-ghost use Rattle.cases.specs.Zones.{zoneFrom, zonesOf};
+ghost use Rattle.zones.specs.Zones.{zoneFrom, zonesOf};
 
-// By width, least and greatest: shares for rgu, rgd, scr, nsc; shortfall prices for rgu, rgd, scr, nsc, rru, rrd.
+// Shares: 0..1,000 thousandths.
+const SHARE: u32 = 1000;
+
+// Shortfall prices: 1..100 per W·min.
+const LEAST_PRICE: u32 = 1;
+
+const PRICE: u32 = 100;
+
+// The row of a zone: each field's width, least and greatest.
 const ROW: [u32; 30] = [
+    // rgu share
     10,
     0,
-    1000,
+    SHARE,
+    // rgd share
     10,
     0,
-    1000,
+    SHARE,
+    // scr share
     10,
     0,
-    1000,
+    SHARE,
+    // nsc share
     10,
     0,
-    1000,
+    SHARE,
+    // rgu shortfall price
     7,
-    1,
-    100,
+    LEAST_PRICE,
+    PRICE,
+    // rgd shortfall price
     7,
-    1,
-    100,
+    LEAST_PRICE,
+    PRICE,
+    // scr shortfall price
     7,
-    1,
-    100,
+    LEAST_PRICE,
+    PRICE,
+    // nsc shortfall price
     7,
-    1,
-    100,
+    LEAST_PRICE,
+    PRICE,
+    // rru shortfall price
     7,
-    1,
-    100,
+    LEAST_PRICE,
+    PRICE,
+    // rrd shortfall price
     7,
-    1,
-    100,
+    LEAST_PRICE,
+    PRICE,
 ];
 
 pub struct ZoneRead {

@@ -17,7 +17,7 @@ use Rattle.fields.specs.declared.Went.the-variants as W
 use Rattle.fields.specs.Got.{Got, good, bad, got, told, Natural, nat-natural, then-natural, held-natural, goes-on, goes-off, mapped, told-off, went-good, went-bad}
 use Rattle.fields.specs.Each.{each, eachRead, row, row-natural, list-natural}
 use Rattle.fields.specs.Going.{rows-same}
-use Rattle.cases.specs.Zones.{zoneFrom}
+use Rattle.zones.specs.Zones.{zoneFrom}
 
 -- ---- minima, two fields each
 

@@ -1,0 +1,1 @@
+// Tabulated facts about the definitions of `model`: small days with the answers of an independent reading.

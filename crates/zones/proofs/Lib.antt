@@ -1,0 +1,2 @@
+pub mod ZoneSteps
+pub mod Parts
