@@ -7,7 +7,7 @@ use std::process::{Command, ExitCode, Stdio};
 use std::thread;
 
 use host::judge;
-use reference::batch::{split, Split};
+use reference::batch::messages;
 
 const LARGEST: usize = 1024;
 
@@ -43,8 +43,10 @@ fn search(batch: &str) -> ExitCode {
 
 fn attempt(batch: &str, kilobytes: usize) -> ExitCode {
     let bytes = fs::read(batch).expect("a batch");
-    let (case, next) = message(&bytes, 0);
-    let (plan, _) = message(&bytes, next);
+    let [case, plan, ..] = messages(&bytes)[..] else {
+        panic!("a batch of a case and a plan");
+    };
+    let (case, plan) = (case.to_vec(), plan.to_vec());
     let mut result = vec![0; 65_536];
     let judging = thread::Builder::new()
         .stack_size(kilobytes * 1024)
@@ -53,12 +55,5 @@ fn attempt(batch: &str, kilobytes: usize) -> ExitCode {
     match judging.join() {
         Ok(0) => ExitCode::SUCCESS,
         _ => ExitCode::FAILURE,
-    }
-}
-
-fn message(batch: &[u8], at: usize) -> (Vec<u8>, usize) {
-    match split(batch, at) {
-        Split::Message { message, next } => (message.to_vec(), next),
-        _ => panic!("a batch of a case and a plan"),
     }
 }

@@ -50,7 +50,12 @@ pub fn inspect(case: &[u8]) -> Told {
     let mut figures = [0u64; 4];
     // SAFETY: as above.
     let word = unsafe {
-        kadunfo_inspect(case.as_ptr(), case.len(), figures.as_mut_ptr(), figures.len())
+        kadunfo_inspect(
+            case.as_ptr(),
+            case.len(),
+            figures.as_mut_ptr(),
+            figures.len(),
+        )
     };
     Told { word, figures }
 }

@@ -1,9 +1,10 @@
 //! The corpus through the static library: every verdict, every completion's bytes, and the rest of the buffer, beside the reference.
 
 use host::{inspect, judge, Told};
-use reference::batch::{split, Split};
+use reference::batch::messages;
 use reference::case::read_case;
 use reference::judge::{judge as expected, Refusal, Verdict};
+use reference::packed::unpack;
 
 const ROOM: usize = 12_288;
 
@@ -33,28 +34,6 @@ fn told(verdict: Verdict) -> Told {
     Told { word, figures }
 }
 
-/// The messages of a batch, up to its end or a refusal of the splitter.
-fn messages(batch: &[u8]) -> Vec<&[u8]> {
-    let mut found = Vec::new();
-    let mut at = 0;
-    while let Split::Message { message, next } = split(batch, at) {
-        found.push(message);
-        at = next;
-    }
-    found
-}
-
-fn batches(corpus: &[u8]) -> Vec<&[u8]> {
-    let mut found = Vec::new();
-    let mut rest = corpus;
-    while rest.len() >= 4 {
-        let length = u32::from_be_bytes([rest[0], rest[1], rest[2], rest[3]]) as usize;
-        found.push(&rest[4..4 + length]);
-        rest = &rest[4 + length..];
-    }
-    found
-}
-
 /// Both sides on one pair and one buffer's length: verdict and buffer alike.
 fn agree(case: &[u8], plan: &[u8], room: usize) -> Told {
     let mut ours = vec![0xa5u8; room];
@@ -70,7 +49,7 @@ fn corpus_agrees_in_every_verdict_and_byte() {
     let path = concat!(env!("CARGO_MANIFEST_DIR"), "/../crates/corpus/stdin");
     let corpus = std::fs::read(path).expect("the corpus is committed");
     let (mut pairs, mut accepted, mut short) = (0u32, 0u32, 0u32);
-    for batch in batches(&corpus) {
+    for batch in unpack(&corpus).expect("a packed stream") {
         let found = messages(batch);
         let Some((case, plans)) = found.split_first() else {
             continue;

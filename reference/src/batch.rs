@@ -49,6 +49,17 @@ pub fn split(batch: &[u8], at: usize) -> Split<'_> {
     }
 }
 
+/// A batch's messages, up to its end or to what the splitter refuses.
+pub fn messages(batch: &[u8]) -> Vec<&[u8]> {
+    let mut messages = Vec::new();
+    let mut at = 0;
+    while let Split::Message { message, next } = split(batch, at) {
+        messages.push(message);
+        at = next;
+    }
+    messages
+}
+
 /// One line of the batch program's output; `index` is the message's, from 0.
 #[derive(Clone, PartialEq, Eq, Debug)]
 pub enum Line {

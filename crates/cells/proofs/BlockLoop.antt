@@ -17,7 +17,7 @@ use Rattle.fields.specs.declared.Went.the-variants as W
 use Rattle.fields.specs.Got.{good, bad, got, figured, kept, placed, Natural, nat-natural, int-natural, then-natural, counted-on, counted-off, nat-within, placed-off, told-off}
 use Rattle.fields.specs.Going.{Reading, reading-none, reading-more, reading-off, reading-done}
 use Rattle.fields.proofs.Steps.{figure-on, figure-off, pair-no-first, pair-no-second, pair-both}
-use Rattle.cells.specs.Blocks.{block, blocks, blockOf, blocksOf, Absent, BlocksDone}
+use Rattle.cells.specs.Blocks.{block, blockOf, blocksOf, Absent, BlocksDone}
 use Rattle.fields.proofs.Lists.{of-tab}
 
 pub block-natural : Natural block

@@ -5,8 +5,6 @@ use model::Place;
 ghost use mathlib.Core.Path.{_≡_};
 ghost use Prim.Native.Nat.{_*_, _≤_, _<_};
 ghost use lib.ListN.{length};
-ghost use Rattle.model.specs.Layout.{list};
-ghost use Rattle.model.specs.Messages.{cell};
 ghost use Rattle.fields.specs.Got.{got, told};
 ghost use Rattle.cells.specs.Blocks.{BlocksDone};
 ghost use Rattle.cells.specs.Cells.{limits, limitsOf, CellDone, CellsDone};

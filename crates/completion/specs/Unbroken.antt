@@ -5,11 +5,11 @@ use Prim.Native.Nat.{ℕ, zero, suc, _+_, _*_, _^_, _≤_, _<_}
 use native.Mathlib.Omega.{arith}
 use native.Mathlib.Numerals.{add-one}
 use native.Mathlib.Nat.{mul-le-mul}
-use lib.ListN.{length, getD, take, drop, length-map}
+use lib.ListN.{length, take, drop, length-map}
 use lib.IntN.{ℤ}
 use Rattle.numbers.specs.Laws.{maxZero}
 use Rattle.numbers.specs.Sum.{All, sumℕ, sumℕ-cong}
-use Rattle.model.specs.Case.{System, Plan, Case, Device, Setting, Six}
+use Rattle.model.specs.Case.{System, Plan, Device}
 use Rattle.model.specs.Forced.{intervals, devices, zones, device}
 use Rattle.model.specs.Rules.{EveryRule}
 use Rattle.model.specs.Completion.{Completion, shortfalls, shortfallNeed, mismatchNeed, overrunNeed, rgu, rgd, scr, nsc, rru, rrd}
@@ -23,7 +23,7 @@ use Rattle.model.specs.Layout.{bytes, int}
 use Rattle.model.specs.Tests.{all-upTo}
 use Rattle.model.specs.Messages.{any, counts, edition1}
 use Rattle.model.specs.Judgement.{written, completionOf, countsOf, energyWindows}
-use Rattle.model.specs.Views.{energyIn, deviceOf, recordAt, rows, span, settingAt, planOf, caseIn, planIn, Ready}
+use Rattle.model.specs.Views.{energyIn, deviceOf, recordAt, rows, planOf, caseIn, planIn, Ready}
 use Rattle.model.specs.Viewed.{rows-long}
 use Rattle.model.specs.declared.CaseRecord.{CaseRecord}
 use Rattle.writing.specs.Puts.{Puts, Room, sixIn, choiceIn, countsIn}

@@ -1,7 +1,7 @@
 // Runs the batches of a corpus, each behind a 32-bit byte length, with a line on each completion's bytes.
 use libc::STDIN_FILENO;
 use libc::STDOUT_FILENO;
-ghost use Prim.Native.Nat.{_≤_, _<_};
+ghost use Prim.Native.Nat.{_<_};
 
 fn wide(x: u8) -> u64
     ensures { λ r. ⌜ r < 256 ⌝ }

@@ -7,7 +7,6 @@ use tables::less;
 use tables::number;
 ghost use mathlib.Core.Path.{_≡_};
 ghost use Prim.Native.Nat.{_<_, _≤_};
-ghost use lib.ListN.{length};
 ghost use Rattle.tables.specs.Cells.{CellOf};
 ghost use Rattle.dispatch.specs.States.{chosen, stateOf};
 ghost use Rattle.dispatch.specs.Rests.{initial, DowntimeOf};

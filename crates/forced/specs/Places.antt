@@ -4,12 +4,12 @@ use mathlib.Core.List.{List}
 use Prim.Native.Nat.{ℕ, zero, suc, _+_, _-_, _*_, _≤_, _<_}
 use native.Mathlib.Omega.{arith}
 use native.Mathlib.Decide.{decLe}
-use lib.Dec.{ltb, eqb}
+use lib.Dec.{eqb}
 use lib.ListN.{length, getD, set, replicate, length-set}
 use lib.Seq.{getD-set-same, getD-set-other}
 use Rattle.numbers.specs.Sum.{sumℕ}
 use Rattle.bits.specs.Pick.{pick}
-use Rattle.model.specs.Base.{range, upTo, bit}
+use Rattle.model.specs.Base.{range, upTo}
 use Rattle.model.specs.declared.DeviceRecord.{DeviceRecord}
 use Rattle.tables.specs.Sums.{sum-more}
 

@@ -1,10 +1,9 @@
 // The forced figures: S of each interval, and the power p of each device in each interval.
 ghost use mathlib.Core.Path.{_≡_};
 ghost use Prim.Native.Nat.{_+_, _-_, _*_, _<_, _≤_};
-ghost use lib.ListN.{getD, length};
+ghost use lib.ListN.{length};
 ghost use lib.Dec.{ltb};
 ghost use Rattle.numbers.specs.Sum.{gate};
-ghost use Rattle.model.specs.Base.{bit};
 ghost use Rattle.model.specs.Views.{caseIn, planIn, Decoded, Planned, ForcedTable};
 ghost use Rattle.tables.specs.Cells.{Halves};
 ghost use Rattle.forced.specs.Places.{onlineAt, pminAt, leavesAt, Times, Rampable};

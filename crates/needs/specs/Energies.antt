@@ -16,7 +16,7 @@ use Rattle.numbers.specs.Sum.{sumℕ, gate}
 use Rattle.bits.specs.Pick.{pick}
 use Rattle.model.specs.Base.{range, upTo}
 use Rattle.model.specs.Case.{System, Plan, Device, noEnergyWindow}
-use Rattle.model.specs.Forced.{intervals, device, energyWindow, duration, midpoint, power}
+use Rattle.model.specs.Forced.{energyWindow, duration, midpoint, power}
 use Rattle.model.specs.Completion as C
 use Rattle.model.specs.declared.EnergyWindow.{EnergyWindow as EnergyRecord}
 use Rattle.model.specs.declared.DeviceRecord.{DeviceRecord}

@@ -1,11 +1,10 @@
 -- The promises of `judge`, for any bytes of a case and a plan and any result buffer; nothing is required of the caller.
-use mathlib.Core.Path.{_≡_, refl, sym, subst, ap₂}
+use mathlib.Core.Path.{_≡_, sym, subst, ap₂}
 use mathlib.Core.List.{List}
 use Prim.Native.Nat.{ℕ}
 use Rattle.model.specs.declared.CaseRecord.{CaseRecord}
 use Rattle.model.specs.declared.Verdict.{Verdict}
-use Rattle.model.specs.Case.{Case}
-use Rattle.model.specs.Judgement.{Judged, judgement, withPlan, readPlan}
+use Rattle.model.specs.Judgement.{judgement, withPlan, readPlan}
 use Rattle.model.specs.Promise.{Promise, promised}
 use Rattle.model.specs.Views.{caseIn}
 

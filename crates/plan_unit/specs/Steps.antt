@@ -1,6 +1,5 @@
 -- The steps of a judgement: a rule broken, a buffer too short, acceptance; a plan refused or judged; a case refused or judged.
 use mathlib.Core.Path.{_≡_, refl, sym, ap, _∙_}
-use mathlib.Core.Bool.{Bool, true, false}
 use mathlib.Core.List.{List, [], _∷_, _++_}
 use Prim.Native.Nat.{ℕ, _≤_, _<_}
 use native.Mathlib.Omega.{arith}
@@ -14,16 +13,15 @@ use Rattle.model.specs.declared.CaseRecord.{CaseRecord}
 use Rattle.model.specs.declared.Subject.the-variants as S
 use Rattle.model.specs.declared.Verdict.{Verdict}
 use Rattle.model.specs.declared.Verdict.the-variants.{Accepted, Broken, Refused}
-use Rattle.model.specs.Case.{System, Case, Plan}
-use Rattle.model.specs.Forced.{intervals, devices, zones}
-use Rattle.model.specs.Rules.{EveryRule}
+use Rattle.model.specs.Case.{Case, Plan}
+use Rattle.model.specs.Forced.{intervals, devices}
 use Rattle.model.specs.Breaches.{breaches}
 use Rattle.model.specs.Tests.{none-every, every-none}
 use Rattle.model.specs.Ours.{ours}
-use Rattle.model.specs.Layout.{Whole, passes, fails, readWhole}
+use Rattle.model.specs.Layout.{passes, fails, readWhole}
 use Rattle.model.specs.Messages.{edition1, planLayout}
-use Rattle.model.specs.Judgement.{Judged, judged, verdict, accepts, unlessBroken, bufferAfter, ourSurplus, completionBytes, energyWindows, readPlan, withPlan, withCase, judgement, readCase}
-use Rattle.model.specs.Views.{caseIn, planIn, halvesIn, minimaIn, cellsIn, Decoded, Planned, ForcedTable, Ready}
+use Rattle.model.specs.Judgement.{judged, verdict, accepts, unlessBroken, bufferAfter, ourSurplus, completionBytes, energyWindows, readPlan, withPlan, judgement, readCase}
+use Rattle.model.specs.Views.{caseIn, planIn, halvesIn, minimaIn, cellsIn, Decoded, Planned, Ready}
 use Rattle.model.specs.Viewed.{devices-are, intervals-are, zones-are}
 use Rattle.fields.specs.Ended.{ended}
 use Rattle.fields.specs.declared.Ending.{Ending}

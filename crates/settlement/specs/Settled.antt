@@ -1,12 +1,12 @@
 -- A part of a completion settled: its bits written behind those before it, its money entered.
-use mathlib.Core.Path.{_≡_, refl, ap}
+use mathlib.Core.Path.{refl}
 use mathlib.Core.List.{List}
 use Prim.Native.Nat.{ℕ, _+_, _*_, _≤_}
 use native.Mathlib.Omega.{arith}
 use lib.IntN.{ℤ, negℤ}
 use Rattle.numbers.specs.Sum.{sumℤ}
 use Rattle.model.specs.Base.{upTo}
-use Rattle.model.specs.Case.{System, Case, Plan}
+use Rattle.model.specs.Case.{Case, Plan}
 use Rattle.model.specs.Completion.{shortfallCost}
 use Rattle.model.specs.Views.{caseIn, planIn}
 use Rattle.model.specs.declared.CaseRecord.{CaseRecord}

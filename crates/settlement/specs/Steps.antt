@@ -1,25 +1,24 @@
 -- What the code computes, writes and enters for a device, a zone, an interval, a window: steps of `Settles`.
-use mathlib.Core.Path.{_≡_, refl, sym, ap, _∙_}
-use mathlib.Core.List.{List, map, _++_}
+use mathlib.Core.Path.{_≡_, refl, ap, _∙_}
+use mathlib.Core.List.{List, map}
 use Prim.Native.Nat.{ℕ, _+_, _*_, _^_, _≤_, _<_}
 use native.Mathlib.Omega.{arith}
-use lib.ListN.{length, getD, drop}
-use lib.IntN.{ℤ, negℤ}
+use lib.ListN.{getD}
 use Rattle.numbers.specs.Laws.{maxZero}
 use Rattle.numbers.specs.Sum.{sumℤ}
 use Rattle.numbers.specs.declared.Ledger.{Ledger}
 use Rattle.model.specs.Base.{upTo}
-use Rattle.model.specs.Case.{System, Case, Plan}
-use Rattle.model.specs.Completion.{shortfalls, shortfallNeed, mismatchNeed, overrunNeed, mismatchCost}
+use Rattle.model.specs.Case.{Case, Plan}
+use Rattle.model.specs.Completion.{shortfalls, shortfallNeed, mismatchNeed, overrunNeed}
 use Rattle.model.specs.Back.{FitsSix}
 use Rattle.model.specs.Messages.{any, six, deviceChoice}
 use Rattle.model.specs.Ours.{ours}
 use Rattle.model.specs.Views.{caseIn, planIn, recordAt, noZoneRecord}
 use Rattle.model.specs.declared.CaseRecord.{CaseRecord}
-use Rattle.writing.specs.Puts.{Puts, Room, choiceIn, sixIn}
+use Rattle.writing.specs.Puts.{Puts, choiceIn, sixIn}
 use Rattle.writing.specs.Runs.{run, puts-as}
-use Rattle.writing.specs.Size.{deviceWidth, zoneWidth, mismatchWidth, overrunWidth, intervalWidth}
-use Rattle.writing.specs.Whole.{deviceBits, zoneBits, intervalBits, overrunBits, windowsOf}
+use Rattle.writing.specs.Size.{deviceWidth, zoneWidth, mismatchWidth, overrunWidth}
+use Rattle.writing.specs.Whole.{deviceBits, zoneBits, overrunBits, windowsOf}
 use Rattle.dispatch.specs.Choices.{ChoiceOf}
 use Rattle.dispatch.specs.declared.Choice.{Choice}
 use Rattle.needs.specs.declared.Fleet.{Fleet}
@@ -27,11 +26,10 @@ use Rattle.needs.specs.Fleets.{FleetOf}
 use Rattle.needs.specs.Sides.{sidesTo, mismatchOf, mismatch-is}
 use Rattle.needs.specs.Zones.{sumsTo, zoneNeeds, shortfalls-are}
 use Rattle.needs.specs.Energies.{windowIn, windowsIn, energyTo, overOf, overrun-is}
-use Rattle.surplus.specs.Entries.{Entered}
 use Rattle.surplus.specs.Ruled.{Ruled}
-use Rattle.surplus.specs.Terms.{our, cellBalance, CellEntered}
+use Rattle.surplus.specs.Terms.{cellBalance, CellEntered}
 use Rattle.surplus.specs.Charges.{ZoneOf, ZoneEntered, IntervalOf, MismatchEntered, OverrunOf, OverrunEntered, overrunBalance}
-use Rattle.surplus.specs.Day.{windowsBalance, windows-entered}
+use Rattle.surplus.specs.Day.{windows-entered}
 use Rattle.completion.specs.Unbroken.{Unbroken, oursIn, cell-of, choice-is, six-is, six-fits, mismatch-fits, overrun-fits, windows-are, interval-of}
 use Rattle.settlement.specs.declared.Progress.{Progress}
 use Rattle.settlement.specs.Spare.{interval-whole}

@@ -7,7 +7,7 @@ use std::fs;
 use std::process::ExitCode;
 
 use reference::arguments::{exit_code, Arguments};
-use reference::batch::{join, split, Split};
+use reference::batch::{join, messages};
 use reference::packed::unpack;
 
 const USAGE: &str = "usage: pick STREAM BATCH PLAN TIMES FILE";
@@ -30,7 +30,7 @@ fn perform() -> Result<(), String> {
     let batch = batches
         .get(number(batch)?)
         .ok_or("there is no such batch")?;
-    let messages = messages_of(batch);
+    let messages = messages(batch);
     let case = messages.first().ok_or("the batch has no case")?;
     let plan = messages
         .get(number(plan)?)
@@ -43,14 +43,4 @@ fn perform() -> Result<(), String> {
 fn number(word: &str) -> Result<usize, String> {
     word.parse()
         .map_err(|_| format!("{word} is not a number\n{USAGE}"))
-}
-
-fn messages_of(batch: &[u8]) -> Vec<&[u8]> {
-    let mut messages = Vec::new();
-    let mut at = 0;
-    while let Split::Message { message, next } = split(batch, at) {
-        messages.push(message);
-        at = next;
-    }
-    messages
 }

@@ -1,14 +1,9 @@
 -- `completion::count_windows` meets its contract. Assumes nothing.
-use Prim.Native.Nat.{ℕ, _+_, _*_, _-_, _≤_, _<_}
-use mathlib.Core.Path.{_≡_, refl, sym, ap, _∙_}
+use Prim.Native.Nat.{_*_, _-_, _≤_}
+use mathlib.Core.Path.{_≡_, ap, _∙_}
 use native.Mathlib.Omega.{arith}
 use borrow.Author.Needs.{needs}
-use denote.Ref.{now}
-use Rattle.writing.specs.Puts.{Puts}
-use Rattle.writing.specs.Runs.{run, run-none, run-even, run-done, fits-more, puts-as}
-use Rattle.writing.specs.Size.{deviceWidth, zoneWidth, overrunWidth}
-use Rattle.writing.specs.Whole.{deviceBits, zoneBits, overrunBits}
-use Rattle.completion.specs.Unbroken.{oursIn, windowsUpTo, none-windows, more-windows, six-is, six-fits, cell-of, choice-is, choice-fits, windows-are, overrun-fits}
+use Rattle.completion.specs.Unbroken.{windowsUpTo, none-windows, more-windows}
 use Rattle.completion.proofs.count_windows.Statement.{statement}
 use Rattle.completion.proofs.count_windows.Tie as tie
 

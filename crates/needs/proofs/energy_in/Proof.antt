@@ -1,5 +1,4 @@
 -- `needs::energy_in` meets its contract. Assumes nothing.
-use mathlib.Core.Path.{refl}
 use native.Mathlib.Omega.{arith}
 use Prim.Native.Nat.{_≤_, _-_}
 use Rattle.needs.specs.Energies.{Spent, spent-start, spent-room, spent-next, spent-end}

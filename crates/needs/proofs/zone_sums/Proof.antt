@@ -1,8 +1,7 @@
 -- `needs::zone_sums` meets its contract. Assumes nothing.
-use mathlib.Core.Path.{_≡_, refl, ap, _∙_}
+use mathlib.Core.Path.{_≡_, refl}
 use native.Mathlib.Omega.{arith}
 use Prim.Native.Nat.{_≤_, _-_}
-use Rattle.needs.specs.declared.Fleet.{Fleet}
 use Rattle.needs.specs.Zones.{SumsOf, sumsTo, sums-start, sums-next, sums-end, sums-mono}
 use borrow.Author.Needs.{needs}
 use Rattle.needs.proofs.zone_sums.Statement.{statement}

@@ -1,5 +1,4 @@
-use Prim.Native.Nat.{ℕ, _≤_, _<_, _-_, _+_, _*_}
-use lib.ListN.{length}
+use Prim.Native.Nat.{_≤_, _-_}
 use borrow.Author.Needs.{needs}
 use Rattle.runner.proofs.skip.Statement.{statement}
 use Rattle.runner.proofs.skip.Tie as tie

@@ -1,9 +1,9 @@
 -- `settlement::settle_devices` meets its contract. Assumes nothing.
-use Prim.Native.Nat.{ℕ, _+_, _*_, _-_, _≤_, _<_}
+use Prim.Native.Nat.{_*_, _-_, _≤_}
 use native.Mathlib.Omega.{arith}
 use Rattle.writing.specs.Size.{deviceWidth}
 use Rattle.completion.specs.Unbroken.{cell-of, choice-fits, room-at}
-use Rattle.settlement.specs.Spare.{Spare, spare-after, spare-room}
+use Rattle.settlement.specs.Spare.{spare-after, spare-room}
 use Rattle.settlement.specs.Settled.{DevicesSettled, settles-none, settles-next, settles-done}
 use Rattle.settlement.specs.Steps.{ruled-of, device-settled}
 use borrow.Author.Needs.{needs}

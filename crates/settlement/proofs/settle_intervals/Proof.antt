@@ -1,5 +1,5 @@
 -- `settlement::settle_intervals` meets its contract. Assumes nothing.
-use Prim.Native.Nat.{ℕ, _+_, _*_, _-_, _≤_, _<_}
+use Prim.Native.Nat.{_*_, _-_, _≤_}
 use native.Mathlib.Omega.{arith}
 use Rattle.completion.specs.Unbroken.{room-at}
 use Rattle.settlement.specs.Spare.{spare-after}

@@ -1,7 +1,6 @@
 -- `settlement::settle_windows` meets its contract. Assumes nothing.
-use Prim.Native.Nat.{ℕ, _+_, _*_, _-_, _≤_, _<_}
+use Prim.Native.Nat.{_*_, _-_, _≤_}
 use native.Mathlib.Omega.{arith}
-use mathlib.Core.Path.{_≡_, refl}
 use Rattle.writing.specs.Size.{overrunWidth}
 use Rattle.writing.specs.Runs.{run}
 use Rattle.numbers.specs.Sum.{sumℤ}
@@ -11,7 +10,7 @@ use Rattle.model.specs.Views.{caseIn, planIn}
 use Rattle.surplus.specs.Charges.{overrunBalance}
 use Rattle.needs.specs.Energies.{halves-of}
 use Rattle.completion.specs.Unbroken.{oursIn, room-at, windows-are}
-use Rattle.settlement.specs.Spare.{Spare, spare-after, spare-room}
+use Rattle.settlement.specs.Spare.{spare-after, spare-room}
 use Rattle.settlement.specs.Settled.{Settles, settles-none, settles-next, settles-done}
 use Rattle.settlement.specs.Steps.{overrun-small, overrun-of, overrun-settled, windows-settled}
 use borrow.Author.Needs.{needs}

@@ -1,10 +1,10 @@
 -- `settlement::settle_zones` meets its contract. Assumes nothing.
-use Prim.Native.Nat.{ℕ, _+_, _*_, _-_, _≤_, _<_}
+use Prim.Native.Nat.{_*_, _-_, _≤_}
 use native.Mathlib.Omega.{arith}
 use Rattle.writing.specs.Size.{zoneWidth}
 use Rattle.completion.specs.Unbroken.{room-at}
 use Rattle.needs.specs.Zones.{shares-small}
-use Rattle.settlement.specs.Spare.{Spare, spare-after, spare-room}
+use Rattle.settlement.specs.Spare.{spare-after, spare-room}
 use Rattle.settlement.specs.Settled.{ZonesSettled, settles-none, settles-next, settles-done}
 use Rattle.settlement.specs.Steps.{zone-of, shortfalls-fit, zone-settled}
 use borrow.Author.Needs.{needs}
