@@ -94,8 +94,8 @@ abbrev pub stopRamp : ℕ → ℕ → List ℕ → List ℕ → ℕ → ℕ → 
 stopRamp power0 ramp table times i e = record { at = getD times e 0; power = leavesAt power0 table e i; ramp = ramp }
 
 -- a trajectory by its moment and power
-pub same-trajectory : {at at' power power' : ℕ} (ramp : ℕ) → at ≡ at' → power ≡ power' → _≡_ {A = Trajectory} (record { at = at; power = power; ramp = ramp }) (record { at = at'; power = power'; ramp = ramp })
-same-trajectory ramp e h = rw (e, h) refl
+pub same-trajectory : (at : ℕ) {power power' ramp ramp' : ℕ} → power ≡ power' → ramp ≡ ramp' → _≡_ {A = Trajectory} (record { at = at; power = power; ramp = ramp }) (record { at = at; power = power'; ramp = ramp' })
+same-trajectory at e h = rw (e, h) refl
 
 module _ {x y : Trajectory} (e : x ≡ y) where
   pub same-small : Small y → Small x

@@ -11,16 +11,9 @@ ghost use Rattle.forced.specs.Rows.{distance, leftAt, leftIn, startRamp,
 ghost use Rattle.forced.specs.Table.{Blank, Timed};
 use model::CaseRecord;
 use model::DeviceRecord;
-use tables::less;
 use tables::number;
 use tables::on_at;
 use tables::on_before;
-
-fn wide(x: u32) -> u64
-    ensures { λ r. ⌜ (r ≡ x) × (r < 4294967296) ⌝ }
-{
-    x as u64
-}
 
 fn narrow(x: u64) -> u32
     requires { ⌜ x ≤ 10000000 ⌝ }
@@ -48,7 +41,14 @@ fn leaves_at(power0: u64, table: &[u32], t: usize, i: usize) -> u64
     }
 }
 
-fn apart(x: u64, y: u64) -> u64
+// The first less the second, 0 where the second is above.
+fn left_of(a: u32, b: u32) -> u32
+    ensures { λ r. ⌜ r ≡ a - b ⌝ }
+{
+    if b <= a { a - b } else { 0 }
+}
+
+fn apart(x: u32, y: u32) -> u32
     requires { ⌜ (x ≤ 17280) × (y ≤ 17280) ⌝ }
     ensures { λ r. ⌜ (r ≡ distance x y) × (r ≤ 17280) ⌝ }
 {
@@ -57,19 +57,19 @@ fn apart(x: u64, y: u64) -> u64
 
 // The power of a device before its start or after its stop: its figure at a moment, and a ramp.
 pub struct Trajectory {
-    pub at: u64,
-    pub power: u64,
-    pub ramp: u64,
+    pub at: u32,
+    pub power: u32,
+    pub ramp: u32,
 }
 
 impl Trajectory {
     // What is left of it at an interval's end.
-    fn left(self, end: u64) -> u64
+    fn left(self, end: u32) -> u32
         requires { ⌜ Small self × (end ≤ 17280) ⌝ }
         ensures { λ r. ⌜ (r ≡ leftAt self end) × (r ≤ 100000) ⌝ }
     {
         let gone = self.ramp * apart(self.at, end);
-        less(self.power, gone)
+        left_of(self.power, gone)
     }
 }
 
@@ -80,9 +80,9 @@ fn add_trajectory(row: &mut [u32], times: &[u32; 49], a: usize, b: usize, r: Tra
 {
     let mut t = a;
     while t < b {
-        let before = wide(row[t]);
-        let end = wide(times[t + 1]);
-        row[t] = narrow(before + r.left(end));
+        let before = row[t];
+        let end = times[t + 1];
+        row[t] = before + r.left(end);
         t += 1;
     }
 }
@@ -93,8 +93,9 @@ fn add_start(ramp: u64, table: &[u32], times: &[u32; 49], i: usize, e: usize, ro
     ensures { λ _. ⌜ Raised (leftIn (startRamp ramp (now (table .entry)) (now (times .entry)) i e) (now (times .entry))) 0 e (now (row .entry)) (now (row .exit)) ⌝ }
 {
     let next = e + 1;
-    let power = pmin_at(table, e, i);
-    let at = wide(times[next]);
+    let power = narrow(pmin_at(table, e, i));
+    let ramp = narrow(ramp);
+    let at = times[next];
     add_trajectory(row, times, 0, e, Trajectory { at, power, ramp });
 }
 
@@ -112,8 +113,9 @@ fn add_stop(
     requires { ⌜ (e < n) × (n ≤ 48) × (i < 16) × (length (now table) ≡ 15792) × (length (now row) ≡ 48) × Low 9800000 (now row) × Low 17280 (now times) × Small (stopRamp power0 ramp (now table) (now times) i e) ⌝ }
     ensures { λ _. ⌜ Raised (leftIn (stopRamp power0 ramp (now (table .entry)) (now (times .entry)) i e) (now (times .entry))) e n (now (row .entry)) (now (row .exit)) ⌝ }
 {
-    let power = leaves_at(power0, table, e, i);
-    let at = wide(times[e]);
+    let power = narrow(leaves_at(power0, table, e, i));
+    let ramp = narrow(ramp);
+    let at = times[e];
     add_trajectory(row, times, e, n, Trajectory { at, power, ramp });
 }
 

@@ -10,7 +10,7 @@ use Rattle.bits.specs.Pick.{pick}
 use Rattle.model.specs.Base.{implies}
 use Rattle.model.specs.declared.DeviceRecord.{DeviceRecord}
 use Rattle.tables.specs.Changes.{startedAt, stoppedAt}
-use Rattle.rules.specs.Apart.{apartAt}
+use Rattle.rules.specs.Apart.{Rising, apartAt}
 use Rattle.checks.specs.Tests.{Small}
 use Rattle.checks.specs.declared.Figures.{Figures}
 use Rattle.rules.specs.declared.Rest.{Rest}
@@ -149,3 +149,4 @@ pub record Fits (d : DeviceRecord) (table plan forced : List ℕ) (t i : ℕ) : 
   pub half : getD table t 0 ≤ 180
   pub start : getD forced t 0 ≤ 17280
   pub power : (k : ℕ) → k < 768 → getD forced (49 + k) 0 ≤ 10000000
+  pub rising : Rising forced t

@@ -22,6 +22,7 @@ use Rattle.model.specs.Views.{caseIn, planIn, reservesOf, recordAt, cellsIn, ce
 use Rattle.model.specs.Viewed.{cap-is}
 use Rattle.model.specs.declared.DeviceRecord.{DeviceRecord}
 use Rattle.model.specs.declared.CaseRecord.{CaseRecord}
+use Rattle.tables.specs.Sums.{sum-more}
 use Rattle.tables.specs.Changes.{onAt, startedAt, stoppedAt}
 use Rattle.forced.specs.Tied.{plan-place, cell-place, intervals-here, devices-here, duration-here, device-here, cell-here, setting-here, on-here, before-here, online-here, pmin-here, started-here, stopped-here, halves-here, device-range, cell-range}
 use Rattle.checks.specs.First.{first, firstIn}
@@ -32,6 +33,12 @@ use Rattle.checks.specs.declared.Figures.{Figures}
 use Rattle.rules.specs.declared.Setting.{Setting}
 use Rattle.rules.specs.declared.Cell.{Cell}
 use Rattle.checks.specs.declared.Check.{Check}
+
+-- S rises
+starts-rise : (q : System) (e n : ℕ) → F.startOf q e ≤ F.startOf q (e + n)
+unfolding F.startOf
+starts-rise q e zero = let z : e + 0 ≡ e = omega arith in rw z (omega arith)
+starts-rise q e (suc n) = let z : e + suc n ≡ e + n + 1 = omega arith in rw z (omega (arith, starts-rise q e n, sum-more (F.duration q) (e + n)))
 
 -- the figures that the model's tests compare
 abbrev pub figuresOf : System → Plan → ℕ → ℕ → Figures
@@ -292,4 +299,12 @@ module _ (c : CaseRecord) (table plan forced : List ℕ) (known : Ready c table 
             half = halves-here c table (known .decoded) .half t h;
             start = known .forced-table .early t (omega (arith, known .decoded .intervals));
             power = known .forced-table .small;
+            rising = record { up = rising };
           }
+        where
+          rising : (e k : ℕ) → e ≤ k → k ≤ t → getD forced e 0 ≤ getD forced k 0
+          rising e k a b =
+              let n : _ = intervals-here c table plan (known .decoded) in
+              let z : e + (k - e) ≡ k = omega arith in
+              let r : F.startOf q e ≤ F.startOf q k = rw z at (starts-rise q e (k - e)) in
+              omega (arith, known .forced-table .starts e (omega arith), known .forced-table .starts k (omega arith))

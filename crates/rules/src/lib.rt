@@ -8,7 +8,7 @@ ghost use Rattle.model.specs.Breaches.{breaches};
 ghost use Rattle.model.specs.Views.{caseIn, planIn, Ready};
 ghost use Rattle.checks.specs.First.{first, firstIn};
 ghost use Rattle.checks.specs.Tests.{tests};
-ghost use Rattle.rules.specs.Apart.{changedAt, farAt, apartAt};
+ghost use Rattle.rules.specs.Apart.{Rising, changedAt, apartAt};
 ghost use Rattle.rules.specs.Figures.{settingAt, cellAt, powerAt, previousAt, figuresFrom, figuresAt, Fits};
 ghost use Rattle.rules.specs.Windows.{countedStart, startsAt, windowAt, windowHere, windowCount};
 ghost use Rattle.rules.specs.Day.{intervalBreaches, dayBreaches, dayWindows};
@@ -39,35 +39,29 @@ fn changes(r: Rest, plan: &[u32], e: usize, i: usize) -> u64
     }
 }
 
-fn far_back(r: Rest, plan: &[u32], forced: &[u32], t: usize, i: usize, e: usize) -> bool
-    requires { ⌜ (t < 48) × (i < 16) × (e < 48) × (length (now plan) ≡ 7680) × (length (now forced) ≡ 817) ⌝ }
-    ensures { λ x. ⌜ x ≡ farAt r (now (plan .entry)) (now (forced .entry)) t i e ⌝ }
-{
-    let gone = less(number(forced, t), number(forced, e));
-    if r.least <= gone {
-        return true;
-    }
-    let changed = changes(r, plan, e, i);
-    changed != 1
-}
-
+// Back from the interval before t: where a change lies far enough back, all before it do.
 fn all_far_back(r: Rest, plan: &[u32], forced: &[u32], t: usize, i: usize) -> bool
-    requires { ⌜ (t < 48) × (i < 16) × (length (now plan) ≡ 7680) × (length (now forced) ≡ 817) ⌝ }
+    requires { ⌜ (t < 48) × (i < 16) × (length (now plan) ≡ 7680) × (length (now forced) ≡ 817) × Rising (now forced) t ⌝ }
     ensures { λ x. ⌜ x ≡ apartAt r (now (plan .entry)) (now (forced .entry)) t i ⌝ }
 {
-    let mut e = 0;
-    while e < t {
-        if !far_back(r, plan, forced, t, i, e) {
+    let start = number(forced, t);
+    let mut k = t;
+    while 0 < k {
+        let e = k - 1;
+        if r.least <= less(start, number(forced, e)) {
+            return true;
+        }
+        if changes(r, plan, e, i) == 1 {
             return false;
         }
-        e += 1;
+        k = e;
     }
     true
 }
 
 // Rules 3 and 4.
 fn rest_kept(changed: u64, r: Rest, plan: &[u32], forced: &[u32], t: usize, i: usize) -> bool
-    requires { ⌜ (t < 48) × (i < 16) × (length (now plan) ≡ 7680) × (length (now forced) ≡ 817) ⌝ }
+    requires { ⌜ (t < 48) × (i < 16) × (length (now plan) ≡ 7680) × (length (now forced) ≡ 817) × Rising (now forced) t ⌝ }
     ensures { λ x. ⌜ x ≡ implies (eqb changed 1) (apartAt r (now (plan .entry)) (now (forced .entry)) t i) ⌝ }
 {
     if changed == 1 {

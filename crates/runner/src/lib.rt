@@ -192,14 +192,13 @@ fn print_written(c: CaseRecord, v: Verdict, result: &[u8])
 }
 
 // Judges the plan of a frame and prints its line.
-fn run_plan(c: CaseRecord, table: &[u32], frame: &[u8], index: u64, detail: bool)
+fn run_plan(c: CaseRecord, table: &[u32], frame: &[u8], result: &mut [u8], index: u64, detail: bool)
     requires { ⌜ Decoded c (now table) ⌝ }
 {
-    let mut result = result_buffer();
-    let v = plan_unit::judge_plan(c, table, bits::message_at(frame, 0, 65536), &mut result);
+    let v = plan_unit::judge_plan(c, table, bits::message_at(frame, 0, 65536), result);
     print_verdict(index, v);
     if detail {
-        print_written(c, v, &result);
+        print_written(c, v, result);
     }
 }
 
@@ -214,6 +213,7 @@ fn next_plan(
     c: CaseRecord,
     table: &[u32],
     frame: &mut [u8],
+    result: &mut [u8],
     left: u64,
     index: u64,
     detail: bool,
@@ -231,7 +231,7 @@ fn next_plan(
             Next { more: false, rest }
         }
         Framed::Message(_, _) => {
-            run_plan(c, table, part, index, detail);
+            run_plan(c, table, part, result, index, detail);
             Next { more: true, rest }
         }
     }
@@ -242,10 +242,11 @@ fn run_plans(c: CaseRecord, table: &[u32], frame: &mut [u8], left: u64, detail: 
     requires { ⌜ Decoded c (now table) × (length (now frame) ≡ 65539) ⌝ }
     ensures { λ r. ⌜ r ≤ left ⌝ }
 {
+    let mut result = result_buffer();
     let mut rest = left;
     let mut index: u64 = 1;
     while 0 < rest {
-        let next = next_plan(c, table, frame, rest, index, detail);
+        let next = next_plan(c, table, frame, &mut result, rest, index, detail);
         if !next.more {
             return next.rest;
         }

@@ -38,10 +38,10 @@ stopped-requires : tie.Need-stopped-requires
 stopped-requires c κs = let h : _ = c .before .before .before .before .before .before .pre in (h .interval, h .device, h .planLong)
 
 rest-kept-requires : tie.Need-rest-kept-requires
-rest-kept-requires c κs = let h : _ = c .before .before .before .before .before .before .before .pre in (h .interval, h .device, h .planLong, h .forcedLong)
+rest-kept-requires c κs = let h : _ = c .before .before .before .before .before .before .before .pre in (h .interval, h .device, h .planLong, h .forcedLong, h .rising)
 
 rest-kept-requires-2 : tie.Need-rest-kept-requires-2
-rest-kept-requires-2 c κs = let h : _ = c .before .before .before .before .before .before .before .before .pre in (h .interval, h .device, h .planLong, h .forcedLong)
+rest-kept-requires-2 c κs = let h : _ = c .before .before .before .before .before .before .before .before .pre in (h .interval, h .device, h .planLong, h .forcedLong, h .rising)
 
 number-requires : tie.Need-number-requires
 number-requires c κs = search needs

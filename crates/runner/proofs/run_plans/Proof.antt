@@ -7,13 +7,19 @@ use Rattle.runner.proofs.run_plans.Statement.{statement}
 use Rattle.runner.proofs.run_plans.Tie as tie
 
 abbrev Inv-loop : tie.InvT-loop
-Inv-loop c table frame₀ left detail rest₀ index₀ frame rest index = (rest ≤ left) × (length frame ≡ 65539)
+Inv-loop c table frame₀ left detail result₀ rest₀ index₀ frame result rest index = (rest ≤ left) × (length frame ≡ 65539) × (length result ≡ 12288)
 
 abbrev μ-loop : tie.MeasureT-loop
-μ-loop c table frame₀ left detail rest₀ index₀ frame rest index = rest
+μ-loop c table frame₀ left detail result₀ rest₀ index₀ frame result rest index = rest
+
+result-buffer-requires : tie.Need-result-buffer-requires Inv-loop μ-loop
+result-buffer-requires c κs = search needs
 
 loop-holds : tie.Need-loop-holds Inv-loop μ-loop
 loop-holds c = search needs
+
+slice-aggregate-next-plan : tie.Need-slice-aggregate-next-plan Inv-loop μ-loop
+slice-aggregate-next-plan c = search needs
 
 next-plan-requires : tie.Need-next-plan-requires Inv-loop μ-loop
 next-plan-requires c κs = search needs
@@ -46,4 +52,4 @@ returns-3 : tie.Need-returns-3 Inv-loop μ-loop
 returns-3 c = search needs
 
 pub run-plans-spec : {M : Type 1} → statement M
-run-plans-spec = tie.close (tie.spec Inv-loop μ-loop loop-holds next-plan-requires same-length returns same-length-2 returns-2 wrapping-add-u64-requires loop-less loop-again same-length-3 returns-3)
+run-plans-spec = tie.close (tie.spec Inv-loop μ-loop result-buffer-requires loop-holds slice-aggregate-next-plan next-plan-requires same-length returns same-length-2 returns-2 wrapping-add-u64-requires loop-less loop-again same-length-3 returns-3)
