@@ -15,6 +15,7 @@ use Rattle.model.specs.Messages.{any, six, deviceChoice}
 use Rattle.model.specs.Ours.{ours}
 use Rattle.model.specs.Views.{caseIn, planIn, recordAt, noZoneRecord}
 use Rattle.model.specs.declared.CaseRecord.{CaseRecord}
+use Rattle.model.specs.declared.ZoneRecord.{ZoneRecord}
 use Rattle.writing.specs.Puts.{Puts, choiceIn, sixIn}
 use Rattle.writing.specs.Runs.{run, puts-as}
 use Rattle.writing.specs.Size.{deviceWidth, zoneWidth, mismatchWidth, overrunWidth}
@@ -24,7 +25,7 @@ use Rattle.dispatch.specs.declared.Choice.{Choice}
 use Rattle.needs.specs.declared.Fleet.{Fleet}
 use Rattle.needs.specs.Fleets.{FleetOf}
 use Rattle.needs.specs.Sides.{sidesTo, mismatchOf, mismatch-is}
-use Rattle.needs.specs.Zones.{sumsTo, zoneNeeds, shortfalls-are}
+use Rattle.needs.specs.Zones.{sumsTo, zoneNeeds, Thousandths, shares-small, shortfalls-are}
 use Rattle.needs.specs.Energies.{windowIn, windowsIn, energyTo, overOf, overrun-is}
 use Rattle.surplus.specs.Ruled.{Ruled}
 use Rattle.surplus.specs.Terms.{cellBalance, CellEntered}
@@ -56,21 +57,24 @@ module _ (c : CaseRecord) (table plan forced : List ℕ) (u : Unbroken c table p
 
     -- ---- a zone
     module _ (f : Fleet) (o : FleetOf c f) where
-      module _ (z : ℕ) (m : z < c .nzones) {x : List ℕ}
-          (e : x ≡ zoneNeeds (getD (c .zones) z noZoneRecord .shares) (sumsTo f plan forced t z (c .ndevices)) (getD table (48 + z * 96 + t * 2) 0) (getD table (48 + z * 96 + t * 2 + 1) 0)) where
-        amounts-are : x ≡ map (λ k. maxZero (shortfallNeed (C .system) P t z k)) shortfalls
-        amounts-are = e ∙ shortfalls-are c table plan forced t z (u .ready) l m f o
+      module _ (z : ℕ) (m : z < c .nzones) (r : ZoneRecord) (is : getD (c .zones) z noZoneRecord ≡ r) where
+        pub shares-fit : Thousandths (r .shares)
+        shares-fit = rw is at (shares-small c table plan forced t z (u .ready) l m)
 
-        pub zone-of : ZoneOf (getD (c .zones) z noZoneRecord) table plan forced t z x
-        zone-of = record { case = c; ready = u .ready; rules = u .rules; interval = l; known = m; is = refl; amounts = amounts-are }
+        module _ {x : List ℕ} (e : x ≡ zoneNeeds (r .shares) (sumsTo f plan forced t z (c .ndevices)) (getD table (48 + z * 96 + t * 2) 0) (getD table (48 + z * 96 + t * 2 + 1) 0)) where
+          amounts-are : x ≡ map (λ k. maxZero (shortfallNeed (C .system) P t z k)) shortfalls
+          amounts-are = rw (← is) at e ∙ shortfalls-are c table plan forced t z (u .ready) l m f o
 
-        pub shortfalls-fit : FitsSix (sixIn x)
-        shortfalls-fit = six-fits c table plan forced u t l z m amounts-are
+          pub zone-of : ZoneOf r table plan forced t z x
+          zone-of = record { case = c; ready = u .ready; rules = u .rules; interval = l; known = m; is = is; amounts = amounts-are }
 
-        pub zone-settled : {a b : List ℕ} {at n : ℕ} {v w : Ledger} → Puts zoneWidth (six (any 33) .write (sixIn x)) a b at n → ZoneEntered (getD (c .zones) z noZoneRecord) table plan forced t z x v w
-            → Settles zoneWidth (zoneBits (oursIn c table plan) t z) a b (zoneBalance c table plan t z) 1382400000000000 (record { money = v; at = at }) (record { money = w; at = n })
-        unfolding zone-of
-        zone-settled p g = record { puts = puts-as (ap (six (any 33) .write) (six-is c table plan forced u t l z m amounts-are)) refl p; entered = g .is zone-of }
+          pub shortfalls-fit : FitsSix (sixIn x)
+          shortfalls-fit = six-fits c table plan forced u t l z m amounts-are
+
+          pub zone-settled : {a b : List ℕ} {at n : ℕ} {v w : Ledger} → Puts zoneWidth (six (any 33) .write (sixIn x)) a b at n → ZoneEntered r table plan forced t z x v w
+              → Settles zoneWidth (zoneBits (oursIn c table plan) t z) a b (zoneBalance c table plan t z) 1382400000000000 (record { money = v; at = at }) (record { money = w; at = n })
+          unfolding zone-of
+          zone-settled p g = record { puts = puts-as (ap (six (any 33) .write) (six-is c table plan forced u t l z m amounts-are)) refl p; entered = g .is zone-of }
 
       -- ---- the mismatch, and with it the interval
       module _ {y : ℕ} (e : y ≡ mismatchOf (sidesTo (f .sides) forced t (c .ndevices))) where

@@ -1,5 +1,6 @@
 // The completion of a plan that breaks no rule: each figure is computed once, its money entered in a ledger and its bits written behind those before it.
 use model::CaseRecord;
+use model::ZoneRecord;
 use needs::Fleet;
 use numbers::Grains;
 use numbers::Ledger;
@@ -51,9 +52,10 @@ fn settle_devices(
     Progress { money, at: next }
 }
 
-// The zones of one interval.
+// The zones of one interval; they come beside the case's record, of which only the counts are then read.
 fn settle_zones(
     c: CaseRecord,
+    zones: [ZoneRecord; 4],
     f: Fleet,
     table: &[u32],
     plan: &[u32],
@@ -62,7 +64,7 @@ fn settle_zones(
     buf: &mut [u8],
     p: Progress,
 ) -> Progress
-    requires { ⌜ Unbroken c (now table) (now plan) (now forced) × FleetOf c f × (t < c .nintervals) ⌝ }
+    requires { ⌜ Unbroken c (now table) (now plan) (now forced) × FleetOf c f × (t < c .nintervals) × (zones ≡ c .zones) ⌝ }
     requires { ⌜ Room (now buf) (p .at) (c .nzones * zoneWidth) × Spare 5529600000000000 (p .money) ⌝ }
     ensures { λ r. ⌜ ZonesSettled c (now (table .entry)) (now (plan .entry)) t (c .nzones) (now (buf .entry)) (now (buf .exit)) p r ⌝ }
 {
@@ -70,7 +72,7 @@ fn settle_zones(
     let mut next = p.at;
     let mut z: usize = 0;
     while z < c.nzones {
-        let zone = c.zones[z];
+        let zone = zones[z];
         let shares = zone.shares;
         let six = needs::shortfalls(f, c.ndevices, shares, table, plan, forced, t, z);
         money = surplus::zone_money(money, six, zone, table, plan, forced, t, z);
@@ -96,7 +98,8 @@ fn settle_interval(
     ensures { λ r. ⌜ IntervalSettled c (now (table .entry)) (now (plan .entry)) t (now (buf .entry)) (now (buf .exit)) p r ⌝ }
 {
     let a = settle_devices(c, table, plan, forced, t, buf, p);
-    let b = settle_zones(c, f, table, plan, forced, t, buf, a);
+    let zones = c.zones;
+    let b = settle_zones(c, zones, f, table, plan, forced, t, buf, a);
     let sides = f.sides;
     let m = needs::mismatch(sides, c.ndevices, forced, t);
     let paid = b.money;
