@@ -27,6 +27,7 @@
 pub mod arguments;
 pub mod batch;
 pub mod bits;
+pub mod busiest;
 pub mod case;
 pub mod census;
 pub mod clock;
