@@ -4,37 +4,39 @@
 use crate::batch::join;
 use crate::case::{
     Block, Case, Device, EnergyKind, EnergyWindow, Reserves, Side, StartWindow, StartupState,
-    Status, Terms, Zone, MOST_DEVICES, MOST_INTERVALS, MOST_ITEMS, MOST_ZONES,
+    Status, Terms, Zone, MOST_ITEMS, MOST_ZONES,
 };
 use crate::encode::{encode_case, encode_plan};
 use crate::plan::{Plan, Setting};
 
 const MINUTES: i128 = 30;
-const DAY: i128 = MINUTES * MOST_INTERVALS as i128;
 
-/// The case, then the plan so many times.
-pub fn busiest_batch(times: usize) -> Vec<u8> {
-    let mut messages = vec![encode_case(&case()).bytes];
-    messages.resize(1 + times, encode_plan(&plan()).bytes);
+/// The case, then the plan so many times; with fewer devices or intervals, for growth.
+pub fn busiest_batch(times: usize, devices: usize, intervals: usize) -> Vec<u8> {
+    let mut messages = vec![encode_case(&case(devices, intervals)).bytes];
+    messages.resize(1 + times, encode_plan(&plan(devices, intervals)).bytes);
     join(&messages)
 }
 
-fn case() -> Case {
+fn case(devices: usize, intervals: usize) -> Case {
     let zone = Zone {
         shares: [100; 4],
         shortfall_prices: [1; 6],
-        ramping_minima: vec![[10, 10]; MOST_INTERVALS],
+        ramping_minima: vec![[10, 10]; intervals],
     };
     Case {
         mismatch_price: 10,
         overrun_price: 1,
-        durations: vec![MINUTES; MOST_INTERVALS],
+        durations: vec![MINUTES; intervals],
         zones: vec![zone; MOST_ZONES],
-        devices: (0..MOST_DEVICES).map(device).collect(),
+        devices: (0..devices)
+            .map(|number| device(number, intervals))
+            .collect(),
     }
 }
 
-fn device(number: usize) -> Device {
+fn device(number: usize, intervals: usize) -> Device {
+    let day = MINUTES * intervals as i128;
     let side = [Side::Producing, Side::Consuming][number % 2];
     let terms = Terms {
         status: Status::Free,
@@ -51,13 +53,13 @@ fn device(number: usize) -> Device {
     };
     let starts = StartWindow {
         start: 0,
-        end: DAY,
-        most_starts: MOST_INTERVALS as i128,
+        end: day,
+        most_starts: intervals as i128,
     };
     let energy = EnergyWindow {
         kind: EnergyKind::Maximum,
         start: 0,
-        end: DAY,
+        end: day,
         energy: 0,
     };
     Device {
@@ -66,12 +68,12 @@ fn device(number: usize) -> Device {
         startup_states: vec![state; MOST_ITEMS],
         start_windows: vec![starts; MOST_ITEMS],
         energy_windows: vec![energy; MOST_ITEMS],
-        ..Device::plain(side, vec![terms; MOST_INTERVALS])
+        ..Device::plain(side, vec![terms; intervals])
     }
 }
 
 /// Off in the first interval, on in the second, and so on; up and down reserves while on.
-fn plan() -> Plan {
+fn plan(devices: usize, intervals: usize) -> Plan {
     let setting = |interval: usize| Setting {
         on: interval % 2 == 1,
         online_power: if interval % 2 == 1 { 50 } else { 0 },
@@ -81,8 +83,8 @@ fn plan() -> Plan {
         },
     };
     Plan {
-        intervals: (0..MOST_INTERVALS)
-            .map(|interval| vec![setting(interval); MOST_DEVICES])
+        intervals: (0..intervals)
+            .map(|interval| vec![setting(interval); devices])
             .collect(),
     }
 }

@@ -5,7 +5,7 @@ use reference::busiest::busiest_batch;
 
 #[test]
 fn busiest_day_is_accepted() {
-    let lines = run(&busiest_batch(2));
+    let lines = run(&busiest_batch(2, 16, 48));
     assert!(matches!(
         lines[0],
         Line::Case {

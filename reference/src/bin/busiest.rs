@@ -1,12 +1,14 @@
-//! Writes the busiest day as a batch: `busiest TIMES FILE`, the case and its plan so many times.
+//! Writes the busiest day as a batch, the case and its plan so many times:
+//! `busiest TIMES FILE [--devices N] [--intervals N]`.
 
 use std::fs;
 use std::process::ExitCode;
 
 use reference::arguments::{exit_code, Arguments};
 use reference::busiest::busiest_batch;
+use reference::case::{MOST_DEVICES, MOST_INTERVALS};
 
-const USAGE: &str = "usage: busiest TIMES FILE";
+const USAGE: &str = "usage: busiest TIMES FILE [--devices N] [--intervals N]";
 
 fn main() -> ExitCode {
     exit_code(perform())
@@ -15,10 +17,15 @@ fn main() -> ExitCode {
 fn perform() -> Result<(), String> {
     let mut arguments = Arguments::of_program();
     let (times, file) = (arguments.word(), arguments.word());
+    let devices = arguments.number("--devices");
+    let intervals = arguments.number("--intervals");
     arguments
         .finish()
         .map_err(|complaint| format!("{complaint}\n{USAGE}"))?;
     let times = times.and_then(|word| word.parse().ok()).ok_or(USAGE)?;
     let file = file.ok_or(USAGE)?;
-    fs::write(&file, busiest_batch(times)).map_err(|error| format!("{file}: {error}"))
+    let devices = devices.map_or(MOST_DEVICES, |count| count as usize);
+    let intervals = intervals.map_or(MOST_INTERVALS, |count| count as usize);
+    fs::write(&file, busiest_batch(times, devices, intervals))
+        .map_err(|error| format!("{file}: {error}"))
 }
