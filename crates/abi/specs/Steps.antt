@@ -5,9 +5,9 @@ use Prim.Native.Nat.{ℕ, _≤_, _<_}
 use native.Mathlib.Omega.{arith}
 use lib.ListN.{length, drop, set, length-set}
 use lib.IntN.{ℤ}
-use Rattle.bits.specs.Faults.{numberOf, returnedBy}
+use Rattle.layouts.specs.Faults.{numberOf, returnedBy}
 use Rattle.bits.specs.Twos.{toTwos}
-use Rattle.bits.specs.declared.Fault.{Fault}
+use Rattle.layouts.specs.declared.Fault.{Fault}
 use Rattle.model.specs.declared.Subject.{Subject}
 use Rattle.model.specs.declared.Verdict.{Verdict}
 use Rattle.model.specs.declared.Verdict.the-variants.{Accepted, Refused}

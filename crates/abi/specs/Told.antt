@@ -3,7 +3,7 @@ use mathlib.Core.Path.{_≡_}
 use mathlib.Core.List.{List, [], _∷_, _++_}
 use Prim.Native.Nat.{ℕ, _≤_, _<_}
 use lib.ListN.{length, drop}
-use Rattle.bits.specs.Faults.{numberOf, returnedBy}
+use Rattle.layouts.specs.Faults.{numberOf, returnedBy}
 use Rattle.bits.specs.Twos.{toTwos}
 use Rattle.model.specs.declared.Subject.{Subject}
 use Rattle.model.specs.declared.Subject.the-variants as S

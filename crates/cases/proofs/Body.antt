@@ -5,13 +5,14 @@ use Prim.Native.Nat.{ℕ, _*_}
 use native.Mathlib.Omega.{arith}
 use lib.ListN.{length, getD, take}
 use Rattle.numbers.specs.Sum.{sumℕ}
-use Rattle.bits.specs.declared.Fault.{Fault}
+use Rattle.layouts.specs.declared.Fault.{Fault}
 use Rattle.model.specs.Case.{Case, Zone, Six, Device, DevicePrices}
-use Rattle.model.specs.declared.Place.{Place}
+use Rattle.layouts.specs.declared.Place.{Place}
 use Rattle.model.specs.declared.CaseRecord.{CaseRecord}
-use Rattle.model.specs.Layout.{Layout, list}
-use Rattle.model.specs.Messages.{edition1, figure, zone, device}
-use Rattle.model.specs.Views.{span, caseOf, caseIn, halvesIn, minimaIn, cellsIn}
+use Rattle.layouts.specs.Layout.{Layout, list}
+use Rattle.model.specs.Messages.{edition1, zone, device}
+use Rattle.layouts.specs.Layout.{figure}
+use Rattle.ranges.specs.Views.{span, caseOf, caseIn, halvesIn, minimaIn, cellsIn}
 use Rattle.fields.specs.declared.Went.{Went}
 use Rattle.fields.specs.declared.Went.the-variants as W
 use Rattle.fields.specs.Got.{good, bad, got, told, Natural, nat-natural, goes-on, goes-off, mapped, told-off, went-good, went-bad}

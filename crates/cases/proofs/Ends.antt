@@ -4,14 +4,14 @@ use mathlib.Core.List.{List}
 use Prim.Native.Nat.{ℕ}
 use native.Mathlib.Omega.{arith}
 use lib.ListN.{length}
-use Rattle.bits.specs.declared.Fault.{Fault}
-use Rattle.model.specs.declared.Place.{Place}
+use Rattle.layouts.specs.declared.Fault.{Fault}
+use Rattle.layouts.specs.declared.Place.{Place}
 use Rattle.model.specs.declared.CaseRecord.{CaseRecord}
-use Rattle.model.specs.Layout.{_then_, held, begin, tailFault}
+use Rattle.layouts.specs.Layout.{_then_, held, begin, tailFault}
 use Rattle.model.specs.Messages.{edition1, caseLayout, apart}
 use Rattle.model.specs.Judgement.{readCase}
-use Rattle.model.specs.Ranges.{case-range}
-use Rattle.model.specs.Views.{caseIn}
+use Rattle.ranges.specs.Ranges.{case-range}
+use Rattle.ranges.specs.Views.{caseIn}
 use Rattle.fields.specs.declared.Went.{Went}
 use Rattle.fields.specs.declared.Went.the-variants as W
 use Rattle.fields.specs.declared.Ending.{Ending}

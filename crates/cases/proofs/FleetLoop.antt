@@ -6,11 +6,11 @@ use native.Mathlib.Decide.{decLe}
 use native.Mathlib.Omega.{arith}
 use lib.ListN.{length, set}
 use lib.Seq.{getD-set-same, getD-set-other}
-use Rattle.bits.specs.declared.Fault.{Fault}
-use Rattle.model.specs.declared.Place.{Place}
+use Rattle.layouts.specs.declared.Fault.{Fault}
+use Rattle.layouts.specs.declared.Place.{Place}
 use Rattle.model.specs.declared.DeviceRecord.{DeviceRecord}
 use Rattle.model.specs.Messages.{edition1, device}
-use Rattle.model.specs.Views.{span, deviceOf, noDeviceRecord}
+use Rattle.ranges.specs.Views.{span, deviceOf, noDeviceRecord}
 use Rattle.fields.specs.declared.Went.{Went}
 use Rattle.fields.specs.declared.Went.the-variants as W
 use Rattle.fields.specs.Got.{told-off}

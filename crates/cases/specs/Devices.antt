@@ -4,11 +4,11 @@ use mathlib.Core.List.{List}
 use Prim.Native.Nat.{ℕ, _<_}
 use lib.ListN.{getD}
 use Rattle.model.specs.Case.{Device, DevicePrices}
-use Rattle.model.specs.declared.Place.{Place}
+use Rattle.layouts.specs.declared.Place.{Place}
 use Rattle.model.specs.declared.DeviceRecord.{DeviceRecord}
-use Rattle.model.specs.Layout.{list}
+use Rattle.layouts.specs.Layout.{list}
 use Rattle.model.specs.Messages.{edition1, device}
-use Rattle.model.specs.Views.{rows, deviceOf, devicePart, noDeviceRecord, cellRow, Padded}
+use Rattle.ranges.specs.Views.{rows, deviceOf, devicePart, noDeviceRecord, cellRow, Padded}
 use Rattle.fields.specs.declared.Went.{Went}
 use Rattle.fields.specs.declared.Went.the-variants.{On}
 use Rattle.fields.specs.Got.{got, told}

@@ -5,12 +5,13 @@ use Prim.Native.Nat.{ℕ, _*_, _≤_, _<_}
 use lib.ListN.{getD}
 use Rattle.numbers.specs.Sum.{sumℕ}
 use Rattle.model.specs.Case.{Zone, Six, Device, DevicePrices, Case}
-use Rattle.model.specs.declared.Place.{Place}
+use Rattle.layouts.specs.declared.Place.{Place}
 use Rattle.model.specs.declared.CaseRecord.{CaseRecord}
-use Rattle.model.specs.Layout.{list, begin}
-use Rattle.model.specs.Messages.{Counts, edition1, figure, zone, device, caseLayout}
+use Rattle.layouts.specs.Layout.{list, begin}
+use Rattle.model.specs.Messages.{Counts, edition1, zone, device, caseLayout}
+use Rattle.layouts.specs.Layout.{figure}
 use Rattle.model.specs.Judgement.{readCase}
-use Rattle.model.specs.Views.{caseIn, cellsIn, recordAt, Decoded}
+use Rattle.ranges.specs.Views.{caseIn, cellsIn, recordAt, Decoded}
 use Rattle.fields.specs.declared.Went.{Went}
 use Rattle.fields.specs.declared.Went.the-variants.{On}
 use Rattle.fields.specs.declared.Ending.{Ending}

@@ -1,7 +1,7 @@
 // The devices of a case: records by value, and their cells in the table.
 use fields::Went;
+use layouts::Place;
 use model::DeviceRecord;
-use model::Place;
 ghost use Prim.Native.Nat.{_≤_};
 ghost use mathlib.Core.Path.{_≡_};
 ghost use lib.ListN.{length};

@@ -5,11 +5,12 @@ use Prim.Native.Nat.{ℕ, zero, suc, _+_, _≤_, _<_}
 use native.Mathlib.Omega.{arith}
 use lib.ListN.{length, getD, set, length-set}
 use lib.Seq.{getD-set-same, getD-set-other}
-use Rattle.bits.specs.declared.Fault.{Fault}
-use Rattle.model.specs.declared.Place.{Place}
-use Rattle.model.specs.Layout.{nat, int}
-use Rattle.model.specs.Messages.{countOf, kW}
-use Rattle.model.specs.Views.{rows, less}
+use Rattle.layouts.specs.declared.Fault.{Fault}
+use Rattle.layouts.specs.declared.Place.{Place}
+use Rattle.layouts.specs.Layout.{nat, int}
+use Rattle.model.specs.Messages.{kW}
+use Rattle.layouts.specs.Layout.{countOf}
+use Rattle.ranges.specs.Views.{rows, less}
 use Rattle.fields.specs.declared.Figure.{Figure}
 use Rattle.fields.specs.declared.Figure.the-variants as F
 use Rattle.fields.specs.declared.Went.{Went}

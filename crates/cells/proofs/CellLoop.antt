@@ -5,10 +5,10 @@ use Prim.Native.Nat.{ℕ, suc, _+_, _*_, _≤_, _<_}
 use native.Mathlib.Omega.{arith}
 use native.Mathlib.Decide.{decLe}
 use lib.ListN.{length}
-use Rattle.bits.specs.declared.Fault.{Fault}
-use Rattle.model.specs.declared.Place.{Place}
+use Rattle.layouts.specs.declared.Fault.{Fault}
+use Rattle.layouts.specs.declared.Place.{Place}
 use Rattle.model.specs.Messages.{cell}
-use Rattle.model.specs.Views.{rows, span, cellIn, cellAt, cellRow, Padded}
+use Rattle.ranges.specs.Views.{rows, span, cellIn, cellAt, cellRow, Padded}
 use Rattle.fields.specs.declared.Went.{Went}
 use Rattle.fields.specs.declared.Went.the-variants as W
 use Rattle.fields.specs.Got.{told-off, went-good, went-bad}

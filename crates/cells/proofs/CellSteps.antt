@@ -8,12 +8,13 @@ use borrow.Author.Tests.{le-leb, lt-leb}
 use lib.Dec.{leb}
 use lib.IntN.{ℤ}
 use lib.ListN.{length, take, getD, set}
-use Rattle.bits.specs.declared.Fault.{Fault}
+use Rattle.layouts.specs.declared.Fault.{Fault}
 use Rattle.model.specs.Case as C
-use Rattle.model.specs.declared.Place.{Place}
-use Rattle.model.specs.Layout.{list, _then_, held, noted}
-use Rattle.model.specs.Messages.{figure, kW, eight, apart, cell}
-use Rattle.model.specs.Views.{reservesOf, span, blockIn, cellIn, Padded}
+use Rattle.layouts.specs.declared.Place.{Place}
+use Rattle.layouts.specs.Layout.{list, _then_, held, noted}
+use Rattle.model.specs.Messages.{kW, eight, apart, cell}
+use Rattle.layouts.specs.Layout.{figure}
+use Rattle.ranges.specs.Views.{reservesOf, span, blockIn, cellIn, Padded}
 use Rattle.fields.specs.declared.Figure.{Figure}
 use Rattle.fields.specs.declared.Figure.the-variants as F
 use Rattle.fields.specs.declared.Went.{Went}

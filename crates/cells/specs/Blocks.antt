@@ -4,10 +4,11 @@ use mathlib.Core.List.{List}
 use Prim.Native.Nat.{ℕ, _+_, _≤_, _<_}
 use lib.ListN.{getD}
 use lib.IntN.{ℤ}
-use Rattle.model.specs.declared.Place.{Place}
-use Rattle.model.specs.Layout.{Layout, int, _▸_, counted}
-use Rattle.model.specs.Messages.{kW, countOf}
-use Rattle.model.specs.Views.{rows, less}
+use Rattle.layouts.specs.declared.Place.{Place}
+use Rattle.layouts.specs.Layout.{Layout, int, _▸_, counted}
+use Rattle.model.specs.Messages.{kW}
+use Rattle.layouts.specs.Layout.{countOf}
+use Rattle.ranges.specs.Views.{rows, less}
 use Rattle.fields.specs.declared.Went.{Went}
 use Rattle.fields.specs.declared.Went.the-variants.{On}
 use Rattle.fields.specs.Got.{got, told}

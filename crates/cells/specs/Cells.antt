@@ -4,10 +4,11 @@ use mathlib.Core.List.{List}
 use Prim.Native.Nat.{ℕ, _<_}
 use lib.Dec.{leb}
 use lib.ListN.{getD}
-use Rattle.model.specs.declared.Place.{Place}
-use Rattle.model.specs.Layout.{Layout, _then_, _▸_, such, list}
-use Rattle.model.specs.Messages.{figure, kW, cell}
-use Rattle.model.specs.Views.{rows, cellIn, cellAt, cellRow, Padded}
+use Rattle.layouts.specs.declared.Place.{Place}
+use Rattle.layouts.specs.Layout.{Layout, _then_, _▸_, such, list}
+use Rattle.model.specs.Messages.{kW, cell}
+use Rattle.layouts.specs.Layout.{figure}
+use Rattle.ranges.specs.Views.{rows, cellIn, cellAt, cellRow, Padded}
 use Rattle.fields.specs.declared.Went.{Went}
 use Rattle.fields.specs.declared.Went.the-variants.{On}
 use Rattle.fields.specs.Got.{got, told}

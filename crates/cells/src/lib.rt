@@ -1,7 +1,7 @@
 // A device's cells, read into its part of the case's table: rows of 20, one an interval.
 use fields::Figure;
 use fields::Went;
-use model::Place;
+use layouts::Place;
 ghost use mathlib.Core.Path.{_≡_};
 ghost use Prim.Native.Nat.{_*_, _≤_, _<_};
 ghost use lib.ListN.{length};

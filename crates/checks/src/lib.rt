@@ -6,7 +6,7 @@ ghost use lib.Dec.{leb, eqb, ltb};
 ghost use lib.IntN.{pos, _-ℤ_};
 ghost use lib.Signed.{leZ};
 ghost use Rattle.bits.specs.Pick.{pick};
-ghost use Rattle.model.specs.Base.{implies};
+ghost use Rattle.numbers.specs.Base.{implies};
 ghost use Rattle.checks.specs.First.{breachAt, firstIn, firstNumber};
 ghost use Rattle.checks.specs.Sign.{mayRise, mayFall};
 ghost use Rattle.checks.specs.Tests.{limit, Sized, Small, powerTests, offTests, onTests, rampTests, tests};

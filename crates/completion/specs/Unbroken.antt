@@ -14,17 +14,18 @@ use Rattle.model.specs.Forced.{intervals, devices, zones, device}
 use Rattle.model.specs.Rules.{EveryRule}
 use Rattle.model.specs.Completion.{Completion, shortfalls, shortfallNeed, mismatchNeed, overrunNeed, rgu, rgd, scr, nsc, rru, rrd}
 use Rattle.model.specs.Ours.{ours}
-use Rattle.model.specs.Ranges.{SystemRange, PlanRange, SettingRange}
-use Rattle.model.specs.Back.{FitsSix, FitsDevice}
-use Rattle.model.specs.Sizes.{shortfall-bound, mismatch-bound, overrun-bound, device-fits, over-devices, device-at}
-use Rattle.model.specs.Base.{range, upTo}
-use Rattle.tables.specs.Sums.{sum-last}
-use Rattle.model.specs.Layout.{bytes, int}
-use Rattle.model.specs.Tests.{all-upTo}
-use Rattle.model.specs.Messages.{any, counts, edition1}
+use Rattle.ranges.specs.Ranges.{SystemRange, PlanRange, SettingRange}
+use Rattle.theorems.specs.Back.{FitsSix, FitsDevice}
+use Rattle.theorems.specs.Sizes.{shortfall-bound, mismatch-bound, overrun-bound, device-fits, over-devices, device-at}
+use Rattle.numbers.specs.Base.{range, upTo}
+use Rattle.numbers.specs.Ranges.{sum-last}
+use Rattle.layouts.specs.Layout.{bytes, int}
+use Rattle.numbers.specs.Every.{all-upTo}
+use Rattle.model.specs.Messages.{counts, edition1}
+use Rattle.layouts.specs.Layout.{any}
 use Rattle.model.specs.Judgement.{written, completionOf, countsOf, energyWindows}
-use Rattle.model.specs.Views.{energyIn, deviceOf, recordAt, rows, planOf, caseIn, planIn, Ready}
-use Rattle.model.specs.Viewed.{rows-long}
+use Rattle.ranges.specs.Views.{energyIn, deviceOf, recordAt, rows, planOf, caseIn, planIn, Ready}
+use Rattle.ranges.specs.Viewed.{rows-long}
 use Rattle.model.specs.declared.CaseRecord.{CaseRecord}
 use Rattle.writing.specs.Puts.{Puts, Room, sixIn, choiceIn, countsIn}
 use Rattle.writing.specs.Runs.{run, run-none, puts-as, fits-more}

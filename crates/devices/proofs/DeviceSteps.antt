@@ -5,13 +5,14 @@ use Prim.Native.Nat.{ℕ}
 use native.Mathlib.Omega.{arith}
 use lib.IntN.{ℤ}
 use lib.ListN.{take}
-use Rattle.bits.specs.declared.Fault.{Fault}
+use Rattle.layouts.specs.declared.Fault.{Fault}
 use Rattle.model.specs.Case as C
-use Rattle.model.specs.declared.Place.{Place}
+use Rattle.layouts.specs.declared.Place.{Place}
 use Rattle.model.specs.declared.DeviceRecord.{DeviceRecord}
-use Rattle.model.specs.Layout.{Layout, list, counted, _then_, held}
-use Rattle.model.specs.Messages.{Head, Costs, edition1, countOf, startWindow, energyWindow, cell, device, apart}
-use Rattle.model.specs.Views.{rows, cellAt, stateIn, startIn, energyIn, deviceOf}
+use Rattle.layouts.specs.Layout.{Layout, list, counted, _then_, held}
+use Rattle.model.specs.Messages.{Head, Costs, edition1, startWindow, energyWindow, cell, device, apart}
+use Rattle.layouts.specs.Layout.{countOf}
+use Rattle.ranges.specs.Views.{rows, cellAt, stateIn, startIn, energyIn, deviceOf}
 use Rattle.fields.specs.declared.Went.{Went}
 use Rattle.fields.specs.declared.Went.the-variants as W
 use Rattle.fields.specs.Got.{good, bad, got, told, Natural, nat-natural, then-natural, held-natural, goes-on, goes-off, mapped, told-off, went-good, went-bad}

@@ -5,12 +5,13 @@ use Prim.Native.Nat.{ℕ, _-_, _%_, _^_}
 use native.Mathlib.Omega.{arith}
 use lib.Dec.{eqb}
 use lib.ListN.{length, getD, take, set, length-set}
-use Rattle.bits.specs.declared.Fault.{Fault}
+use Rattle.layouts.specs.declared.Fault.{Fault}
 use Rattle.model.specs.Case.{Reserves}
-use Rattle.model.specs.declared.Place.{Place}
-use Rattle.model.specs.Layout.{_then_, held, noted}
-use Rattle.model.specs.Messages.{Head, Costs, head, costs, eight, ramps, any, zoneBits}
-use Rattle.model.specs.Views.{span}
+use Rattle.layouts.specs.declared.Place.{Place}
+use Rattle.layouts.specs.Layout.{_then_, held, noted}
+use Rattle.model.specs.Messages.{Head, Costs, head, costs, eight, ramps, zoneBits}
+use Rattle.layouts.specs.Layout.{any}
+use Rattle.ranges.specs.Views.{span}
 use Rattle.fields.specs.declared.Figure.{Figure}
 use Rattle.fields.specs.declared.Figure.the-variants as F
 use Rattle.fields.specs.declared.Went.{Went}

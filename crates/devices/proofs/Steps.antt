@@ -8,12 +8,12 @@ use lib.Pow.{shl-exact}
 use native.Mathlib.Omega.{arith}
 use borrow.Author.Tests.{eq-eqb, ne-eqb}
 use lib.Dec.{eqb}
-use Rattle.bits.specs.declared.Fault.{Fault}
-use Rattle.model.specs.declared.Place.{Place}
+use Rattle.layouts.specs.declared.Fault.{Fault}
+use Rattle.layouts.specs.declared.Place.{Place}
 use Rattle.model.specs.declared.State.{State}
-use Rattle.model.specs.Layout.{int, noted}
+use Rattle.layouts.specs.Layout.{int, noted}
 use Rattle.model.specs.Messages.{minutes}
-use Rattle.model.specs.Views.{less, stateIn}
+use Rattle.ranges.specs.Views.{less, stateIn}
 use Rattle.fields.specs.declared.Figure.{Figure}
 use Rattle.fields.specs.declared.Figure.the-variants as F
 use Rattle.fields.specs.declared.Went.{Went}

@@ -4,11 +4,11 @@ use mathlib.Core.List.{List, [], _∷_}
 use Prim.Native.Nat.{ℕ, _≤_, _<_}
 use lib.ListN.{getD}
 use Rattle.model.specs.Case.{Reserves}
-use Rattle.model.specs.Layout.{Layout, _▸_}
+use Rattle.layouts.specs.Layout.{Layout, _▸_}
 use Rattle.model.specs.Messages.{Head, Costs, edition1, head, costs, eight, kW, device}
-use Rattle.model.specs.declared.Place.{Place}
+use Rattle.layouts.specs.declared.Place.{Place}
 use Rattle.model.specs.declared.DeviceRecord.{DeviceRecord}
-use Rattle.model.specs.Views.{reservesOf, deviceOf, cellRow, Padded}
+use Rattle.ranges.specs.Views.{reservesOf, deviceOf, cellRow, Padded}
 use Rattle.fields.specs.declared.Went.{Went}
 use Rattle.fields.specs.declared.Went.the-variants.{On}
 use Rattle.fields.specs.Got.{got, told}

@@ -1,7 +1,7 @@
 -- A startup state: its longest downtime and its cost.
 use Prim.Native.Nat.{ℕ}
 use lib.IntN.{ℤ}
-use Rattle.model.specs.Layout.{Layout, int, _▸_}
+use Rattle.layouts.specs.Layout.{Layout, int, _▸_}
 use Rattle.model.specs.Messages.{minutes}
 
 abbrev pub state : Layout (ℕ × ℤ)

@@ -1,9 +1,9 @@
 // What a case says of one device: a record by value, and its cells in its part of the table.
 use fields::Figure;
 use fields::Went;
+use layouts::Place;
 use model::DeviceRecord;
 use model::EnergyWindow;
-use model::Place;
 use model::StartWindow;
 use model::State;
 use windows::EnergiesRead;
@@ -13,8 +13,8 @@ ghost use Prim.Native.Nat.{_-_, _%_, _^_, _≤_};
 ghost use lib.Dec.{eqb};
 ghost use lib.ListN.{length};
 ghost use Rattle.devices.specs.Device.{front, headOf, deviceFrom, DeviceDone};
-ghost use Rattle.model.specs.Layout.{noted};
-ghost use Rattle.model.specs.Views.{stateIn};
+ghost use Rattle.layouts.specs.Layout.{noted};
+ghost use Rattle.ranges.specs.Views.{stateIn};
 ghost use Rattle.fields.specs.Got.{got, told};
 ghost use Rattle.windows.specs.Counted.{Counted};
 ghost use Rattle.devices.specs.Parts.{state};

@@ -12,16 +12,16 @@ use lib.Seq.{getD-take}
 use lib.IntN.{ℤ, pos}
 use Rattle.numbers.specs.State.{best}
 use Rattle.bits.specs.Pick.{pick}
-use Rattle.model.specs.Base.{range, bit}
+use Rattle.numbers.specs.Base.{range, bit}
 use Rattle.model.specs.Case.{System, Plan, Case, Device, DevicePrices}
 use Rattle.model.specs.Forced.{device, consuming, cap, u, uBefore, su, sd, power, downtime}
 use Rattle.model.specs.Rules.{blocks}
 use Rattle.model.specs.Completion.{stateCost, blockPrice, devicePrices}
 use Rattle.model.specs.Ours.{filling, lasts, bestState, ours}
-use Rattle.model.specs.Tests.{all-range}
+use Rattle.numbers.specs.Every.{all-range}
 use Rattle.model.specs.declared.DeviceRecord.{DeviceRecord}
-use Rattle.model.specs.Views.{deviceOf, stateIn, statesOf, less}
-use Rattle.model.specs.Viewed as W
+use Rattle.ranges.specs.Views.{deviceOf, stateIn, statesOf, less}
+use Rattle.ranges.specs.Viewed as W
 use Rattle.dispatch.specs.declared.Choice.{Choice}
 use Rattle.filling.specs.Filled.{Filled, priceOf, capOf, Alike, filling-same, filling-caps, four-same}
 use Rattle.dispatch.specs.States.{noState, costOf, lastsOf, stateOf, best-same}

@@ -13,7 +13,7 @@ use Rattle.bits.specs.Pick.{pick}
 use Rattle.model.specs.Case.{System, Plan, Device}
 use Rattle.model.specs.Forced.{device, startOf, endOf, u, lastOn, downtime}
 use Rattle.model.specs.declared.DeviceRecord.{DeviceRecord}
-use Rattle.model.specs.Views.{deviceOf}
+use Rattle.ranges.specs.Views.{deviceOf}
 use Rattle.tables.specs.Cells as Cells
 use Rattle.tables.specs.Cells.{CellOf, systemOf, planOf}
 

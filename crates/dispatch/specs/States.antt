@@ -12,8 +12,8 @@ use lib.Signed.{ltZ}
 use Rattle.numbers.specs.Sum.{All}
 use Rattle.numbers.specs.State.{best}
 use Rattle.bits.specs.Pick.{pick}
-use Rattle.model.specs.Base.{range}
-use Rattle.model.specs.Views.{less, stateIn, statesOf}
+use Rattle.numbers.specs.Base.{range}
+use Rattle.ranges.specs.Views.{less, stateIn, statesOf}
 use Rattle.model.specs.declared.State.{State}
 use Rattle.model.specs.declared.DeviceRecord.{DeviceRecord}
 use Rattle.dispatch.specs.declared.Chosen.{Chosen}

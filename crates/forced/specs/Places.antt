@@ -9,9 +9,9 @@ use lib.ListN.{length, getD, set, replicate, length-set}
 use lib.Seq.{getD-set-same, getD-set-other}
 use Rattle.numbers.specs.Sum.{sumℕ}
 use Rattle.bits.specs.Pick.{pick}
-use Rattle.model.specs.Base.{range, upTo}
+use Rattle.numbers.specs.Base.{range, upTo}
 use Rattle.model.specs.declared.DeviceRecord.{DeviceRecord}
-use Rattle.tables.specs.Sums.{sum-more}
+use Rattle.numbers.specs.Ranges.{sum-more}
 
 -- the plan's online power
 abbrev pub onlineAt : List ℕ → ℕ → ℕ → ℕ

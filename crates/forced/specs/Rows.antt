@@ -11,9 +11,9 @@ use lib.Dec.{ltb, leb}
 use lib.ListN.{length, getD, set, length-set, List·getD-eq-default}
 use lib.Seq.{getD-set-same, getD-set-other}
 use Rattle.numbers.specs.Sum.{sumℕ, gate}
-use Rattle.model.specs.Base.{range, upTo, bit}
+use Rattle.numbers.specs.Base.{range, upTo, bit}
 use Rattle.model.specs.declared.DeviceRecord.{DeviceRecord}
-use Rattle.tables.specs.Sums.{sum-more}
+use Rattle.numbers.specs.Ranges.{sum-more}
 use Rattle.forced.specs.Sums.{sum-most}
 use Rattle.tables.specs.Changes.{onAt, onBefore, startedAt, stoppedAt}
 use Rattle.forced.specs.Places.{onlineAt, pminAt, leavesAt, Rampable}

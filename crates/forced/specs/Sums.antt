@@ -7,8 +7,8 @@ use native.Mathlib.Decide.{decLe}
 use borrow.Author.Tests.{le-leb, lt-leb}
 use lib.Dec.{leb}
 use Rattle.numbers.specs.Sum.{sumℕ, gate}
-use Rattle.model.specs.Base.{range, upTo}
-use Rattle.tables.specs.Sums.{sum-more}
+use Rattle.numbers.specs.Base.{range, upTo}
+use Rattle.numbers.specs.Ranges.{sum-more}
 
 pub sum-range : (f g : ℕ → ℕ) (k n : ℕ) → ((e : ℕ) → k ≤ e → e < k + n → f e ≡ g e) → sumℕ f (range k n) ≡ sumℕ g (range k n)
 unfolding range

@@ -7,7 +7,7 @@ use native.Mathlib.Decide.{decLe}
 use lib.ListN.{length, getD, set, take, drop, length-append, length-take, length-drop, length-set, List·getD-append}
 use lib.Seq.{getD-set-same, getD-set-other, getD-append-add, getD-take, getD-drop, length-take-le}
 use Rattle.model.specs.Forced as F
-use Rattle.model.specs.Views.{caseIn, planIn, recordAt, Decoded, ForcedTable}
+use Rattle.ranges.specs.Views.{caseIn, planIn, recordAt, Decoded, ForcedTable}
 use Rattle.model.specs.declared.CaseRecord.{CaseRecord}
 use Rattle.forced.specs.Places.{Times}
 use Rattle.forced.specs.Rows.{Powers}

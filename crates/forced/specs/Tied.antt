@@ -10,13 +10,13 @@ use borrow.Author.Tests.{ne-eqb, le-leb, lt-leb, lt-ltb, le-ltb}
 use lib.Dec.{ltb, leb}
 use lib.ListN.{getD, length-take, length-drop}
 use Rattle.numbers.specs.Sum.{sumℕ, gate}
-use Rattle.model.specs.Base.{upTo, bit}
+use Rattle.numbers.specs.Base.{upTo, bit}
 use Rattle.model.specs.Case.{System, Plan, Device, Cell, Setting, noDevice, noCell}
 use Rattle.model.specs.Forced as F
-use Rattle.model.specs.Ranges.{DeviceRange, CellRange}
-use Rattle.model.specs.Sizes.{all-at, all-getD}
-use Rattle.model.specs.Views.{caseIn, planIn, halvesIn, minimaIn, cellsIn, cellRow, cellAt, cellIn, devicePart, deviceOf, recordAt, span, settingIn, settingAt, Decoded, Planned}
-use Rattle.model.specs.Viewed.{devices-are, intervals-are, duration-is, device-is, cell-is, setting-is, span-at, cell-number, plan-number}
+use Rattle.ranges.specs.Ranges.{DeviceRange, CellRange}
+use Rattle.numbers.specs.Every.{all-at, all-getD}
+use Rattle.ranges.specs.Views.{caseIn, planIn, halvesIn, minimaIn, cellsIn, cellRow, cellAt, cellIn, devicePart, deviceOf, recordAt, span, settingIn, settingAt, Decoded, Planned}
+use Rattle.ranges.specs.Viewed.{devices-are, intervals-are, duration-is, device-is, cell-is, setting-is, span-at, cell-number, plan-number}
 use Rattle.model.specs.declared.DeviceRecord.{DeviceRecord}
 use Rattle.model.specs.declared.CaseRecord.{CaseRecord}
 use Rattle.forced.specs.Sums.{sum-same, sum-both, sum-cut}

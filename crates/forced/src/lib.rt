@@ -4,7 +4,7 @@ ghost use Prim.Native.Nat.{_+_, _-_, _*_, _<_, _≤_};
 ghost use lib.ListN.{length};
 ghost use lib.Dec.{ltb};
 ghost use Rattle.numbers.specs.Sum.{gate};
-ghost use Rattle.model.specs.Views.{caseIn, planIn, Decoded, Planned, ForcedTable};
+ghost use Rattle.ranges.specs.Views.{caseIn, planIn, Decoded, Planned, ForcedTable};
 ghost use Rattle.tables.specs.Cells.{Halves};
 ghost use Rattle.forced.specs.Places.{onlineAt, pminAt, leavesAt, Times, Rampable};
 ghost use Rattle.forced.specs.Rows.{distance, leftAt, leftIn, startRamp, stopRamp, Low, Small, Raised, Changed, added, Online, Powers};

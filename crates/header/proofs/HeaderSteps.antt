@@ -7,11 +7,12 @@ use native.Mathlib.Omega.{arith}
 use lib.ListN.{length, getD, take, set}
 use lib.Seq.{take-suc}
 use Rattle.numbers.specs.Sum.{sumℕ}
-use Rattle.bits.specs.declared.Fault.{Fault}
-use Rattle.model.specs.declared.Place.{Place}
-use Rattle.model.specs.Layout.{nat, list, repeated, _then_, held}
-use Rattle.model.specs.Messages.{Counts, edition1, counts, figure, fixed, countOf}
-use Rattle.model.specs.Views.{span}
+use Rattle.layouts.specs.declared.Fault.{Fault}
+use Rattle.layouts.specs.declared.Place.{Place}
+use Rattle.layouts.specs.Layout.{nat, list, repeated, _then_, held}
+use Rattle.model.specs.Messages.{Counts, edition1, counts}
+use Rattle.layouts.specs.Layout.{figure, fixed, countOf}
+use Rattle.ranges.specs.Views.{span}
 use Rattle.fields.specs.declared.Figure.{Figure}
 use Rattle.fields.specs.declared.Figure.the-variants as F
 use Rattle.fields.specs.declared.Went.{Went}

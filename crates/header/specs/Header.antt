@@ -3,9 +3,10 @@ use mathlib.Core.Path.{_≡_}
 use mathlib.Core.List.{List}
 use Prim.Native.Nat.{ℕ, _≤_}
 use lib.ListN.{getD}
-use Rattle.model.specs.declared.Place.{Place}
-use Rattle.model.specs.Layout.{Layout, _▸_, held}
-use Rattle.model.specs.Messages.{Counts, edition1, counts, figure, fixed}
+use Rattle.layouts.specs.declared.Place.{Place}
+use Rattle.layouts.specs.Layout.{Layout, _▸_, held}
+use Rattle.model.specs.Messages.{Counts, edition1, counts}
+use Rattle.layouts.specs.Layout.{figure, fixed}
 use Rattle.fields.specs.declared.Went.{Went}
 use Rattle.fields.specs.declared.Went.the-variants.{On}
 use Rattle.fields.specs.Got.{got, told}

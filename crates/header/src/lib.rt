@@ -1,7 +1,7 @@
 // The figures at a case's front, and the end of its day.
 use fields::Figure;
 use fields::Went;
-use model::Place;
+use layouts::Place;
 ghost use mathlib.Core.Path.{_≡_};
 ghost use Prim.Native.Nat.{_*_, _≤_};
 ghost use lib.ListN.{length, take};

@@ -14,16 +14,16 @@ use lib.IntN.{pos, _-ℤ_}
 use Rattle.numbers.specs.Laws.{maxZero}
 use Rattle.numbers.specs.Sum.{sumℕ, gate}
 use Rattle.bits.specs.Pick.{pick}
-use Rattle.model.specs.Base.{range, upTo}
+use Rattle.numbers.specs.Base.{range, upTo}
 use Rattle.model.specs.Case.{System, Plan, Device, noEnergyWindow}
 use Rattle.model.specs.Forced.{energyWindow, duration, midpoint, power}
 use Rattle.model.specs.Completion as C
 use Rattle.model.specs.declared.EnergyWindow.{EnergyWindow as EnergyRecord}
 use Rattle.model.specs.declared.DeviceRecord.{DeviceRecord}
 use Rattle.model.specs.declared.CaseRecord.{CaseRecord}
-use Rattle.model.specs.Views.{caseIn, planIn, Ready, recordAt, deviceOf, energyIn}
-use Rattle.model.specs.Viewed.{getD-map}
-use Rattle.tables.specs.Sums.{sum-next}
+use Rattle.ranges.specs.Views.{caseIn, planIn, Ready, recordAt, deviceOf, energyIn}
+use Rattle.ranges.specs.Viewed.{getD-map}
+use Rattle.numbers.specs.Ranges.{sum-next}
 use Rattle.tables.specs.Differences.{above-is}
 use Rattle.tables.specs.Cells as Cells
 use Rattle.tables.specs.Cells.{Halves}

@@ -7,7 +7,7 @@ use native.Mathlib.Decide.{decLe}
 use lib.ListN.{getD, length, set, replicate, length-set}
 use lib.Seq.{getD-set-same, getD-set-other}
 use Rattle.model.specs.declared.CaseRecord.{CaseRecord}
-use Rattle.model.specs.Views.{recordAt}
+use Rattle.ranges.specs.Views.{recordAt}
 use Rattle.needs.specs.declared.Fleet.{Fleet}
 
 -- those of the first n devices of a case

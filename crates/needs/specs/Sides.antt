@@ -10,16 +10,16 @@ use lib.ListN.{getD}
 use lib.IntN.{pos, natAbs, _-ℤ_}
 use Rattle.numbers.specs.Sum.{sumℕ, gate}
 use Rattle.bits.specs.Pick.{pick}
-use Rattle.model.specs.Base.{range, upTo}
+use Rattle.numbers.specs.Base.{range, upTo}
 use Rattle.model.specs.Case.{System, Plan}
 use Rattle.model.specs.Forced.{devices, consuming as consumes, power}
 use Rattle.model.specs.Completion.{total, mismatchNeed}
 use Rattle.model.specs.declared.CaseRecord.{CaseRecord}
-use Rattle.model.specs.Views.{caseIn, planIn, Ready, recordAt}
+use Rattle.ranges.specs.Views.{caseIn, planIn, Ready, recordAt}
 use Rattle.needs.specs.declared.Fleet.{Fleet}
 use Rattle.needs.specs.declared.Sides.{Sides}
 use Rattle.needs.specs.Fleets.{FleetOf}
-use Rattle.tables.specs.Sums.{sum-next, sum-skip}
+use Rattle.numbers.specs.Ranges.{sum-next, sum-skip}
 use Rattle.tables.specs.Cells as Cells
 
 -- a device's power on its side

@@ -10,19 +10,19 @@ use lib.ListN.{getD}
 use Rattle.numbers.specs.Laws.{maxZero}
 use Rattle.numbers.specs.Sum.{sumℕ, gate}
 use Rattle.bits.specs.Pick.{pick}
-use Rattle.model.specs.Base.{range, upTo, largest}
+use Rattle.numbers.specs.Base.{range, upTo, largest}
 use Rattle.model.specs.Case.{System, Plan}
-use Rattle.model.specs.Sizes.{gate-le}
+use Rattle.numbers.specs.Every.{gate-le}
 use Rattle.model.specs.Case as Case
 use Rattle.model.specs.Forced.{devices, zone, consuming, member, setting, power}
 use Rattle.model.specs.Completion as C
 use Rattle.model.specs.declared.CaseRecord.{CaseRecord}
-use Rattle.model.specs.Views.{caseIn, planIn, Ready, recordAt, noZoneRecord}
+use Rattle.ranges.specs.Views.{caseIn, planIn, Ready, recordAt, noZoneRecord}
 use Rattle.tables.specs.declared.Reserves.{Reserves}
 use Rattle.needs.specs.declared.Fleet.{Fleet}
 use Rattle.needs.specs.declared.ZoneSums.{ZoneSums}
 use Rattle.needs.specs.Fleets.{FleetOf}
-use Rattle.tables.specs.Sums.{sum-next, sum-skip, largest-next, largest-skip}
+use Rattle.numbers.specs.Ranges.{sum-next, sum-skip, largest-next, largest-skip}
 use Rattle.tables.specs.Differences.{above-is}
 use Rattle.tables.specs.Cells as Cells
 use Rattle.tables.specs.Cells.{inZone, eightAt, reservesIn, sharesIn}

@@ -1,7 +1,7 @@
 -- What inspecting a case finds.
 use Rattle.model.specs.Case.{Case}
 use Rattle.model.specs.Forced.{intervals, devices, zones}
-use Rattle.model.specs.Layout.{Whole, passes, fails}
+use Rattle.layouts.specs.Layout.{Whole, passes, fails}
 use Rattle.plan_unit.specs.declared.Inspected.{Inspected}
 use Rattle.plan_unit.specs.declared.Inspected.the-variants as I
 

@@ -5,8 +5,9 @@ use Prim.Native.Nat.{ℕ}
 use Rattle.model.specs.declared.CaseRecord.{CaseRecord}
 use Rattle.model.specs.declared.Verdict.{Verdict}
 use Rattle.model.specs.Judgement.{judgement, withPlan, readPlan}
-use Rattle.model.specs.Promise.{Promise, promised}
-use Rattle.model.specs.Views.{caseIn}
+use Rattle.theorems.specs.Promise.{Promise, PlanPromise, promised, plan-promised}
+use Rattle.ranges.specs.Ranges.{CaseRange}
+use Rattle.ranges.specs.Views.{caseIn}
 
 -- `before` and `after` are the result buffer as it came and as it is left
 pub record Judges (cs ps before after : List ℕ) (v : Verdict) : Type 0 where
@@ -24,7 +25,17 @@ judges {cs} {ps} {before} {after} {v} e f = record {
   promise = subst (Promise cs ps before) (ap₂ (λ (x : Verdict) (y : List ℕ). record { verdict = x; result = y }) (sym e) (sym f)) (promised cs ps before);
 }
 
--- The same for a plan against a case that was decoded before: what `judge` gives for the case's bytes and the plan.
+-- The same for a plan against a case that was decoded before: what `judge` gives for the case's bytes and the plan, with the same promises.
 pub record JudgesPlan (c : CaseRecord) (table ps before after : List ℕ) (v : Verdict) : Type 0 where
   pub verdict : v ≡ withPlan (caseIn c table) before (readPlan (caseIn c table .system) ps) .verdict
   pub result : after ≡ withPlan (caseIn c table) before (readPlan (caseIn c table .system) ps) .result
+  pub promise : PlanPromise (caseIn c table) ps before (record { verdict = v; result = after })
+
+pub judges-plan : {c : CaseRecord} {table ps before after : List ℕ} {v : Verdict} → CaseRange (caseIn c table)
+    → v ≡ withPlan (caseIn c table) before (readPlan (caseIn c table .system) ps) .verdict → after ≡ withPlan (caseIn c table) before (readPlan (caseIn c table .system) ps) .result
+    → JudgesPlan c table ps before after v
+judges-plan {c} {table} {ps} {before} {after} {v} g e f = record {
+  verdict = e;
+  result = f;
+  promise = subst (PlanPromise (caseIn c table) ps before) (ap₂ (λ (x : Verdict) (y : List ℕ). record { verdict = x; result = y }) (sym e) (sym f)) (plan-promised (caseIn c table) g ps before);
+}

@@ -6,8 +6,8 @@ use native.Mathlib.Omega.{arith}
 use borrow.Author.Tests.{le-leb, lt-leb}
 use lib.ListN.{length, drop, length-take}
 use lib.IntN.{ℤ}
-use Rattle.bits.specs.declared.Fault.{Fault}
-use Rattle.bits.specs.declared.Fault.the-variants.{TooShort}
+use Rattle.layouts.specs.declared.Fault.{Fault}
+use Rattle.layouts.specs.declared.Fault.the-variants.{TooShort}
 use Rattle.model.specs.declared.Breach.{Breach}
 use Rattle.model.specs.declared.CaseRecord.{CaseRecord}
 use Rattle.model.specs.declared.Subject.the-variants as S
@@ -16,13 +16,13 @@ use Rattle.model.specs.declared.Verdict.the-variants.{Accepted, Broken, Refused
 use Rattle.model.specs.Case.{Case, Plan}
 use Rattle.model.specs.Forced.{intervals, devices}
 use Rattle.model.specs.Breaches.{breaches}
-use Rattle.model.specs.Tests.{none-every, every-none}
+use Rattle.model.specs.Named.{none-every, every-none}
 use Rattle.model.specs.Ours.{ours}
-use Rattle.model.specs.Layout.{passes, fails, readWhole}
+use Rattle.layouts.specs.Layout.{passes, fails, readWhole}
 use Rattle.model.specs.Messages.{edition1, planLayout}
 use Rattle.model.specs.Judgement.{judged, verdict, accepts, unlessBroken, bufferAfter, ourSurplus, completionBytes, energyWindows, readPlan, withPlan, judgement, readCase}
-use Rattle.model.specs.Views.{caseIn, planIn, halvesIn, minimaIn, cellsIn, Decoded, Planned, Ready}
-use Rattle.model.specs.Viewed.{devices-are, intervals-are, zones-are}
+use Rattle.ranges.specs.Views.{caseIn, planIn, halvesIn, minimaIn, cellsIn, Decoded, Planned, Ready}
+use Rattle.ranges.specs.Viewed.{devices-are, intervals-are, zones-are}
 use Rattle.fields.specs.Ended.{ended}
 use Rattle.fields.specs.declared.Ending.{Ending}
 use Rattle.fields.specs.declared.Ending.the-variants.{Passes, Fails}
@@ -37,7 +37,7 @@ use Rattle.tables.specs.Cells.{intervals-of, devices-of, zones-of}
 use Rattle.completion.specs.Unbroken.{Unbroken, windowsUpTo, messageOf, windows-same}
 use Rattle.plan_unit.specs.declared.Inspected.the-variants as I
 use Rattle.plan_unit.specs.Inspection.{inspectedOf}
-use Rattle.plan_unit.specs.Judges.{Judges, JudgesPlan, judges}
+use Rattle.plan_unit.specs.Judges.{Judges, JudgesPlan, judges, judges-plan}
 
 -- ---- the first breach of a list
 
@@ -160,12 +160,12 @@ module _ (c : CaseRecord) (table ps plan : List ℕ) (d : Decoded c table) (e : 
   pub plan-fails : (before : List ℕ) {f : Fault} → e ≡ Fails f → JudgesPlan c table ps before before (Refused S.Plan f)
   plan-fails before {f} t =
       let g : readPlan (caseIn c table .system) ps ≡ fails f = sym plan-read ∙ ap (ended (planIn c plan)) t in
-      record { verdict = rw g refl; result = rw g refl }
+      judges-plan (d .range) (rw g refl) (rw g refl)
 
   pub plan-passes : {before after : List ℕ} {v : Verdict} → e ≡ Passes → Decides c table plan before after v → JudgesPlan c table ps before after v
   plan-passes t k =
       let g : readPlan (caseIn c table .system) ps ≡ passes (planIn c plan) = sym plan-read ∙ ap (ended (planIn c plan)) t in
-      record { verdict = rw g (k .verdict); result = rw g (k .result) }
+      judges-plan (d .range) (rw g (k .verdict)) (rw g (k .result))
 
   pub planned-of : length plan ≡ 7680 → e ≡ Passes → Planned c plan
   planned-of n t = record { long = n; range = h .range t }

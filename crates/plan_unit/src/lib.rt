@@ -1,14 +1,14 @@
 // Judging a plan against a case, on bytes. Nothing is required of the caller of `judge`; every judgement ends.
-use bits::Fault;
 use checks::Check;
 use fields::Ending;
+use layouts::Fault;
 use model::CaseRecord;
 use model::Subject;
 use model::Verdict;
 ghost use mathlib.Core.Path.{_≡_};
-ghost use Rattle.bits.specs.Faults.{numberOf, returnedBy};
+ghost use Rattle.layouts.specs.Faults.{numberOf, returnedBy};
 ghost use Rattle.model.specs.Judgement.{readCase};
-ghost use Rattle.model.specs.Views.{Decoded, Planned};
+ghost use Rattle.ranges.specs.Views.{Decoded, Planned};
 ghost use Rattle.completion.specs.Unbroken.{Unbroken};
 ghost use Rattle.plan_unit.specs.Judges.{Judges, JudgesPlan};
 ghost use Rattle.plan_unit.specs.Steps.{Decides};

@@ -5,16 +5,17 @@ use Prim.Native.Nat.{ℕ, _-_, _*_, _<_}
 use native.Mathlib.Omega.{arith}
 use lib.ListN.{length, take, drop, getD, replicate, length-replicate, length-drop, drop-of-length-le}
 use lib.Seq.{take-all}
-use Rattle.bits.specs.declared.Fault.{Fault}
-use Rattle.model.specs.declared.Place.{Place}
+use Rattle.layouts.specs.declared.Fault.{Fault}
+use Rattle.layouts.specs.declared.Place.{Place}
 use Rattle.model.specs.Case.{Setting, System, noDevice, noSetting}
 use Rattle.model.specs.Judgement.{readPlan}
-use Rattle.model.specs.Layout.{list, repeated, held, _then_, begin, readWhole, passes}
-use Rattle.model.specs.Messages.{edition1, figure, kW, eight, setting, planLayout}
-use Rattle.model.specs.Ranges.{SettingRange, PlanRange, plan-range}
-use Rattle.model.specs.Sizes.{all-at}
-use Rattle.model.specs.Views.{rows, span, settingIn, settingAt, planOf}
-use Rattle.model.specs.Viewed.{setting-is}
+use Rattle.layouts.specs.Layout.{list, repeated, held, _then_, begin, readWhole, passes}
+use Rattle.model.specs.Messages.{edition1, kW, eight, setting, planLayout}
+use Rattle.layouts.specs.Layout.{figure}
+use Rattle.ranges.specs.Ranges.{SettingRange, PlanRange, plan-range}
+use Rattle.numbers.specs.Every.{all-at}
+use Rattle.ranges.specs.Views.{rows, span, settingIn, settingAt, planOf}
+use Rattle.ranges.specs.Viewed.{setting-is}
 use Rattle.fields.specs.declared.Figure.{Figure}
 use Rattle.fields.specs.declared.Figure.the-variants as G
 use Rattle.fields.specs.declared.Went.{Went}

@@ -2,14 +2,14 @@
 use fields::Ending;
 use fields::Figure;
 use fields::Went;
-use model::Clash;
-use model::Place;
+use layouts::Clash;
+use layouts::Place;
 ghost use mathlib.Core.Path.{_≡_};
 ghost use Prim.Native.Nat.{_≤_};
 ghost use lib.ListN.{length};
-ghost use Rattle.model.specs.Layout.{list, begin};
+ghost use Rattle.layouts.specs.Layout.{list, begin};
 ghost use Rattle.model.specs.Messages.{edition1, setting, planLayout};
-ghost use Rattle.model.specs.Views.{rows, settingIn, settingAt, planOf};
+ghost use Rattle.ranges.specs.Views.{rows, settingIn, settingAt, planOf};
 ghost use Rattle.fields.specs.Got.{got, figured, told};
 ghost use Rattle.plans.specs.Plans.{header, settingsAt, PlanRead};
 

@@ -8,7 +8,7 @@ use borrow.Author.Tests.{le-leb, lt-leb, eq-eqb, ne-eqb}
 use lib.Dec.{leb, eqb}
 use lib.ListN.{getD}
 use Rattle.bits.specs.Pick.{pick}
-use Rattle.model.specs.Base.{range, upTo, implies, every}
+use Rattle.numbers.specs.Base.{range, upTo, implies, every}
 use Rattle.tables.specs.Changes.{startedAt, stoppedAt}
 use Rattle.rules.specs.declared.Rest.{Rest}
 

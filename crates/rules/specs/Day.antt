@@ -3,10 +3,10 @@ use mathlib.Core.Path.{_≡_, ap, _∙_}
 use mathlib.Core.List.{List}
 use Prim.Native.Nat.{ℕ, _+_, _≤_, _<_}
 use native.Mathlib.Omega.{arith}
-use Rattle.model.specs.Base.{upTo, gather}
+use Rattle.numbers.specs.Base.{upTo, gather}
 use Rattle.model.specs.Forced.{intervals, devices}
 use Rattle.model.specs.Breaches.{cellBreaches, windowBreaches, breaches}
-use Rattle.model.specs.Views.{caseIn, planIn, recordAt, Ready}
+use Rattle.ranges.specs.Views.{caseIn, planIn, recordAt, Ready}
 use Rattle.model.specs.declared.Breach.{Breach}
 use Rattle.model.specs.declared.CaseRecord.{CaseRecord}
 use Rattle.forced.specs.Tied.{intervals-here, devices-here}

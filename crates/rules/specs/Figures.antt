@@ -7,7 +7,7 @@ use native.Mathlib.Omega.{arith}
 use lib.Dec.{T, eqb, leb, leb→le}
 use lib.ListN.{getD, length}
 use Rattle.bits.specs.Pick.{pick}
-use Rattle.model.specs.Base.{implies}
+use Rattle.numbers.specs.Base.{implies}
 use Rattle.model.specs.declared.DeviceRecord.{DeviceRecord}
 use Rattle.tables.specs.Changes.{startedAt, stoppedAt}
 use Rattle.rules.specs.Apart.{Rising, apartAt}

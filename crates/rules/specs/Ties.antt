@@ -10,19 +10,19 @@ use lib.Dec.{ltb, eqb}
 use lib.ListN.{getD, drop}
 use Rattle.numbers.specs.Sum.{sumℕ}
 use Rattle.bits.specs.Pick.{pick}
-use Rattle.model.specs.Base.{range, implies, every, bit}
+use Rattle.numbers.specs.Base.{range, implies, every, bit}
 use Rattle.model.specs.Case as C
 use Rattle.model.specs.Case.{System, Plan, Reserves}
 use Rattle.model.specs.Forced as F
 use Rattle.model.specs.Rules as R
-use Rattle.model.specs.Ranges.{SettingRange, Eight}
+use Rattle.ranges.specs.Ranges.{SettingRange, Eight}
 use Rattle.model.specs.Breaches.{apart, cellTests, cellBreaches}
 use lib.Seq.{getD-drop}
-use Rattle.model.specs.Views.{caseIn, planIn, reservesOf, recordAt, cellsIn, cellRow, devicePart, deviceOf, cellIn, settingIn, span, Ready}
-use Rattle.model.specs.Viewed.{cap-is}
+use Rattle.ranges.specs.Views.{caseIn, planIn, reservesOf, recordAt, cellsIn, cellRow, devicePart, deviceOf, cellIn, settingIn, span, Ready}
+use Rattle.ranges.specs.Viewed.{cap-is}
 use Rattle.model.specs.declared.DeviceRecord.{DeviceRecord}
 use Rattle.model.specs.declared.CaseRecord.{CaseRecord}
-use Rattle.tables.specs.Sums.{sum-more}
+use Rattle.numbers.specs.Ranges.{sum-more}
 use Rattle.tables.specs.Changes.{onAt, startedAt, stoppedAt}
 use Rattle.forced.specs.Tied.{plan-place, cell-place, intervals-here, devices-here, duration-here, device-here, cell-here, setting-here, on-here, before-here, online-here, pmin-here, started-here, stopped-here, halves-here, device-range, cell-range}
 use Rattle.checks.specs.First.{first, firstIn}

@@ -9,20 +9,20 @@ use lib.Dec.{leb, ltb}
 use lib.ListN.{getD, length, take, length-take, length-map}
 use lib.Seq.{getD-take}
 use Rattle.numbers.specs.Sum.{sumℕ, gate}
-use Rattle.model.specs.Base.{range, upTo, gather}
+use Rattle.numbers.specs.Base.{range, upTo, gather}
 use Rattle.model.specs.Case as C
 use Rattle.model.specs.Case.{System, Plan, noStartWindow}
 use Rattle.model.specs.Forced as F
 use Rattle.model.specs.Rules as R
-use Rattle.model.specs.Breaches.{failing, windowBreach, windowBreaches}
-use Rattle.model.specs.Views.{caseIn, planIn, recordAt, startIn, deviceOf, Ready}
-use Rattle.model.specs.Viewed.{getD-map}
+use Rattle.model.specs.Breaches.{failing, oneWindow, windowBreaches}
+use Rattle.ranges.specs.Views.{caseIn, planIn, recordAt, startIn, deviceOf, Ready}
+use Rattle.ranges.specs.Viewed.{getD-map}
 use Rattle.model.specs.declared.Breach.{Breach}
 use Rattle.model.specs.declared.StartWindow.{StartWindow}
 use Rattle.model.specs.declared.DeviceRecord.{DeviceRecord}
 use Rattle.model.specs.declared.CaseRecord.{CaseRecord}
 use Rattle.tables.specs.Changes.{startedAt}
-use Rattle.tables.specs.Sums.{sum-more}
+use Rattle.numbers.specs.Ranges.{sum-more}
 use Rattle.forced.specs.Sums.{sum-same}
 use Rattle.forced.specs.Tied.{intervals-here, device-here, started-here}
 use Rattle.checks.specs.First.{first}
@@ -122,11 +122,11 @@ module _ (c : CaseRecord) (table plan forced : List ℕ) (known : Ready c table 
   starts-are w l = rw (window-is w l, intervals-here c table plan (known .decoded)) (sum-same _ _ (c .nintervals) (λ t h.
       rw (start-is c table plan forced known t h, started-here c table plan (known .decoded) i m t h) refl))
 
-  here-is : (w : ℕ) → w < windowCount d → windowHere d plan forced (c .nintervals) i w ≡ windowBreach q p i w
-  unfolding windowHere windowBreach
+  here-is : (w : ℕ) → w < windowCount d → windowHere d plan forced (c .nintervals) i w ≡ oneWindow q p i w
+  unfolding windowHere oneWindow
   here-is w l = rw (starts-are w l, window-is w l) refl
 
   -- the device's windows in turn
   pub windows-are : gather (windowHere d plan forced (c .nintervals) i) (upTo (windowCount d)) ≡ windowBreaches q p i
   unfolding windowBreaches
-  windows-are = rw count-is (gather-range (windowHere d plan forced (c .nintervals) i) (windowBreach q p i) 0 (windowCount d) (λ w l h. here-is w (omega arith)))
+  windows-are = rw count-is (gather-range (windowHere d plan forced (c .nintervals) i) (oneWindow q p i) 0 (windowCount d) (λ w l h. here-is w (omega arith)))

@@ -1,7 +1,7 @@
 // Runs a batch that comes by standard input and prints a line for each message. Memory is bounded: one message is held at a time.
-use bits::Fault;
-use bits::Framed;
 use fields::Ending;
+use layouts::Fault;
+use layouts::Framed;
 use libc::STDIN_FILENO;
 use libc::STDOUT_FILENO;
 use model::Breach;
@@ -10,7 +10,7 @@ use model::Verdict;
 ghost use mathlib.Core.Path.{_≡_};
 ghost use Prim.Native.Nat.{_+_, _≤_, _<_};
 ghost use lib.ListN.{length};
-ghost use Rattle.model.specs.Views.{Decoded};
+ghost use Rattle.ranges.specs.Views.{Decoded};
 
 fn least(a: u64, b: u64) -> u64
     ensures { λ r. ⌜ (r ≤ a) × (r ≤ b) ⌝ }
@@ -195,7 +195,7 @@ fn print_written(c: CaseRecord, v: Verdict, result: &[u8])
 fn run_plan(c: CaseRecord, table: &[u32], frame: &[u8], result: &mut [u8], index: u64, detail: bool)
     requires { ⌜ Decoded c (now table) ⌝ }
 {
-    let v = plan_unit::judge_plan(c, table, bits::message_at(frame, 0, 65536), result);
+    let v = plan_unit::judge_plan(c, table, layouts::message_at(frame, 0, 65536), result);
     print_verdict(index, v);
     if detail {
         print_written(c, v, result);
@@ -224,7 +224,7 @@ fn next_plan(
     let n = read_frame(frame, left);
     let part = &frame[0..n];
     let rest = left - least(n as u64, left);
-    match bits::frame_at(part, 0, 65536) {
+    match layouts::frame_at(part, 0, 65536) {
         Framed::End => Next { more: false, rest },
         Framed::Refused(f) => {
             print_framing(f);
@@ -265,7 +265,7 @@ fn run_case(frame: &mut [u8], n: usize, left: u64, detail: bool) -> u64
     ensures { λ r. ⌜ r ≤ left ⌝ }
 {
     let mut table = table_buffer();
-    let read = cases::read_case(bits::message_at(&frame[0..n], 0, 65536), &mut table);
+    let read = cases::read_case(layouts::message_at(&frame[0..n], 0, 65536), &mut table);
     let ending = read.ending;
     let c = read.record;
     match ending {
@@ -289,7 +289,7 @@ pub fn run(left: u64, detail: bool) -> u64
     let n = read_frame(&mut frame, left);
     let part = &frame[0..n];
     let rest = left - least(n as u64, left);
-    match bits::frame_at(part, 0, 65536) {
+    match layouts::frame_at(part, 0, 65536) {
         Framed::End => rest,
         Framed::Refused(f) => {
             print_framing(f);

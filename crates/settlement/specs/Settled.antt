@@ -5,10 +5,10 @@ use Prim.Native.Nat.{ℕ, _+_, _*_, _≤_}
 use native.Mathlib.Omega.{arith}
 use lib.IntN.{ℤ, negℤ}
 use Rattle.numbers.specs.Sum.{sumℤ}
-use Rattle.model.specs.Base.{upTo}
+use Rattle.numbers.specs.Base.{upTo}
 use Rattle.model.specs.Case.{Case, Plan}
 use Rattle.model.specs.Completion.{shortfallCost}
-use Rattle.model.specs.Views.{caseIn, planIn}
+use Rattle.ranges.specs.Views.{caseIn, planIn}
 use Rattle.model.specs.declared.CaseRecord.{CaseRecord}
 use Rattle.writing.specs.Puts.{Puts}
 use Rattle.writing.specs.Runs.{run, run-none, run-even, run-done, puts-as}

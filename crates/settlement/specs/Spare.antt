@@ -6,12 +6,12 @@ use mathlib.Core.List.{List}
 use lib.IntN.{ℤ, negℤ}
 use Rattle.numbers.specs.Sum.{sumℤ}
 use Rattle.numbers.specs.declared.Ledger.{Ledger}
-use Rattle.model.specs.Base.{upTo}
+use Rattle.numbers.specs.Base.{upTo}
 use Rattle.model.specs.Case.{Case, Plan}
 use Rattle.model.specs.Forced.{intervals, devices, zones}
 use Rattle.model.specs.Completion.{shortfallCost, mismatchCost}
 use Rattle.model.specs.Judgement.{ourSurplus}
-use Rattle.model.specs.Views.{caseIn, planIn}
+use Rattle.ranges.specs.Views.{caseIn, planIn}
 use Rattle.model.specs.declared.CaseRecord.{CaseRecord}
 use Rattle.tables.specs.Cells.{intervals-of, devices-of, zones-of}
 use Rattle.surplus.specs.Entries.{Entered, Room}

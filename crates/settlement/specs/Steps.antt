@@ -7,13 +7,14 @@ use lib.ListN.{getD}
 use Rattle.numbers.specs.Laws.{maxZero}
 use Rattle.numbers.specs.Sum.{sumℤ}
 use Rattle.numbers.specs.declared.Ledger.{Ledger}
-use Rattle.model.specs.Base.{upTo}
+use Rattle.numbers.specs.Base.{upTo}
 use Rattle.model.specs.Case.{Case, Plan}
 use Rattle.model.specs.Completion.{shortfalls, shortfallNeed, mismatchNeed, overrunNeed}
-use Rattle.model.specs.Back.{FitsSix}
-use Rattle.model.specs.Messages.{any, six, deviceChoice}
+use Rattle.theorems.specs.Back.{FitsSix}
+use Rattle.model.specs.Messages.{six, deviceChoice}
+use Rattle.layouts.specs.Layout.{any}
 use Rattle.model.specs.Ours.{ours}
-use Rattle.model.specs.Views.{caseIn, planIn, recordAt, noZoneRecord}
+use Rattle.ranges.specs.Views.{caseIn, planIn, recordAt, noZoneRecord}
 use Rattle.model.specs.declared.CaseRecord.{CaseRecord}
 use Rattle.model.specs.declared.ZoneRecord.{ZoneRecord}
 use Rattle.writing.specs.Puts.{Puts, choiceIn, sixIn}

@@ -9,7 +9,7 @@ ghost use Prim.Native.Nat.{_*_, _≤_, _<_};
 ghost use mathlib.Core.List.{_++_};
 ghost use lib.ListN.{length, drop};
 ghost use Rattle.model.specs.Judgement.{ourSurplus};
-ghost use Rattle.model.specs.Views.{caseIn, planIn};
+ghost use Rattle.ranges.specs.Views.{caseIn, planIn};
 ghost use Rattle.writing.specs.Puts.{Room};
 ghost use Rattle.writing.specs.Size.{deviceWidth, zoneWidth, overrunWidth, intervalWidth, needed};
 ghost use Rattle.writing.specs.Whole.{windowsOf, windowsTo};

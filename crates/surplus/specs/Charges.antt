@@ -14,16 +14,16 @@ use Rattle.model.specs.Rules.{EveryRule}
 use Rattle.model.specs.Completion.{Shortfall, shortfalls, shortfallNeed, mismatchNeed, overrunNeed, shortfallCost, mismatchCost}
 use Rattle.model.specs.Completion as C
 use Rattle.model.specs.Ours.{ours, whole}
-use Rattle.model.specs.Ranges.{SixRange}
+use Rattle.ranges.specs.Ranges.{SixRange}
 use Rattle.model.specs.declared.ZoneRecord.{ZoneRecord}
 use Rattle.model.specs.declared.CaseRecord.{CaseRecord}
-use Rattle.model.specs.Views.{caseIn, caseOf, planIn, Ready, noZoneRecord, zoneOf, halvesIn, minimaIn, cellsIn}
-use Rattle.model.specs.Viewed as W
+use Rattle.ranges.specs.Views.{caseIn, caseOf, planIn, Ready, noZoneRecord, zoneOf, halvesIn, minimaIn, cellsIn}
+use Rattle.ranges.specs.Viewed as W
 use Rattle.tables.specs.Cells as Cells
 use Rattle.surplus.specs.Entries.{Entered, entered-as}
 use Rattle.surplus.specs.Ruled.{plan-range-of}
-use Rattle.model.specs.Promise.{six-at}
-use Rattle.model.specs.Sizes.{shortfall-bound, mismatch-bound, overrun-bound}
+use Rattle.theorems.specs.Promise.{six-at}
+use Rattle.theorems.specs.Sizes.{shortfall-bound, mismatch-bound, overrun-bound}
 use Rattle.surplus.specs.Terms.{our}
 
 -- ---- shortfalls

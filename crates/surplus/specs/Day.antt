@@ -10,7 +10,7 @@ use Rattle.numbers.specs.Laws as L
 use Rattle.numbers.specs.Sum.{sumℤ, sum-add, sum-sub, sum-neg, sum-scale, sum-cong, all}
 use Rattle.numbers.specs.Units.{balanceOf}
 use Rattle.numbers.specs.declared.Ledger.{Ledger}
-use Rattle.model.specs.Base.{range, upTo}
+use Rattle.numbers.specs.Base.{range, upTo}
 use Rattle.model.specs.Case.{System, Plan, Case}
 use Rattle.model.specs.Forced.{intervals, devices, zones, device}
 use Rattle.model.specs.Completion.{blockWorth, onCost, changeCost, reservesCost, shortfallCost, mismatchCost, overruns, surplusOf}

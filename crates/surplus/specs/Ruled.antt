@@ -13,21 +13,22 @@ use Rattle.numbers.specs.Bounds.{na}
 use Rattle.numbers.specs.Sum.{All}
 use Rattle.numbers.specs.State.{best, best-is}
 use Rattle.bits.specs.Pick.{pick}
-use Rattle.model.specs.Base.{range}
+use Rattle.numbers.specs.Base.{range}
 use Rattle.model.specs.Case.{System, Plan, Reserves, noCell, noDevice}
 use Rattle.model.specs.Forced.{intervals, devices, device, cell, consuming, cap, u, su, power, setting}
 use Rattle.model.specs.Rules.{blocks, EveryRule}
 use Rattle.model.specs.Completion.{devicePrices, cellPrices, blockPrice, stateCost}
 use Rattle.model.specs.Ours.{ours, bestState, lasts}
-use Rattle.model.specs.Best.{filling-cap}
-use Rattle.model.specs.Tests.{all-range}
-use Rattle.model.specs.Ranges.{PlanRange, SettingRange, DeviceRange, DevicePriceRange, CellRange, CellPriceRange, Eight}
-use Rattle.model.specs.Sizes.{all-at, all-or, all-getD, power-bound}
-use Rattle.model.specs.Promise.{prices-at, cell-prices-at}
+use Rattle.theorems.specs.Best.{filling-cap}
+use Rattle.numbers.specs.Every.{all-range}
+use Rattle.ranges.specs.Ranges.{PlanRange, SettingRange, DeviceRange, DevicePriceRange, CellRange, CellPriceRange, Eight}
+use Rattle.theorems.specs.Sizes.{power-bound}
+use Rattle.numbers.specs.Every.{all-at, all-or, all-getD}
+use Rattle.theorems.specs.Promise.{prices-at, cell-prices-at}
 use Rattle.model.specs.declared.DeviceRecord.{DeviceRecord}
 use Rattle.model.specs.declared.CaseRecord.{CaseRecord}
-use Rattle.model.specs.Views.{caseIn, planIn, planOf, Ready, rows, less, deviceOf, statesOf}
-use Rattle.model.specs.Viewed as W
+use Rattle.ranges.specs.Views.{caseIn, planIn, planOf, Ready, rows, less, deviceOf, statesOf}
+use Rattle.ranges.specs.Viewed as W
 use Rattle.tables.specs.Cells as Cells
 use Rattle.tables.specs.Cells.{CellOf, systemOf, eightAt, reservesIn, planOf as plannedOf}
 use Rattle.dispatch.specs.States.{noState, costOf}

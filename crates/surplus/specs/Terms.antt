@@ -13,16 +13,17 @@ use Rattle.numbers.specs.Z.{nat, _⊕_, _⊝_, by≡}
 use Rattle.numbers.specs.Laws as L
 use Rattle.numbers.specs.Sum.{sumℤ, sumℕ}
 use Rattle.numbers.specs.declared.Ledger.{Ledger}
-use Rattle.model.specs.Base.{range}
+use Rattle.numbers.specs.Base.{range}
 use Rattle.model.specs.Case.{System, Plan, Case, DevicePrices}
 use Rattle.model.specs.Forced.{consuming, duration, u, uBefore, su, sd, power, cap}
 use Rattle.model.specs.Rules.{blocks}
 use Rattle.model.specs.Completion.{Completion, bySide, devicePrices, blockPrice, reserveCost, blockWorth, onCost, changeCost, reservesCost}
-use Rattle.model.specs.Sizes.{bit-le}
+use Rattle.numbers.specs.Every.{bit-le}
+use Rattle.model.specs.Named.{rule19-holds}
 use Rattle.model.specs.Ours.{ours, whole, bestState}
 use Rattle.model.specs.declared.DeviceRecord.{DeviceRecord}
 use Rattle.model.specs.declared.CaseRecord.{CaseRecord}
-use Rattle.model.specs.Views.{caseIn, Ready, deviceOf, less, devicePart, cellsIn}
+use Rattle.ranges.specs.Views.{caseIn, Ready, deviceOf, less, devicePart, cellsIn}
 use Rattle.dispatch.specs.declared.Choice.{Choice}
 use Rattle.tables.specs.declared.Reserves.{Reserves as Eight}
 use Rattle.filling.specs.Filled.{filling-total}
@@ -92,7 +93,7 @@ module _ {d : DeviceRecord} {table plan forced : List ℕ} {t i : ℕ} (w : Rule
 
   total : sumℕ ourBlock blocks ≡ power q p t i
   unfolding ours
-  total = filling-total (consuming q i) (blockPrice k t i) (cap q t i) (power q p t i) (w .rules .cells t i (in-intervals w) (in-devices w) .rule19)
+  total = filling-total (consuming q i) (blockPrice k t i) (cap q t i) (power q p t i) (rule19-holds q p (w .rules) t i (in-intervals w) (in-devices w))
 
   abbrev kept : List ℕ
   kept = fourAt table (rowPlace t i + 8)

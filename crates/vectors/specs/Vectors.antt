@@ -2,7 +2,7 @@
 use mathlib.Core.List.{List, [], _∷_}
 use lib.Dec.{T}
 use lib.IntN.{pos, negsuc}
-use Rattle.model.specs.Base.{every}
+use Rattle.numbers.specs.Base.{every}
 use Rattle.model.specs.Open.{open-rules, open-messages}
 use Rattle.model.specs.Vector.{digits, Row, row, room, agrees}
 

@@ -5,13 +5,14 @@ use mathlib.Core.List.{List}
 use Prim.Native.Nat.{ℕ, _≤_, _<_}
 use borrow.Author.Tests.{le-leb, lt-leb}
 use lib.Dec.{leb}
-use Rattle.bits.specs.declared.Fault.{Fault}
-use Rattle.model.specs.declared.Place.{Place}
+use Rattle.layouts.specs.declared.Fault.{Fault}
+use Rattle.layouts.specs.declared.Place.{Place}
 use Rattle.model.specs.declared.StartWindow.{StartWindow}
 use Rattle.model.specs.declared.EnergyWindow.{EnergyWindow}
-use Rattle.model.specs.Layout.{noted}
-use Rattle.model.specs.Messages.{figure, any, edition1, windowEnds, startWindow, energyWindow}
-use Rattle.model.specs.Views.{startIn, energyIn}
+use Rattle.layouts.specs.Layout.{noted}
+use Rattle.model.specs.Messages.{edition1, windowEnds, startWindow, energyWindow}
+use Rattle.layouts.specs.Layout.{figure, any}
+use Rattle.ranges.specs.Views.{startIn, energyIn}
 use Rattle.fields.specs.declared.Figure.{Figure}
 use Rattle.fields.specs.declared.Figure.the-variants as F
 use Rattle.fields.specs.declared.Went.{Went}

@@ -3,9 +3,9 @@ use mathlib.Core.Path.{_≡_}
 use mathlib.Core.List.{List, map}
 use Prim.Native.Nat.{ℕ, _≤_}
 use lib.ListN.{take}
-use Rattle.model.specs.declared.Place.{Place}
-use Rattle.model.specs.Layout.{Layout, counted}
-use Rattle.model.specs.Messages.{countOf}
+use Rattle.layouts.specs.declared.Place.{Place}
+use Rattle.layouts.specs.Layout.{Layout, counted}
+use Rattle.layouts.specs.Layout.{countOf}
 use Rattle.fields.specs.declared.Went.{Went}
 use Rattle.fields.specs.Got.{got, told}
 

@@ -1,15 +1,15 @@
 // The start windows and the energy windows of a device.
 use fields::Figure;
 use fields::Went;
+use layouts::Place;
 use model::EnergyWindow;
-use model::Place;
 use model::StartWindow;
 ghost use mathlib.Core.Path.{_≡_};
 ghost use mathlib.Core.Bool.{_&&_};
 ghost use lib.Dec.{leb};
-ghost use Rattle.model.specs.Layout.{noted};
+ghost use Rattle.layouts.specs.Layout.{noted};
 ghost use Rattle.model.specs.Messages.{edition1, windowEnds, startWindow, energyWindow};
-ghost use Rattle.model.specs.Views.{startIn, energyIn};
+ghost use Rattle.ranges.specs.Views.{startIn, energyIn};
 ghost use Rattle.fields.specs.Got.{got, told};
 ghost use Rattle.windows.specs.Counted.{Counted};
 

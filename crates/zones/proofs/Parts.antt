@@ -6,10 +6,10 @@ use native.Mathlib.Nat.{suc-mul, mul-le-mul-right}
 use native.Mathlib.Omega.{arith}
 use lib.ListN.{length, getD, set, length-set}
 use lib.Seq.{getD-set-same, getD-set-other}
-use Rattle.bits.specs.declared.Fault.{Fault}
-use Rattle.model.specs.declared.Place.{Place}
-use Rattle.model.specs.Layout.{Layout, list}
-use Rattle.model.specs.Views.{rows, span}
+use Rattle.layouts.specs.declared.Fault.{Fault}
+use Rattle.layouts.specs.declared.Place.{Place}
+use Rattle.layouts.specs.Layout.{Layout, list}
+use Rattle.ranges.specs.Views.{rows, span}
 use Rattle.fields.specs.declared.Went.{Went}
 use Rattle.fields.specs.declared.Went.the-variants as W
 use Rattle.fields.specs.Got.{good, bad, got, told, Natural, went-good, went-bad}

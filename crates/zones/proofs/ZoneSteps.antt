@@ -5,13 +5,14 @@ use Prim.Native.Nat.{ℕ, zero, suc, _+_, _*_, _≤_}
 use native.Mathlib.Omega.{arith}
 use lib.ListN.{length, getD, take}
 use lib.Seq.{take-all}
-use Rattle.bits.specs.declared.Fault.{Fault}
+use Rattle.layouts.specs.declared.Fault.{Fault}
 use Rattle.model.specs.Case.{Zone, Six, Minima}
-use Rattle.model.specs.declared.Place.{Place}
+use Rattle.layouts.specs.declared.Place.{Place}
 use Rattle.model.specs.declared.ZoneRecord.{ZoneRecord}
-use Rattle.model.specs.Layout.{Layout, list, repeated, _then_, held}
-use Rattle.model.specs.Messages.{figure, shares, six, minima, zone}
-use Rattle.model.specs.Views.{rows, zoneOf, minimaAt}
+use Rattle.layouts.specs.Layout.{Layout, list, repeated, _then_, held}
+use Rattle.model.specs.Messages.{shares, six, minima, zone}
+use Rattle.layouts.specs.Layout.{figure}
+use Rattle.ranges.specs.Views.{rows, zoneOf, minimaAt}
 use Rattle.fields.specs.declared.Went.{Went}
 use Rattle.fields.specs.declared.Went.the-variants as W
 use Rattle.fields.specs.Got.{Got, good, bad, got, told, Natural, nat-natural, then-natural, held-natural, goes-on, goes-off, mapped, told-off, went-good, went-bad}

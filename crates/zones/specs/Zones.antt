@@ -4,7 +4,7 @@ use Prim.Native.Nat.{ℕ}
 use lib.ListN.{getD}
 use Rattle.model.specs.Case.{Zone, Six}
 use Rattle.model.specs.declared.ZoneRecord.{ZoneRecord}
-use Rattle.model.specs.Views.{rows, zoneOf, zonePart, noZoneRecord}
+use Rattle.ranges.specs.Views.{rows, zoneOf, zonePart, noZoneRecord}
 
 abbrev pub zoneFrom : List ℕ → ZoneRecord
 zoneFrom v = record {

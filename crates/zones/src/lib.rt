@@ -1,13 +1,13 @@
 // The zones of a case: records by value, and their minima in the table.
 use fields::Went;
-use model::Place;
+use layouts::Place;
 use model::ZoneRecord;
 ghost use mathlib.Core.Path.{_≡_};
 ghost use Prim.Native.Nat.{_≤_};
 ghost use lib.ListN.{length};
-ghost use Rattle.model.specs.Layout.{list};
+ghost use Rattle.layouts.specs.Layout.{list};
 ghost use Rattle.model.specs.Messages.{zone};
-ghost use Rattle.model.specs.Views.{zoneOf};
+ghost use Rattle.ranges.specs.Views.{zoneOf};
 ghost use Rattle.fields.specs.Got.{got, told};
 ghost use Rattle.zones.specs.Zones.{zoneFrom, zonesOf};
 

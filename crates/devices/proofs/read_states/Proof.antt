@@ -1,7 +1,7 @@
 -- `devices::read_states` meets its contract. The loop's invariant: i of the records have been read. Assumes nothing.
 use Prim.Native.Nat.{_-_}
 use borrow.Author.Needs.{needs}
-use Rattle.model.specs.Views.{stateIn}
+use Rattle.ranges.specs.Views.{stateIn}
 use Rattle.devices.specs.Parts.{state}
 use Rattle.windows.proofs.Counting.{Filling, fill-no-count, fill-none, fill-more, fill-off, fill-done}
 use Rattle.devices.proofs.Steps.{state-natural}

@@ -4,9 +4,9 @@ use native.Mathlib.Omega.{arith}
 use Rattle.writing.specs.Size.{overrunWidth}
 use Rattle.writing.specs.Runs.{run}
 use Rattle.numbers.specs.Sum.{sumℤ}
-use Rattle.model.specs.Base.{upTo}
-use Rattle.model.specs.Messages.{any}
-use Rattle.model.specs.Views.{caseIn, planIn}
+use Rattle.numbers.specs.Base.{upTo}
+use Rattle.layouts.specs.Layout.{any}
+use Rattle.ranges.specs.Views.{caseIn, planIn}
 use Rattle.surplus.specs.Charges.{overrunBalance}
 use Rattle.needs.specs.Energies.{halves-of}
 use Rattle.completion.specs.Unbroken.{oursIn, room-at, windows-are}

@@ -3,7 +3,7 @@ use mathlib.Core.Path.{sym, ap}
 use Prim.Native.Nat.{_*_, _-_, _≤_}
 use native.Mathlib.Omega.{arith}
 use lib.ListN.{getD}
-use Rattle.model.specs.Views.{noZoneRecord}
+use Rattle.ranges.specs.Views.{noZoneRecord}
 use Rattle.writing.specs.Size.{zoneWidth}
 use Rattle.completion.specs.Unbroken.{room-at}
 use Rattle.settlement.specs.Spare.{spare-after, spare-room}

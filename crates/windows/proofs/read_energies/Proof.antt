@@ -2,7 +2,7 @@
 use Prim.Native.Nat.{_-_}
 use borrow.Author.Needs.{needs}
 use Rattle.model.specs.Messages.{energyWindow}
-use Rattle.model.specs.Views.{energyIn}
+use Rattle.ranges.specs.Views.{energyIn}
 use Rattle.windows.proofs.Counting.{Filling, fill-no-count, fill-none, fill-more, fill-off, fill-done}
 use Rattle.windows.proofs.Steps.{energy-natural}
 use Rattle.windows.proofs.read_energies.Statement.{statement}

@@ -2,7 +2,7 @@
 use Prim.Native.Nat.{_-_}
 use borrow.Author.Needs.{needs}
 use Rattle.model.specs.Messages.{edition1, startWindow}
-use Rattle.model.specs.Views.{startIn}
+use Rattle.ranges.specs.Views.{startIn}
 use Rattle.windows.proofs.Counting.{Filling, fill-no-count, fill-none, fill-more, fill-off, fill-done}
 use Rattle.windows.proofs.Steps.{start-natural}
 use Rattle.windows.proofs.read_starts.Statement.{statement}

@@ -4,7 +4,7 @@ use mathlib.Core.Path.{refl}
 use native.Mathlib.Omega.{arith}
 use borrow.Author.Needs.{needs}
 use Rattle.model.specs.Messages.{zone}
-use Rattle.model.specs.Views.{zoneOf, noZoneRecord}
+use Rattle.ranges.specs.Views.{zoneOf, noZoneRecord}
 use Rattle.fields.specs.Got.{told-off}
 use Rattle.zones.proofs.ZoneSteps.{zone-natural}
 use Rattle.zones.proofs.Parts.{Fleet, fleet-none, fleet-more, fleet-off, fleet-done}

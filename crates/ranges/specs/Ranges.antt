@@ -1,0 +1,295 @@
+-- The ranges of a case and a plan that pass reading.
+use mathlib.Core.Path.{_≡_}
+use mathlib.Core.List.{List, [], _∷_, map}
+use Prim.Native.Nat.{ℕ, _≤_}
+use native.Mathlib.Omega.{arith}
+use lib.ListN.{length, length-map}
+use lib.IntN.{natAbs}
+use Rattle.numbers.specs.Sum.{All}
+use Rattle.model.specs.Case.{Reserves, Ramps, StartWindow, EnergyWindow, Shares, Six, Minima, Cell, CellPrices, Device, DevicePrices, Zone, System, Prices, Case, Plan, Setting}
+use Rattle.layouts.specs.Layout.{Layout, Field, nat, list, counted, _then_, _▸_, passes, figure, any, countOf}
+use Rattle.model.specs.Messages as M
+use Rattle.model.specs.Messages.{edition1}
+use Rattle.model.specs.Judgement.{readCase, readPlan}
+use Rattle.layouts.specs.Checked.{Checked, nat-checked, int-checked, list-checked, such-checked, held-checked, then-checked, whole-checked, weaken}
+
+pair-checked : {A B : Type 0} (l : Layout A) (m : Layout B) (P : A → Type 0) (Q : B → Type 0) → Checked l P → Checked m Q → Checked (l ▸ m) (λ x. P (x .0) × Q (x .1))
+pair-checked l m P Q u v = then-checked l (λ a. m) P (λ a. Q) u (λ a ok. v)
+
+counted-checked : {A : Type 0} (f : Field) (l : Layout A) (P : A → Type 0) → Checked l P → Checked (counted f l) (λ xs. (length xs ≤ f .high) × All P xs)
+unfolding counted
+counted-checked f l P u = held-checked _ _ _ _ _ (then-checked (nat f) (λ n. list n l) _ (λ n xs. (length xs ≡ n) × All P xs) (nat-checked f) (λ n ok. list-checked n l P u)) (λ a ok. (omega arith, ok .1 .1))
+
+-- a cell: status, pmin and pmax, at most four blocks, each cap
+pub record CellRange (c : Cell) : Type 0 where
+  pub status : c .status ≤ 2
+  pub pmin : c .pmin ≤ 100000
+  pub pmax : c .pmax ≤ 100000
+  pub blocks : length (c .caps) ≤ 4
+  pub caps : All (λ x. x ≤ 100000) (c .caps)
+
+all-firsts : {A B : Type 0} (P : A → Type 0) (Q : B → Type 0) (l : List (A × B)) → All (λ x. P (x .0) × Q (x .1)) l → All P (map (λ x. x .0) l)
+all-firsts P Q [] h = tt
+all-firsts P Q (x ∷ l) h = (h .0 .0, all-firsts P Q l (h .1))
+
+all-seconds : {A B : Type 0} (P : A → Type 0) (Q : B → Type 0) (l : List (A × B)) → All (λ x. P (x .0) × Q (x .1)) l → All Q (map (λ x. x .1) l)
+all-seconds P Q [] h = tt
+all-seconds P Q (x ∷ l) h = (h .0 .1, all-seconds P Q l (h .1))
+
+apart-checked : {A B : Type 0} (l : Layout (List (A × B))) (n : ℕ) (P : A → Type 0) (Q : B → Type 0)
+    → Checked l (λ xs. (length xs ≤ n) × All (λ x. P (x .0) × Q (x .1)) xs) → Checked (M.apart l) (λ v. (length (v .0) ≤ n) × All P (v .0) × All Q (v .1))
+unfolding M.apart
+apart-checked l n P Q u = held-checked _ _ _ _ _ u (λ xs ok. (rw length-map (ok .0), all-firsts P Q xs (ok .1), all-seconds P Q xs (ok .1)))
+
+figure-checked : (w low high : ℕ) → Checked (figure w low high) (λ v. v ≤ high)
+figure-checked w low high = weaken (figure w low high) _ _ (nat-checked (record { width = w; low = low; high = high; wrong = _ })) (λ a ok. ok .1)
+
+-- each of the eight
+pub record Eight (P : ℕ → Type 0) (r : Reserves) : Type 0 where
+  pub rgu : P (r .rgu)
+  pub rgd : P (r .rgd)
+  pub scr : P (r .scr)
+  pub nsc : P (r .nsc)
+  pub rruOn : P (r .rruOn)
+  pub rruOff : P (r .rruOff)
+  pub rrdOn : P (r .rrdOn)
+  pub rrdOff : P (r .rrdOff)
+
+eight-checked : (l : Layout ℕ) (P : ℕ → Type 0) → Checked l P → Checked (M.eight l) (Eight P)
+unfolding M.eight
+eight-checked l P u = held-checked _ _ _ _ _
+    (pair-checked _ _ _ _ u (pair-checked _ _ _ _ u (pair-checked _ _ _ _ u (pair-checked _ _ _ _ u (pair-checked _ _ _ _ u (pair-checked _ _ _ _ u (pair-checked _ _ _ _ u u)))))))
+    (λ v ok. record { rgu = ok .0; rgd = ok .1 .0; scr = ok .1 .1 .0; nsc = ok .1 .1 .1 .0; rruOn = ok .1 .1 .1 .1 .0; rruOff = ok .1 .1 .1 .1 .1 .0; rrdOn = ok .1 .1 .1 .1 .1 .1 .0; rrdOff = ok .1 .1 .1 .1 .1 .1 .1 })
+
+pub record CellPriceRange (c : CellPrices) : Type 0 where
+  pub blocks : All (λ x. natAbs x ≤ 10000) (c .blocks)
+  pub reserves : Eight (λ r. r ≤ 10000) (c .reserves)
+
+cell-checked : Checked M.cell (λ v. CellRange (v .0) × CellPriceRange (v .1))
+unfolding M.cell
+cell-checked = held-checked _ _ _ _ _
+    (pair-checked _ _ _ _ (figure-checked 2 0 2)
+    (pair-checked _ _ _ _ (then-checked M.kW _ _ (λ low high. high ≤ 100000) (figure-checked 17 0 100000) (λ low ok. such-checked _ _ _ (figure-checked 17 0 100000)))
+    (pair-checked _ _ _ _ (apart-checked _ 4 (λ x. x ≤ 100000) (λ x. natAbs x ≤ 10000) (counted-checked (countOf 3 0 4) _ _ (pair-checked _ _ _ _ (figure-checked 17 0 100000) (int-checked 15 10000))))
+    (eight-checked _ _ (figure-checked 14 0 10000)))))
+    (λ v ok. (record { status = ok .0; pmin = ok .1 .0 .0; pmax = ok .1 .0 .1; blocks = ok .1 .1 .0 .0; caps = ok .1 .1 .0 .1 }, record { blocks = ok .1 .1 .0 .2; reserves = ok .1 .1 .1 }))
+
+-- a device: what stands ahead of its intervals, and a cell for each interval
+pub record RampsRange (r : Ramps) : Type 0 where
+  pub up : r .up ≤ 100000
+  pub down : r .down ≤ 100000
+  pub starting : r .starting ≤ 100000
+  pub stopping : r .stopping ≤ 100000
+
+pub record HeadRange (h : M.Head) : Type 0 where
+  pub side : h .side ≤ 1
+  pub zoneBits : h .zoneBits ≤ 15
+  pub on0 : h .on0 ≤ 1
+  pub power0 : h .power0 ≤ 100000
+  pub minutes0 : h .minutes0 ≤ 60000
+  pub minUp : h .minUp ≤ 60000
+  pub minDown : h .minDown ≤ 60000
+  pub ramps : RampsRange (h .ramps)
+
+-- what stands ahead of a device's costs, as the layout groups it
+abbrev pub headOf : Device → M.Head
+headOf d = record { side = d .side; zoneBits = d .zoneBits; on0 = d .on0; power0 = d .power0; minutes0 = d .minutes0; minUp = d .minUp; minDown = d .minDown; ramps = d .ramps }
+
+pub record StartRange (w : StartWindow) : Type 0 where
+  pub from : w .from ≤ 65535
+  pub until : w .until ≤ 65535
+  pub most : w .most ≤ 48
+
+pub record EnergyRange (w : EnergyWindow) : Type 0 where
+  pub kind : w .kind ≤ 1
+  pub from : w .from ≤ 65535
+  pub until : w .until ≤ 65535
+  pub energy : w .energy ≤ 4000000000
+
+pub record DeviceRange (intervals : ℕ) (d : Device) : Type 0 where
+  pub head : HeadRange (headOf d)
+  pub limits : Eight (λ r. r ≤ 100000) (d .limits)
+  pub longest : All (λ x. x ≤ 60000) (d .longest)
+  pub startWindows : All StartRange (d .startWindows)
+  pub states : length (d .longest) ≤ 4
+  pub starts : length (d .startWindows) ≤ 4
+  pub energies : length (d .energyWindows) ≤ 4
+  pub energy : All EnergyRange (d .energyWindows)
+  pub each : length (d .cells) ≡ intervals
+  pub cells : All CellRange (d .cells)
+
+ramps-checked : Checked M.ramps RampsRange
+unfolding M.ramps
+ramps-checked = let u = figure-checked 17 1 100000 in held-checked _ _ _ _ _ (pair-checked _ _ _ _ u (pair-checked _ _ _ _ u (pair-checked _ _ _ _ u u)))
+    (λ v ok. record { up = ok .0; down = ok .1 .0; starting = ok .1 .1 .0; stopping = ok .1 .1 .1 })
+
+head-checked : (zones : ℕ) → Checked (M.head zones) HeadRange
+unfolding M.head M.zoneBits
+head-checked zones = let f = figure-checked 16 0 60000 in let b = figure-checked 1 0 1 in held-checked _ _ _ _ _
+    (pair-checked _ _ _ _ b (pair-checked _ _ _ _ (such-checked _ _ _ (figure-checked 4 0 15)) (pair-checked _ _ _ _ b (pair-checked _ _ _ _ (figure-checked 17 0 100000)
+    (pair-checked _ _ _ _ f (pair-checked _ _ _ _ f (pair-checked _ _ _ _ f ramps-checked)))))))
+    (λ v ok. record { side = ok .0; zoneBits = ok .1 .0; on0 = ok .1 .1 .0; power0 = ok .1 .1 .1 .0; minutes0 = ok .1 .1 .1 .1 .0; minUp = ok .1 .1 .1 .1 .1 .0; minDown = ok .1 .1 .1 .1 .1 .1 .0; ramps = ok .1 .1 .1 .1 .1 .1 .1 })
+
+costs-checked : Checked M.costs (λ x. (x .on ≤ 100000) × (x .start ≤ 1000000000) × (x .stop ≤ 1000000000))
+unfolding M.costs
+costs-checked = let u = figure-checked 30 0 1000000000 in held-checked _ _ _ _ _ (pair-checked _ _ _ _ (figure-checked 17 0 100000) (pair-checked _ _ _ _ u u)) (λ v ok. (ok .0, ok .1 .0, ok .1 .1))
+
+ends-checked : (last : ℕ) → Checked (M.windowEnds last) (λ v. (v .0 ≤ 65535) × (v .1 ≤ 65535))
+unfolding M.windowEnds
+ends-checked last = then-checked (any 16) _ _ (λ a b. b ≤ 65535) (figure-checked 16 0 65535) (λ a ok. such-checked _ _ _ (figure-checked 16 0 65535))
+
+start-checked : (last : ℕ) → Checked (M.startWindow edition1 last) StartRange
+unfolding M.startWindow
+start-checked last = held-checked _ _ _ _ _ (pair-checked _ _ _ _ (ends-checked last) (figure-checked 6 0 48)) (λ v ok. record { from = ok .0 .0; until = ok .0 .1; most = ok .1 })
+
+energy-checked : (last : ℕ) → Checked (M.energyWindow last) EnergyRange
+unfolding M.energyWindow
+energy-checked last = held-checked _ _ _ _ _ (pair-checked _ _ _ _ (figure-checked 1 0 1) (pair-checked _ _ _ _ (ends-checked last) (figure-checked 32 0 4000000000)))
+    (λ v ok. record { kind = ok .0; from = ok .1 .0 .0; until = ok .1 .0 .1; energy = ok .1 .1 })
+
+some-checked : {A B : Type 0} (n : ℕ) (l : Layout (A × B)) (P : A → Type 0) (Q : B → Type 0) → Checked l (λ x. P (x .0) × Q (x .1))
+    → Checked (M.apart (list n l)) (λ v. (length (v .0) ≡ n) × All P (v .0) × All Q (v .1))
+unfolding M.apart
+some-checked n l P Q u = held-checked _ _ _ _ _ (list-checked n l (λ x. P (x .0) × Q (x .1)) u) (λ xs ok. (rw length-map (ok .0), all-firsts P Q xs (ok .1), all-seconds P Q xs (ok .1)))
+
+pub record DevicePriceRange (x : DevicePrices) : Type 0 where
+  pub on : x .onCost ≤ 100000
+  pub start : x .startCost ≤ 1000000000
+  pub stop : x .stopCost ≤ 1000000000
+  pub states : All (λ z. natAbs z ≤ 1000000000) (x .stateCosts)
+  pub cells : All CellPriceRange (x .cells)
+
+device-checked : (intervals zones last : ℕ) → Checked (M.device edition1 intervals zones last) (λ v. DeviceRange intervals (v .0) × DevicePriceRange (v .1))
+unfolding M.device
+device-checked n zones last = held-checked _ _ _ _ _
+    (pair-checked _ _ _ _ (head-checked zones)
+    (pair-checked _ _ _ _ costs-checked
+    (pair-checked _ _ _ _ (eight-checked _ _ (figure-checked 17 0 100000))
+    (pair-checked _ _ _ _ (apart-checked _ 4 (λ x. x ≤ 60000) (λ z. natAbs z ≤ 1000000000) (counted-checked (countOf 3 0 4) _ _ (pair-checked _ _ _ _ (figure-checked 16 0 60000) (int-checked 31 1000000000))))
+    (pair-checked _ _ _ _ (counted-checked (countOf 3 0 4) _ _ (start-checked last))
+    (pair-checked _ _ _ _ (counted-checked (countOf 3 0 4) _ _ (energy-checked last))
+    (some-checked n M.cell CellRange CellPriceRange cell-checked)))))))
+    (λ v ok. (
+      record { head = ok .0; limits = ok .1 .1 .0; longest = ok .1 .1 .1 .0 .1; startWindows = ok .1 .1 .1 .1 .0 .1; states = ok .1 .1 .1 .0 .0; starts = ok .1 .1 .1 .1 .0 .0; energies = ok .1 .1 .1 .1 .1 .0 .0; energy = ok .1 .1 .1 .1 .1 .0 .1; each = ok .1 .1 .1 .1 .1 .1 .0; cells = ok .1 .1 .1 .1 .1 .1 .1 },
+      record { on = ok .1 .0 .0; start = ok .1 .0 .1; stop = ok .1 .0 .2; states = ok .1 .1 .1 .0 .2; cells = ok .1 .1 .1 .1 .1 .1 .2 },
+    ))
+
+pub record SharesRange (s : Shares) : Type 0 where
+  pub rgu : s .rgu ≤ 1000
+  pub rgd : s .rgd ≤ 1000
+  pub scr : s .scr ≤ 1000
+  pub nsc : s .nsc ≤ 1000
+
+pub record MinimaRange (m : Minima) : Type 0 where
+  pub rru : m .rru ≤ 6400000
+  pub rrd : m .rrd ≤ 6400000
+
+pub record ZoneRange (z : Zone) : Type 0 where
+  pub shares : SharesRange (z .shares)
+  pub minima : All MinimaRange (z .minima)
+
+shares-checked : Checked M.shares SharesRange
+unfolding M.shares
+shares-checked = let u = figure-checked 10 0 1000 in held-checked _ _ _ _ _ (pair-checked _ _ _ _ u (pair-checked _ _ _ _ u (pair-checked _ _ _ _ u u)))
+    (λ v ok. record { rgu = ok .0; rgd = ok .1 .0; scr = ok .1 .1 .0; nsc = ok .1 .1 .1 })
+
+minima-checked : Checked M.minima MinimaRange
+unfolding M.minima
+minima-checked = let u = figure-checked 23 0 6400000 in held-checked _ _ _ _ _ (pair-checked _ _ _ _ u u) (λ v ok. record { rru = ok .0; rrd = ok .1 })
+
+pub record SixRange (r : Six) : Type 0 where
+  pub rgu : r .rgu ≤ 100
+  pub rgd : r .rgd ≤ 100
+  pub scr : r .scr ≤ 100
+  pub nsc : r .nsc ≤ 100
+  pub rru : r .rru ≤ 100
+  pub rrd : r .rrd ≤ 100
+
+six-checked : Checked (M.six (figure 7 1 100)) SixRange
+unfolding M.six
+six-checked = let u = figure-checked 7 1 100 in held-checked _ _ _ _ _ (pair-checked _ _ _ _ u (pair-checked _ _ _ _ u (pair-checked _ _ _ _ u (pair-checked _ _ _ _ u (pair-checked _ _ _ _ u u))))) (λ v ok. record { rgu = ok .0; rgd = ok .1 .0; scr = ok .1 .1 .0; nsc = ok .1 .1 .1 .0; rru = ok .1 .1 .1 .1 .0; rrd = ok .1 .1 .1 .1 .1 })
+
+zone-checked : (intervals : ℕ) → Checked (M.zone intervals) (λ v. ZoneRange (v .0) × SixRange (v .1))
+unfolding M.zone
+zone-checked n = held-checked _ _ _ _ _ (pair-checked _ _ _ _ shares-checked (pair-checked _ _ _ _ six-checked (list-checked n M.minima _ minima-checked)))
+    (λ v ok. (record { shares = ok .0; minima = ok .1 .1 .1 }, ok .1 .0))
+
+-- the quantities of a case
+pub record SystemRange (q : System) : Type 0 where
+  pub someInterval : 1 ≤ length (q .halves)
+  pub intervals : length (q .halves) ≤ 48
+  pub halves : All (λ h. h ≤ 180) (q .halves)
+  pub someDevice : 1 ≤ length (q .devices)
+  pub devices : length (q .devices) ≤ 16
+  pub eachDevice : All (DeviceRange (length (q .halves))) (q .devices)
+  pub zones : length (q .zones) ≤ 4
+  pub eachZone : All ZoneRange (q .zones)
+
+counts-checked : (kind : ℕ) → Checked (M.counts kind edition1) (λ n. ((1 ≤ n .devices) × (n .devices ≤ 16)) × ((1 ≤ n .intervals) × (n .intervals ≤ 48)) × (n .zones ≤ 4))
+unfolding M.counts
+counts-checked kind = held-checked _ _ _ _ _
+    (pair-checked _ _ _ _ (nat-checked _) (pair-checked _ _ _ _ (nat-checked _) (pair-checked _ _ _ _ (nat-checked _) (pair-checked _ _ _ _ (nat-checked _) (nat-checked _)))))
+    (λ v ok. (ok .1 .1 .0, ok .1 .1 .1 .0, ok .1 .1 .1 .1 .1))
+
+-- the prices of a case
+pub record PricesRange (x : Prices) : Type 0 where
+  pub mismatch : x .mismatch ≤ 10000
+  pub overrun : x .overrun ≤ 10000
+  pub zones : All SixRange (x .zones)
+  pub devices : All DevicePriceRange (x .devices)
+
+pub record CaseRange (c : Case) : Type 0 where
+  pub system : SystemRange (c .system)
+  pub prices : PricesRange (c .prices)
+
+pub case-checked : Checked (M.caseLayout edition1) CaseRange
+unfolding M.caseLayout
+case-checked = held-checked _ _ _ _ _
+    (then-checked (M.counts 1 edition1) _ _ _ (counts-checked 1) (λ n ok.
+    pair-checked _ _ _ _ (figure-checked 14 1 10000) (pair-checked _ _ _ _ (figure-checked 14 1 10000)
+    (then-checked (list (n .intervals) (figure 8 1 180)) _ _ _ (list-checked _ _ _ (figure-checked 8 1 180)) (λ halves h.
+    pair-checked _ _ _ _ (some-checked (n .zones) _ ZoneRange SixRange (zone-checked (n .intervals))) (some-checked (n .devices) _ (DeviceRange (n .intervals)) DevicePriceRange (device-checked (n .intervals) (n .zones) _)))))))
+    (λ v ok. let h = ok .1 .1 .1 .0 in let z = ok .1 .1 .1 .1 .0 in let d = ok .1 .1 .1 .1 .1 in record {
+      system = record {
+        someInterval = omega arith;
+        intervals = omega arith;
+        halves = h .1;
+        someDevice = omega arith;
+        devices = omega arith;
+        eachDevice = rw (h .0) (d .1);
+        zones = omega arith;
+        eachZone = z .1;
+      };
+      prices = record { mismatch = ok .1 .0; overrun = ok .1 .1 .0; zones = z .2; devices = d .2 };
+    })
+
+-- a case that passes reading is within its ranges
+pub case-range : (s : List ℕ) (c : Case) → readCase s ≡ passes c → CaseRange c
+unfolding readCase
+case-range s c e = whole-checked (M.caseLayout edition1) CaseRange case-checked s c e
+
+-- the settings of a plan
+pub record SettingRange (x : Setting) : Type 0 where
+  pub on : x .on ≤ 1
+  pub online : x .online ≤ 100000
+  pub reserves : Eight (λ r. r ≤ 100000) (x .reserves)
+
+pub record PlanRange (q : System) (p : Plan) : Type 0 where
+  pub intervals : length (p .settings) ≡ length (q .halves)
+  pub each : All (λ row. (length row ≡ length (q .devices)) × All SettingRange row) (p .settings)
+
+setting-checked : Checked M.setting SettingRange
+unfolding M.setting
+setting-checked = held-checked _ _ _ _ _ (pair-checked _ _ _ _ (figure-checked 1 0 1) (pair-checked _ _ _ _ (figure-checked 17 0 100000) (eight-checked _ _ (figure-checked 17 0 100000))))
+    (λ v ok. record { on = ok .0; online = ok .1 .0; reserves = ok .1 .1 })
+
+pub plan-checked : (q : System) → Checked (M.planLayout edition1 (length (q .devices)) (length (q .halves))) (PlanRange q)
+unfolding M.planLayout
+plan-checked q = held-checked _ _ _ _ _
+    (pair-checked _ _ _ _ (nat-checked _) (pair-checked _ _ _ _ (nat-checked _) (pair-checked _ _ _ _ (nat-checked _) (pair-checked _ _ _ _ (nat-checked _)
+    (list-checked _ _ _ (list-checked _ M.setting SettingRange setting-checked))))))
+    (λ v ok. record { intervals = ok .1 .1 .1 .1 .0; each = ok .1 .1 .1 .1 .1 })
+
+pub plan-range : (q : System) (s : List ℕ) (p : Plan) → readPlan q s ≡ passes p → PlanRange q p
+unfolding readPlan
+plan-range q s p e = whole-checked _ (PlanRange q) (plan-checked q) s p e

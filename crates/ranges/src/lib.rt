@@ -1,0 +1,1 @@
+// No code: what passes reading lies within its ranges.

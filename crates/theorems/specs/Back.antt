@@ -1,0 +1,114 @@
+-- A written completion reads back, where each figure fits its field.
+use mathlib.Core.Path.{_≡_, refl}
+use Prim.Native.Nat.{ℕ, _+_, _-_, _^_, _≤_, _<_}
+use native.Mathlib.Omega.{arith}
+use lib.ListN.{length}
+use lib.IntN.{natAbs}
+use Rattle.numbers.specs.Sum.{All}
+use Rattle.model.specs.Case.{Six, Case, Plan}
+use Rattle.layouts.specs.Layout.{Layout, _then_, _▸_, readWhole, passes}
+use Rattle.model.specs.Messages.{Edition, edition1, Counts, six, deviceChoice, intervalChoice, completionLayout, counts, DeviceChoice, IntervalChoice, Written}
+use Rattle.layouts.specs.Layout.{any, countOf}
+use Rattle.model.specs.Judgement.{written, countsOf, energyWindows, ourSurplus, completionBytes}
+use Rattle.model.specs.Ours.{ours}
+use Rattle.layouts.specs.Trip.{Lawful, nat-law, int-law, then-law, held-law, list-law, weaken, whole-back, Fits}
+
+-- ---- what fits
+
+pub record FitsSix (r : Six) : Type 0 where
+  pub rgu : r .rgu ≤ 2 ^ 33 - 1
+  pub rgd : r .rgd ≤ 2 ^ 33 - 1
+  pub scr : r .scr ≤ 2 ^ 33 - 1
+  pub nsc : r .nsc ≤ 2 ^ 33 - 1
+  pub rru : r .rru ≤ 2 ^ 33 - 1
+  pub rrd : r .rrd ≤ 2 ^ 33 - 1
+
+pub record FitsDevice (r : DeviceChoice) : Type 0 where
+  pub started : r .started ≤ 1
+  pub stopped : r .stopped ≤ 1
+  pub state : r .state ≤ 7
+  pub four : length (r .blocks) ≡ 4
+  pub blocks : All (λ b. b ≤ 2 ^ 17 - 1) (r .blocks)
+
+pub record FitsInterval (n : Counts) (r : IntervalChoice) : Type 0 where
+  pub each : length (r .devices) ≡ n .devices
+  pub devices : All FitsDevice (r .devices)
+  pub every : length (r .zones) ≡ n .zones
+  pub zones : All FitsSix (r .zones)
+  pub mismatch : r .mismatch ≤ 2 ^ 23 - 1
+
+pub record FitsWritten (e : Edition) (n : Counts) (windows : ℕ) (r : Written) : Type 0 where
+  pub devices : (1 ≤ n .devices) × (n .devices ≤ e .mostDevices)
+  pub intervals : (1 ≤ n .intervals) × (n .intervals ≤ e .mostIntervals)
+  pub zones : n .zones ≤ 4
+  pub length : length (r .intervals) ≡ n .intervals
+  pub each : All (FitsInterval n) (r .intervals)
+  pub count : lib.ListN.length (r .overruns) ≡ windows
+  pub overruns : All (λ x. x ≤ 2 ^ 32 - 1) (r .overruns)
+  pub surplus : Fits 64 (r .surplus)
+  pub size : natAbs (r .surplus) ≤ 2 ^ 63
+
+-- ---- laws of the parts
+
+pair-law : {A B : Type 0} (l : Layout A) (m : Layout B) (P : A → Type 0) (Q : B → Type 0) → Lawful l P → Lawful m Q → Lawful (l ▸ m) (λ x. P (x .0) × Q (x .1))
+pair-law l m P Q u v = then-law l (λ a. m) P (λ a. Q) u (λ a ok. v)
+
+any-law : (w : ℕ) → 0 < 2 ^ w → Lawful (any w) (λ v. v ≤ 2 ^ w - 1)
+any-law w h = weaken (any w) _ _ (nat-law (record { width = w; low = 0; high = 2 ^ w - 1; wrong = _ }) (omega arith)) (λ a ok. (omega arith, ok))
+
+six-law : Lawful (six (any 33)) FitsSix
+unfolding six
+six-law = let u = any-law 33 (omega arith) in
+    weaken _ _ _ (held-law _ _ _ _ (pair-law _ _ _ _ u (pair-law _ _ _ _ u (pair-law _ _ _ _ u (pair-law _ _ _ _ u (pair-law _ _ _ _ u u))))))
+    (λ r ok. ((ok .rgu, (ok .rgd, (ok .scr, (ok .nsc, (ok .rru, ok .rrd))))), refl))
+
+device-law : Lawful deviceChoice FitsDevice
+unfolding deviceChoice
+device-law =
+    weaken _ _ _ (held-law _ _ _ _ (pair-law _ _ _ _ (any-law 1 (omega arith)) (pair-law _ _ _ _ (any-law 1 (omega arith)) (pair-law _ _ _ _ (any-law 3 (omega arith)) (list-law 4 (any 17) _ (any-law 17 (omega arith)))))))
+    (λ r ok. ((ok .started, (ok .stopped, (ok .state, (ok .four, ok .blocks)))), refl))
+
+interval-law : (n : Counts) → Lawful (intervalChoice (n .devices) (n .zones)) (FitsInterval n)
+unfolding intervalChoice
+interval-law n =
+    weaken _ _ _ (held-law _ _ _ _ (pair-law _ _ _ _ (list-law (n .devices) deviceChoice FitsDevice device-law) (pair-law _ _ _ _ (list-law (n .zones) (six (any 33)) FitsSix six-law) (any-law 23 (omega arith)))))
+    (λ r ok. (((ok .each, ok .devices), ((ok .every, ok .zones), ok .mismatch)), refl))
+
+-- what an edition's widths must hold
+pub record Roomy (e : Edition) : Type 0 where
+  pub number : e .number < 2 ^ 4
+  pub devices : e .mostDevices < 2 ^ e .deviceBits
+  pub intervals : e .mostIntervals < 2 ^ e .intervalBits
+
+pub roomy1 : Roomy edition1
+roomy1 = omega arith
+
+counts-law : (kind : ℕ) (e : Edition) → kind < 2 ^ 4 → Roomy e
+    → Lawful (counts kind e) (λ n. ((1 ≤ n .devices) × (n .devices ≤ e .mostDevices)) × ((1 ≤ n .intervals) × (n .intervals ≤ e .mostIntervals)) × (n .zones ≤ 4))
+unfolding counts
+counts-law kind e k r =
+    weaken _ _ _ (held-law _ _ _ _
+    (pair-law _ _ _ _ (nat-law (record { width = 4; low = kind; high = kind; wrong = _ }) k)
+    (pair-law _ _ _ _ (nat-law (record { width = 4; low = e .number; high = e .number; wrong = _ }) (r .number))
+    (pair-law _ _ _ _ (nat-law (countOf (e .deviceBits) 1 (e .mostDevices)) (r .devices))
+    (pair-law _ _ _ _ (nat-law (countOf (e .intervalBits) 1 (e .mostIntervals)) (r .intervals))
+    (nat-law (countOf 3 0 4) (omega arith)))))))
+    (λ n ok. (((omega arith, omega arith), ((omega arith, omega arith), (ok .0, (ok .1, (omega arith, ok .2))))), refl))
+
+completion-law : (e : Edition) → Roomy e → (n : Counts) (windows : ℕ) → Lawful (completionLayout e n windows) (FitsWritten e n windows)
+unfolding completionLayout
+completion-law e r n windows =
+    weaken _ _ _ (held-law _ _ _ _
+    (pair-law _ _ _ _ (counts-law 3 e (omega arith) r)
+    (pair-law _ _ _ _ (list-law (n .intervals) (intervalChoice (n .devices) (n .zones)) (FitsInterval n) (interval-law n))
+    (pair-law _ _ _ _ (list-law windows (any 32) _ (any-law 32 (omega arith)))
+    (int-law 64 (2 ^ 63))))))
+    (λ x ok. (((ok .devices, ok .intervals, ok .zones), ((ok .length, ok .each), ((ok .count, ok .overruns), (ok .surplus, ok .size)))), refl))
+
+-- "exactly the completion's bytes": they read back as our completion with the surplus reported
+pub reads-back : (c : Case) (p : Plan)
+    → FitsWritten edition1 (countsOf (c .system)) (energyWindows (c .system)) (written (c .system) (ours c p) (ourSurplus c p))
+    → length (completionLayout edition1 (countsOf (c .system)) (energyWindows (c .system)) .write (written (c .system) (ours c p) (ourSurplus c p))) + 8 < 2 ^ 63
+    → readWhole (completionLayout edition1 (countsOf (c .system)) (energyWindows (c .system))) (completionBytes c p) ≡ passes (written (c .system) (ours c p) (ourSurplus c p))
+unfolding completionBytes
+reads-back c p fits small = whole-back _ _ (completion-law edition1 roomy1 (countsOf (c .system)) (energyWindows (c .system))) _ fits small

@@ -1,0 +1,181 @@
+-- Item 3's theorem over the figures: ours meets every rule where one can be met, and no completion that meets every rule has a greater surplus.
+use mathlib.Core.Path.{_≡_, refl, _∙_, ap}
+use mathlib.Core.Logic.{inl, inr}
+use mathlib.Core.Bool.{Bool, true, false}
+use mathlib.Core.List.{List, [], _∷_}
+use Prim.Native.Nat.{ℕ, zero, suc, _+_, _*_, _≤_, _<_}
+use native.Mathlib.Omega.{arith}
+use lib.Dec.{T, leb, eqb, leb→le, le→leb, eqb→eq}
+use lib.ListN.{length, getD}
+use lib.IntN.{ℤ, pos, _+ℤ_, _*ℤ_}
+use lib.Signed.{_≤ℤ_}
+use Rattle.numbers.specs.Laws as L
+use Rattle.numbers.specs.Sum.{sumℤ, All, all, sum-mono, sumℕ, sumℕ-pos}
+use Rattle.numbers.specs.Threshold.{Within}
+use Rattle.numbers.specs.Blocks.{Asc, cheapest, dearest, cheapest-least, dearest-most, cheapest-total, dearest-total, cheapest-cap, dearest-cap}
+use Rattle.numbers.specs.State.{best, Beats, best-beats, best-is}
+use Rattle.bits.specs.Pick.{pick}
+use Rattle.numbers.specs.Base.{range, upTo}
+use Rattle.model.specs.Case.{System, Plan, Case, noSix}
+use Rattle.model.specs.Forced.{intervals, devices, zones, device, cap, consuming, duration, su, sd, power}
+use Rattle.model.specs.Rules.{blocks}
+use Rattle.model.specs.Completion as C
+use Rattle.model.specs.Completion.{Completion, Shortfall, shortfalls, Meets, StateAllowed, MayUse, bySide, stateCost, shortfallPrice, surplusOf, shortfallNeed, mismatchNeed, overrunNeed, blockPrice}
+use Rattle.model.specs.Breaches.{breaches}
+use Rattle.model.specs.Ours.{filling, lasts, bestState, ours, whole}
+use Rattle.model.specs.Tests.{same}
+use Rattle.model.specs.Named.{none-every, rule19-holds}
+use Rattle.numbers.specs.Every.{all-range, range-all, all-upTo}
+
+-- ---- block powers
+
+asc-blocks : Asc blocks
+unfolding range
+asc-blocks = omega arith
+
+module _ (price : ℕ → ℤ) (most : ℕ → ℕ) (p : ℕ) where
+  pub filling-cap : (b : Bool) (k : ℕ) → filling b price most p k ≤ most k
+  unfolding filling
+  filling-cap false k = cheapest-cap price most p blocks k
+  filling-cap true k = dearest-cap price most p blocks k
+
+  filling-total : (b : Bool) → p ≤ sumℕ most blocks → sumℤ (λ k. pos (filling b price most p k)) blocks ≡ pos p
+  unfolding filling
+  filling-total false h = sumℕ-pos (cheapest price most p blocks) blocks ∙ ap pos (cheapest-total price most p blocks asc-blocks h)
+  filling-total true h = sumℕ-pos (dearest price most p blocks) blocks ∙ ap pos (dearest-total price most p blocks asc-blocks h)
+
+  filling-best : (b : Bool) → p ≤ sumℕ most blocks → (x : ℕ → ℤ) → All (λ k. Within (most k) (x k)) blocks → sumℤ x blocks ≡ pos p
+      → bySide b (sumℤ (λ k. price k *ℤ x k) blocks) ≤ℤ bySide b (sumℤ (λ k. price k *ℤ pos (filling b price most p k)) blocks)
+  unfolding filling
+  filling-best false h x w e = L.neg-mono (cheapest-least price most p blocks asc-blocks h x w e)
+  filling-best true h x w e = dearest-most price most p blocks asc-blocks h x w e
+
+-- ---- startup states
+
+asc-range : (k n : ℕ) → Asc (range k n)
+unfolding range
+asc-range k zero = tt
+asc-range k (suc n) = (all-range (λ j. k < j) (suc k) n (λ j a b. omega arith), asc-range (suc k) n)
+
+asc-from-0 : (n : ℕ) → Asc (0 ∷ range 1 n)
+asc-from-0 n = (all-range (λ j. 0 < j) 1 n (λ j a b. omega arith), asc-range 1 n)
+
+module _ (c : Case) (p : Plan) (t i : ℕ) where
+  abbrev cost : ℕ → ℤ
+  cost n = stateCost c i (pos n)
+
+  abbrev states : List ℕ
+  states = range 1 (length (device (c .system) i .longest))
+
+  our-state-allowed : StateAllowed (c .system) p t i (pos (bestState c p t i))
+  unfolding bestState lasts
+  our-state-allowed = go (eqb (su (c .system) p t i) 1) (λ h. eqb→eq _ _ h)
+    where
+      each : su (c .system) p t i ≡ 1 → (k : ℕ) → 1 ≤ k → k < 1 + length (device (c .system) i .longest) → T (lasts (c .system) p t i k) → StateAllowed (c .system) p t i (pos k)
+      each s zero a b h = inl refl
+      each s (suc k) a b h = inr (k, refl, record { starts = s; known = omega arith; longEnough = leb→le _ _ h })
+
+      go : (b : Bool) → (T b → su (c .system) p t i ≡ 1) → StateAllowed (c .system) p t i (pos (pick b (best cost (lasts (c .system) p t i) 0 states) 0))
+      go true s = best-is cost (lasts (c .system) p t i) (λ n. StateAllowed (c .system) p t i (pos n)) 0 states
+          (inl refl) (all-range (λ k. T (lasts (c .system) p t i k) → StateAllowed (c .system) p t i (pos k)) 1 _ (each (s tt)))
+      go false s = inl refl
+
+  state-least : (z : ℤ) → StateAllowed (c .system) p t i z → stateCost c i (pos (bestState c p t i)) ≤ℤ stateCost c i z
+  unfolding bestState lasts
+  state-least z a = go (eqb (su (c .system) p t i) 1) (λ s. same s) a
+    where
+      beats : Beats cost (best cost (lasts (c .system) p t i) 0 states) 0 × All (λ j. T (lasts (c .system) p t i j) → Beats cost (best cost (lasts (c .system) p t i) 0 states) j) states
+      beats = best-beats cost (lasts (c .system) p t i) 0 states (asc-from-0 _)
+
+      each : (k : ℕ) → MayUse (c .system) p t i k → cost (best cost (lasts (c .system) p t i) 0 states) ≤ℤ cost (suc k)
+      each k m = range-all (λ j. T (lasts (c .system) p t i j) → Beats cost (best cost (lasts (c .system) p t i) 0 states) j) 1 _ (beats .1) (suc k) (omega arith) (omega (arith, m .known)) (le→leb _ _ (m .longEnough)) .less
+
+      go : (b : Bool) → (su (c .system) p t i ≡ 1 → T b) → StateAllowed (c .system) p t i z → stateCost c i (pos (pick b (best cost (lasts (c .system) p t i) 0 states) 0)) ≤ℤ stateCost c i z
+      go true s (inl e) = rw e (beats .0 .less)
+      go true s (inr k) = rw (k .1) (each (k .0) (k .2))
+      go false s (inl e) = rw e (L.≤-refl (cost 0))
+      go false s (inr k) = absurd (s (k .2 .starts))
+
+-- ---- sums over the day
+
+module _ (n m : ℕ) (f g : ℕ → ℕ → ℤ) (h : (t i : ℕ) → t < n → i < m → f t i ≤ℤ g t i) where
+  day-mono : sumℤ (λ t. sumℤ (f t) (upTo m)) (upTo n) ≤ℤ sumℤ (λ t. sumℤ (g t) (upTo m)) (upTo n)
+  day-mono = sum-mono (λ t. sumℤ (f t) (upTo m)) (λ t. sumℤ (g t) (upTo m)) (upTo n)
+      (all-upTo (λ t. sumℤ (f t) (upTo m) ≤ℤ sumℤ (g t) (upTo m)) n (λ t l. sum-mono (f t) (g t) (upTo m) (all-upTo (λ i. f t i ≤ℤ g t i) m (λ i k. h t i l k))))
+
+-- ---- the theorem
+
+module _ (c : Case) (p : Plan) where
+  abbrev q : System
+  q = c .system
+
+  abbrev our : Completion ℤ
+  our = whole (ours c p)
+
+  -- where no rule is broken, ours meets every rule
+  pub ours-meets : breaches q p ≡ [] → Meets q p our
+  unfolding whole ours
+  ours-meets e = let r = none-every q p e in record {
+    rules = r;
+    started = λ t i l m. refl;
+    stopped = λ t i l m. refl;
+    within = λ t i k l m n. record {
+      low = L.pos-nonneg (filling (consuming q i) (blockPrice c t i) (cap q t i) (power q p t i) k);
+      high = L.pos-mono (filling-cap (blockPrice c t i) (cap q t i) (power q p t i) (consuming q i) k);
+    };
+    filled = λ t i l m. filling-total (blockPrice c t i) (cap q t i) (power q p t i) (consuming q i) (rule19-holds q p r t i l m);
+    state = λ t i l m. our-state-allowed c p t i;
+    shortfall = λ t z k l m. record { enough = L.short-meets (shortfallNeed q p t z k); notNegative = L.pos-nonneg (L.maxZero (shortfallNeed q p t z k)) };
+    mismatch = λ t l. record { enough = L.≤-refl (pos (mismatchNeed q p t)); notNegative = L.pos-nonneg (mismatchNeed q p t) };
+    overrun = λ i w l m. record { enough = L.short-meets (overrunNeed q p i w); notNegative = L.pos-nonneg (L.maxZero (overrunNeed q p i w)) };
+  }
+
+  module _ (x : Completion ℤ) (m : Meets q p x) where
+    blocks-best : (t i : ℕ) → t < intervals q → i < devices q → C.blockWorth c p x t i ≤ℤ C.blockWorth c p our t i
+    unfolding C.blockWorth whole ours
+    blocks-best t i l k = L.mul-mono (pos (duration q t)) _ _ (L.pos-nonneg (duration q t))
+        (filling-best (blockPrice c t i) (cap q t i) (power q p t i) (consuming q i) (rule19-holds q p (m .rules) t i l k) (x .block t i)
+        (all-upTo (λ n. Within (cap q t i n) (x .block t i n)) 4 (λ n j. m .within t i n l k j)) (m .filled t i l k))
+
+    changes-least : (t i : ℕ) → t < intervals q → i < devices q → C.changeCost c p our t i ≤ℤ C.changeCost c p x t i
+    unfolding C.changeCost whole ours
+    changes-least t i l k = rw (m .started t i l k, m .stopped t i l k) (L.add-mono-l (pos (C.devicePrices c i .startCost) *ℤ pos (su q p t i) +ℤ pos (C.devicePrices c i .stopCost) *ℤ pos (sd q p t i)) (state-least c p t i (x .state t i) (m .state t i l k)))
+
+    on-same : (t i : ℕ) → t < intervals q → i < devices q → C.onCost c p our t i ≤ℤ C.onCost c p x t i
+    unfolding C.onCost
+    on-same t i l k = L.≤-refl _
+
+    reserves-same : (t i : ℕ) → t < intervals q → i < devices q → C.reservesCost c p our t i ≤ℤ C.reservesCost c p x t i
+    unfolding C.reservesCost
+    reserves-same t i l k = L.≤-refl _
+
+    shortfalls-least : (t z : ℕ) → t < intervals q → z < zones q → C.shortfallCost c p our t z ≤ℤ C.shortfallCost c p x t z
+    unfolding C.shortfallCost whole ours
+    shortfalls-least t z l k = L.mul-mono (pos (duration q t)) _ _ (L.pos-nonneg (duration q t))
+        (sum-mono (λ s. pos (price s) *ℤ our .shortfall t z s) (λ s. pos (price s) *ℤ x .shortfall t z s) shortfalls (all (λ s. L.mul-mono (pos (price s)) _ _ (L.pos-nonneg (price s))
+        (L.short-least (shortfallNeed q p t z s) (x .shortfall t z s) (m .shortfall t z s l k .enough) (m .shortfall t z s l k .notNegative))) shortfalls))
+      where
+        price : Shortfall → ℕ
+        price s = shortfallPrice (getD (c .prices .zones) z noSix) s
+
+    mismatch-least : (t : ℕ) → t < intervals q → C.mismatchCost c p our t ≤ℤ C.mismatchCost c p x t
+    unfolding C.mismatchCost whole ours
+    mismatch-least t l = L.mul-mono (pos (duration q t)) _ _ (L.pos-nonneg (duration q t)) (L.mul-mono (pos (c .prices .mismatch)) _ _ (L.pos-nonneg (c .prices .mismatch)) (m .mismatch t l .enough))
+
+    overruns-least : (i : ℕ) → i < devices q → C.overruns c p our i ≤ℤ C.overruns c p x i
+    unfolding C.overruns whole ours
+    overruns-least i l = sum-mono _ _ (upTo (length (device q i .energyWindows)))
+        (all-upTo _ _ (λ w k. L.short-least (overrunNeed q p i w) (x .overrun i w) (m .overrun i w l k .enough) (m .overrun i w l k .notNegative)))
+
+    -- no completion that meets every rule has a greater surplus
+    pub ours-best : surplusOf c p x ≤ℤ surplusOf c p our
+    unfolding surplusOf
+    ours-best =
+        L.sub-mono (L.sub-mono (L.sub-mono (L.sub-mono (L.sub-mono (L.sub-mono
+        (day-mono (intervals q) (devices q) _ _ blocks-best)
+        (day-mono (intervals q) (devices q) _ _ on-same))
+        (day-mono (intervals q) (devices q) _ _ changes-least))
+        (day-mono (intervals q) (devices q) _ _ reserves-same))
+        (day-mono (intervals q) (zones q) _ _ shortfalls-least))
+        (sum-mono _ _ (upTo (intervals q)) (all-upTo _ _ mismatch-least)))
+        (L.mul-mono (pos (c .prices .overrun)) _ _ (L.pos-nonneg (c .prices .overrun)) (sum-mono _ _ (upTo (devices q)) (all-upTo _ _ overruns-least)))

@@ -1,0 +1,5 @@
+pub mod Best
+pub mod Theorem
+pub mod Back
+pub mod Sizes
+pub mod Promise

@@ -1,0 +1,245 @@
+-- The three promises, on messages: what judging the bytes of a case and a plan gives back, for any bytes and any result buffer.
+use mathlib.Core.Path.{_≡_, refl, sym, _∙_, ap, subst}
+use mathlib.Core.List.{List, [], _∷_, _++_}
+use Prim.Native.Nat.{ℕ, zero, suc, _+_, _-_, _*_, _^_, _≤_, _<_}
+use native.Mathlib.Omega.{arith}
+use native.Mathlib.Nat.{mul-le-mul}
+use lib.ListN.{length, getD, length-append, take, drop}
+use lib.Seq.{take-at, drop-at}
+use lib.IntN.{ℤ, pos, negsuc, natAbs}
+use Rattle.numbers.specs.Sum.{All}
+use Rattle.numbers.specs.Base.{gather}
+use Rattle.layouts.specs.declared.Fault.{Fault}
+use Rattle.model.specs.declared.Breach.{Breach}
+use Rattle.model.specs.declared.Subject.{Subject}
+use Rattle.model.specs.declared.Subject.the-variants as S
+use Rattle.model.specs.declared.Verdict.{Verdict}
+use Rattle.model.specs.declared.Verdict.the-variants.{Accepted, Broken, Refused}
+use Rattle.model.specs.Case.{System, Case, Plan, noSix, noDevicePrices, noCellPrices}
+use Rattle.model.specs.Forced.{intervals, devices, zones, device}
+use Rattle.model.specs.Completion as C
+use Rattle.model.specs.Ours.{ours}
+use Rattle.bits.specs.Twos.{toTwos}
+use Rattle.layouts.specs.Numbers.{Tells, fails-tells}
+use Rattle.layouts.specs.Layout.{Layout, Field, nat, int, _then_, _▸_, list, held, readWhole, Whole, passes, fails, any}
+use Rattle.model.specs.Messages as M
+use Rattle.model.specs.Messages.{edition1, Counts, caseLayout, planLayout, completionLayout}
+use Rattle.model.specs.Judgement.{Judged, judged, verdict, bufferAfter, withPlan, withCase, readCase, readPlan, judgement, written, countsOf, completionOf, energyWindows, ourSurplus, completionBytes}
+use Rattle.layouts.specs.Trip.{Fits, length-bits}
+use Rattle.theorems.specs.Back.{FitsDevice, FitsInterval, FitsSix, FitsWritten, reads-back}
+use Rattle.ranges.specs.Ranges.{PricesRange, SixRange, DevicePriceRange, CellPriceRange, CaseRange, PlanRange, case-checked, plan-checked, case-range, plan-range}
+use Rattle.theorems.specs.Sizes.{PriceRange, fits, surplus-size, over-devices, device-at}
+use Rattle.numbers.specs.Every.{all-or}
+use Rattle.theorems.specs.Theorem.{Right, right-verdict, apart}
+
+-- ---- prices by index
+
+module _ (c : Case) (r : PricesRange (c .prices)) where
+  pub six-at : (z : ℕ) → SixRange (getD (c .prices .zones) z noSix)
+  six-at z = all-or SixRange noSix (omega arith) (c .prices .zones) (r .zones) z
+
+  pub prices-at : (i : ℕ) → DevicePriceRange (C.devicePrices c i)
+  prices-at i = all-or DevicePriceRange noDevicePrices (record { on = omega arith; start = omega arith; stop = omega arith; states = tt; cells = tt }) (c .prices .devices) (r .devices) i
+
+  pub cell-prices-at : (t i : ℕ) → CellPriceRange (C.cellPrices c t i)
+  cell-prices-at t i = all-or CellPriceRange noCellPrices (record { blocks = tt; reserves = omega arith }) (C.devicePrices c i .cells) (prices-at i .cells) t
+
+  pub state-at : (i : ℕ) (z : ℤ) → natAbs (C.stateCost c i z) ≤ 1000000000
+  unfolding C.stateCost
+  state-at i (pos zero) = omega arith
+  state-at i (pos (suc k)) = all-or (λ z. natAbs z ≤ 1000000000) (pos 0) (omega arith) (C.devicePrices c i .stateCosts) (prices-at i .states) k
+  state-at i (negsuc k) = omega arith
+
+  pub shortfall-at : (z : ℕ) (k : C.Shortfall) → C.shortfallPrice (getD (c .prices .zones) z noSix) k ≤ 100
+  shortfall-at z C.rgu = six-at z .rgu
+  shortfall-at z C.rgd = six-at z .rgd
+  shortfall-at z C.scr = six-at z .scr
+  shortfall-at z C.nsc = six-at z .nsc
+  shortfall-at z C.rru = six-at z .rru
+  shortfall-at z C.rrd = six-at z .rrd
+
+  pub price-range : PriceRange c
+  price-range = record {
+    mismatch = r .mismatch;
+    overrun = r .overrun;
+    shortfall = shortfall-at;
+    on = λ i. prices-at i .on;
+    start = λ i. prices-at i .start;
+    stop = λ i. prices-at i .stop;
+    state = state-at;
+    block = λ t i k. all-or (λ z. natAbs z ≤ 10000) (pos 0) (omega arith) (C.cellPrices c t i .blocks) (cell-prices-at t i .blocks) k;
+    reserve = λ t i. cell-prices-at t i .reserves;
+  }
+
+pub fits-64 : (z : ℤ) → natAbs z < 2000000000000000000 → Fits 64 z
+fits-64 (pos v) h = omega arith
+fits-64 (negsuc v) h = omega arith
+
+-- ---- how long a message is
+
+pub record Sized {A : Type 0} (l : Layout A) (P : A → Type 0) (n : ℕ) : Type 0 where
+  pub size : (a : A) → P a → length (l .write a) ≤ n
+
+nat-sized : (f : Field) (P : ℕ → Type 0) → Sized (nat f) P (f .width)
+unfolding nat
+nat-sized f P = record { size = λ a ok. omega (arith, length-bits (f .width) a) }
+
+pair-sized : {A B : Type 0} (l : Layout A) (m : Layout B) (P : A → Type 0) (Q : B → Type 0) (j k : ℕ) → Sized l P j → Sized m Q k → Sized (l ▸ m) (λ x. P (x .0) × Q (x .1)) (j + k)
+unfolding _then_
+pair-sized l m P Q j k u v = record { size = λ x ok. omega (arith, length-append (l .write (x .0)) (m .write (x .1)), u .size (x .0) (ok .0), v .size (x .1) (ok .1)) }
+
+gather-size : {A : Type 0} (f : A → List ℕ) (n : ℕ) (xs : List A) → All (λ x. length (f x) ≤ n) xs → length (gather f xs) ≤ length xs * n
+unfolding gather
+gather-size f n [] h = omega arith
+gather-size f n (x ∷ xs) h = omega (arith, length-append (f x) (gather f xs), h .0, gather-size f n xs (h .1))
+
+all-sizes : {A : Type 0} (l : Layout A) (P : A → Type 0) (n : ℕ) → Sized l P n → (xs : List A) → All P xs → All (λ x. length (l .write x) ≤ n) xs
+all-sizes l P n u [] h = tt
+all-sizes l P n u (x ∷ xs) h = (u .size x (h .0), all-sizes l P n u xs (h .1))
+
+-- at most m of them
+list-sized : {A : Type 0} (k m : ℕ) (l : Layout A) (P : A → Type 0) (n : ℕ) → Sized l P n → Sized (list k l) (λ xs. (length xs ≤ m) × All P xs) (m * n)
+unfolding list
+list-sized k m l P n u = record { size = λ xs ok. omega (arith, gather-size (l .write) n xs (all-sizes l P n u xs (ok .1)), mul-le-mul (ok .0) (same n)) }
+  where
+    same : (n : ℕ) → n ≤ n
+    same n = omega arith
+
+held-sized : {A B : Type 0} (to : A → B) (from : B → A) (l : Layout A) (P : A → Type 0) (Q : B → Type 0) (n : ℕ) → Sized l P n → ((b : B) → Q b → P (from b)) → Sized (held to from l) Q n
+unfolding held
+held-sized to from l P Q n u h = record { size = λ b ok. u .size (from b) (h b ok) }
+
+six-sized : Sized (M.six (any 33)) FitsSix 198
+unfolding M.six
+six-sized = let u = nat-sized _ (λ v. Unit {0}) in held-sized _ _ _ _ _ 198 (pair-sized _ _ _ _ 33 165 u (pair-sized _ _ _ _ 33 132 u (pair-sized _ _ _ _ 33 99 u (pair-sized _ _ _ _ 33 66 u (pair-sized _ _ _ _ 33 33 u u))))) (λ b ok. (tt, (tt, (tt, (tt, (tt, tt))))))
+
+device-sized : Sized M.deviceChoice FitsDevice 73
+unfolding M.deviceChoice
+device-sized = held-sized _ _ _ _ _ 73 (pair-sized _ _ _ _ 1 72 (nat-sized _ (λ v. Unit {0})) (pair-sized _ _ _ _ 1 71 (nat-sized _ (λ v. Unit {0})) (pair-sized _ _ _ _ 3 68 (nat-sized _ (λ v. Unit {0})) (list-sized 4 4 _ (λ b. b ≤ 2 ^ 17 - 1) 17 (nat-sized _ _)))))
+    (λ b ok. (tt, (tt, (tt, (omega (arith, ok .four), ok .blocks)))))
+
+interval-sized : (n : Counts) → n .devices ≤ 16 → n .zones ≤ 4 → Sized (M.intervalChoice (n .devices) (n .zones)) (FitsInterval n) 1983
+unfolding M.intervalChoice
+interval-sized n d z = held-sized _ _ _ _ _ 1983 (pair-sized _ _ _ _ 1168 815 (list-sized _ 16 _ FitsDevice 73 device-sized) (pair-sized _ _ _ _ 792 23 (list-sized _ 4 _ FitsSix 198 six-sized) (nat-sized _ (λ v. Unit {0}))))
+    (λ b ok. ((omega (arith, ok .each), ok .devices), ((omega (arith, ok .every), ok .zones), tt)))
+
+counts-sized : Sized (M.counts 3 edition1) (λ n. Unit {0}) 22
+unfolding M.counts
+counts-sized = held-sized _ _ _ _ _ 22 (pair-sized _ _ _ _ 4 18 (nat-sized _ (λ v. Unit {0})) (pair-sized _ _ _ _ 4 14 (nat-sized _ (λ v. Unit {0})) (pair-sized _ _ _ _ 5 9 (nat-sized _ (λ v. Unit {0})) (pair-sized _ _ _ _ 6 3 (nat-sized _ (λ v. Unit {0})) (nat-sized _ (λ v. Unit {0})))))) (λ b ok. (tt, (tt, (tt, (tt, tt)))))
+
+int-sized : (w most : ℕ) → Sized (int w most) (λ z. Unit {0}) w
+unfolding int
+int-sized w most = record { size = λ z ok. omega (arith, length-bits w (toTwos w z)) }
+
+completion-sized : (n : Counts) (windows : ℕ) → windows ≤ 64 → n .devices ≤ 16 → n .zones ≤ 4 → Sized (completionLayout edition1 n windows) (FitsWritten edition1 n windows) 97318
+unfolding completionLayout
+completion-sized n windows w d z = held-sized _ _ _ _ _ 97318 (pair-sized _ _ _ _ 22 97296 counts-sized (pair-sized _ _ _ _ 95184 2112 (list-sized _ 48 _ (FitsInterval n) 1983 (interval-sized n d z))
+    (pair-sized _ _ _ _ 2048 64 (list-sized _ 64 _ (λ x. x ≤ 2 ^ 32 - 1) 32 (nat-sized _ _)) (int-sized 64 _))))
+    (λ b k. (tt, ((omega (arith, k .length, k .intervals .1), k .each), ((omega (arith, k .count), k .overruns), tt))))
+
+-- ---- the promises
+
+-- how the plans of a case are laid out
+abbrev pub planOf : System → Layout Plan
+planOf q = planLayout edition1 (length (q .devices)) (length (q .halves))
+
+-- what acceptance leaves in the result buffer: our completion with the surplus reported, as its message, and the rest as it was
+pub record Wrote (c : Case) (p : Plan) (z : ℤ) (before after : List ℕ) : Type 0 where
+  pub reads : readWhole (completionOf (c .system)) (take (length (completionBytes c p)) after) ≡ passes (written (c .system) (ours c p) z)
+  pub bytes : take (length (completionBytes c p)) after ≡ completionBytes c p
+  pub rest : drop (length (completionBytes c p)) after ≡ drop (length (completionBytes c p)) before
+  pub size : natAbs z < 2000000000000000000
+
+-- Item 1: a message s that does not pass reading is refused with its number and place, which `Tells` gives their meaning, and no byte of the result is touched
+pub record RefusedBy {A : Type 0} (l : Layout A) (s : List ℕ) (which : Subject) (f : Fault) (before : List ℕ) (j : Judged) : Type 0 where
+  pub verdict : j .verdict ≡ Refused which f
+  pub number : Tells l s f
+  pub untouched : j .result ≡ before
+
+-- The same, and "Everything else, of any content, is judged", with items 2 and 3, for a plan's bytes against a case that passed reading; only acceptance writes.
+pub record PlanPromise (c : Case) (ps before : List ℕ) (j : Judged) : Type 0 where
+  pub plan-refused : (f : Fault) → readPlan (c .system) ps ≡ fails f → RefusedBy (planOf (c .system)) ps S.Plan f before j
+  pub judges : (p : Plan) → readPlan (c .system) ps ≡ passes p → j .verdict ≡ verdict c p (length before)
+  pub right : (p : Plan) → readPlan (c .system) ps ≡ passes p → Right c p (length before) (j .verdict)
+  pub wrote : (p : Plan) (z : ℤ) → readPlan (c .system) ps ≡ passes p → j .verdict ≡ Accepted z → Wrote c p z before (j .result)
+  pub broken-untouched : (b : Breach) → j .verdict ≡ Broken b → j .result ≡ before
+  pub refused-untouched : (s : Subject) (f : Fault) → j .verdict ≡ Refused s f → j .result ≡ before
+
+-- and for the bytes of a case and a plan: "case, then plan"
+pub record Promise (cs ps before : List ℕ) (j : Judged) : Type 0 where
+  pub case-refused : (f : Fault) → readCase cs ≡ fails f → RefusedBy (caseLayout edition1) cs S.Case f before j
+  pub case-passed : (c : Case) → readCase cs ≡ passes c → PlanPromise c ps before j
+
+untouched : (v : Verdict) (out before : List ℕ) → ((z : ℤ) → v ≡ Accepted z → ⊥) → bufferAfter v out before ≡ before
+untouched (Accepted z) out before h = absurd (h z refl)
+untouched (Broken b) out before h = refl
+untouched (Refused s f) out before h = refl
+
+module _ (c : Case) (ps : List ℕ) (p : Plan) (g : CaseRange c) (rp : readPlan (c .system) ps ≡ passes p) (room : ℕ) where
+  abbrev small-surplus : Right c p room (verdict c p room) → (z : ℤ) → verdict c p room ≡ Accepted z → natAbs (ourSurplus c p) < 2000000000000000000
+  unfolding ourSurplus
+  small-surplus r z e = surplus-size c p (g .system) (plan-range (c .system) ps p rp) (r .meets z e .rules) (price-range c (g .prices))
+
+  -- the bytes of an acceptance read back as our completion
+  our-bytes : (z : ℤ) → verdict c p room ≡ Accepted z → readWhole (completionOf (c .system)) (completionBytes c p) ≡ passes (written (c .system) (ours c p) (ourSurplus c p))
+  unfolding energyWindows
+  our-bytes z e =
+      let v = right-verdict c p room in
+      let q = plan-range (c .system) ps p rp in
+      let ok = v .meets z e .rules in
+      let small = small-surplus v z e in
+      let f = fits c p (g .system) q ok (g .system .someDevice) (g .system .someInterval) (fits-64 (ourSurplus c p) small) (omega arith) in
+      let n = completion-sized (countsOf (c .system)) (energyWindows (c .system)) (over-devices (c .system) p (g .system) q ok (λ i. length (device (c .system) i .energyWindows)) 4 (λ i m. device-at (c .system) p (g .system) q ok i m .energies)) (g .system .devices) (g .system .zones) .size _ f in
+      reads-back c p f (omega arith)
+
+  wrote-by : (z : ℤ) (before after : List ℕ) → verdict c p room ≡ Accepted z → after ≡ completionBytes c p ++ drop (length (completionBytes c p)) before → Wrote c p z before after
+  unfolding ourSurplus
+  wrote-by z before after e h =
+      let v = right-verdict c p room in
+      let t : take (length (completionBytes c p)) after ≡ completionBytes c p = ap (take (length (completionBytes c p))) h ∙ take-at (completionBytes c p) _ _ refl in
+      record {
+        reads = ap (readWhole (completionOf (c .system))) t ∙ our-bytes z e ∙ ap (λ (y : ℤ). passes (written (c .system) (ours c p) y)) (v .surplus z e);
+        bytes = t;
+        rest = ap (drop (length (completionBytes c p))) h ∙ drop-at (completionBytes c p) _ _ refl;
+        size = rw (sym (v .surplus z e)) (small-surplus v z e);
+      }
+
+-- what judging a plan that passes reading leaves
+judged-wrote : (c : Case) (p : Plan) (z : ℤ) (before : List ℕ) → judged c p before .verdict ≡ Accepted z → judged c p before .result ≡ completionBytes c p ++ drop (length (completionBytes c p)) before
+unfolding judged
+judged-wrote c p z before e = ap (λ (v : Verdict). bufferAfter v (completionBytes c p) before) e
+
+judged-verdict : (c : Case) (p : Plan) (before : List ℕ) → judged c p before .verdict ≡ verdict c p (length before)
+unfolding judged
+judged-verdict c p before = refl
+
+-- only acceptance writes
+judged-else : (c : Case) (p : Plan) (before : List ℕ) → ((z : ℤ) → judged c p before .verdict ≡ Accepted z → ⊥) → judged c p before .result ≡ before
+unfolding judged
+judged-else c p before h = untouched (verdict c p (length before)) (completionBytes c p) before h
+
+plan-else : (c : Case) (before : List ℕ) (r : Whole Plan) → ((z : ℤ) → withPlan c before r .verdict ≡ Accepted z → ⊥) → withPlan c before r .result ≡ before
+plan-else c before (passes p) h = judged-else c p before h
+plan-else c before (fails f) h = refl
+
+-- a plan's bytes against a case within its ranges
+pub plan-promised : (c : Case) → CaseRange c → (ps before : List ℕ) → PlanPromise c ps before (withPlan c before (readPlan (c .system) ps))
+unfolding readPlan
+plan-promised c g ps before = record {
+  plan-refused = λ f e. record { verdict = rw e refl; number = fails-tells (planOf (c .system)) (PlanRange (c .system)) (plan-checked (c .system)) ps f e; untouched = rw e refl };
+  judges = λ p e. rw e (judged-verdict c p before);
+  right = λ p e. rw (e, judged-verdict c p before) (right-verdict c p (length before));
+  wrote = λ p z e a.
+      let j : withPlan c before (readPlan (c .system) ps) ≡ judged c p before = rw e refl in
+      let v : judged c p before .verdict ≡ Accepted z = ap (λ (j : Judged). j .verdict) (sym j) ∙ a in
+      wrote-by c ps p g e (length before) z before _ (sym (judged-verdict c p before) ∙ v) (ap (λ (j : Judged). j .result) j ∙ judged-wrote c p z before v);
+  broken-untouched = λ b e. plan-else c before (readPlan (c .system) ps) (λ z h. apart (cc));
+  refused-untouched = λ s f e. plan-else c before (readPlan (c .system) ps) (λ z h. apart (cc));
+}
+
+pub promised : (cs ps before : List ℕ) → Promise cs ps before (judgement cs ps before)
+unfolding judgement readCase
+promised cs ps before = record {
+  case-refused = λ f e. record { verdict = rw e refl; number = fails-tells (caseLayout edition1) CaseRange case-checked cs f e; untouched = rw e refl };
+  case-passed = λ c e. subst (PlanPromise c ps before) (sym (ap (withCase ps before) e)) (plan-promised c (case-range cs c e) ps before);
+}

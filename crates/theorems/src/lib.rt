@@ -1,0 +1,1 @@
+// No code: the theorems that the promises rest on.
