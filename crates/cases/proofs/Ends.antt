@@ -10,7 +10,8 @@ use Rattle.model.specs.declared.CaseRecord.{CaseRecord}
 use Rattle.layouts.specs.Layout.{_then_, held, begin, tailFault}
 use Rattle.model.specs.Messages.{edition1, caseLayout, apart}
 use Rattle.model.specs.Judgement.{readCase}
-use Rattle.ranges.specs.Ranges.{case-range}
+use Rattle.layouts.specs.Numbers.{Tells}
+use Rattle.ranges.specs.Ranges.{CaseRange, case-checked, case-range}
 use Rattle.ranges.specs.Views.{caseIn}
 use Rattle.fields.specs.declared.Went.{Went}
 use Rattle.fields.specs.declared.Went.the-variants as W
@@ -18,7 +19,7 @@ use Rattle.fields.specs.declared.Ending.{Ending}
 use Rattle.fields.specs.declared.Ending.the-variants.{Fails}
 use Rattle.fields.specs.Got.{bad, got, Natural, Inside, nat-natural, then-natural, held-natural, goes-on, goes-off, told-off, went-good, went-bad}
 use Rattle.fields.specs.Each.{list-natural}
-use Rattle.fields.specs.Ended.{ended, endingOf, whole-inside, whole-ended, whole-failed}
+use Rattle.fields.specs.Ended.{ended, endingOf, whole-inside, whole-ended, whole-failed, ended-tells}
 use Rattle.devices.proofs.DeviceSteps.{device-natural}
 use Rattle.header.specs.Header.{header, headerOf, HeaderDone}
 use Rattle.cases.specs.Whole.{bodyGot, BodyDone, FieldsDone, CaseDone}
@@ -57,6 +58,7 @@ module _ (s : List ℕ) {w : Went} (c : CaseRecord) (t : List ℕ) (d : FieldsDo
   unfolding readCase
   case-fails {f} o = record {
     is = whole-failed case-natural s (caseIn c t) (d .is) o;
+    refused = ended-tells (caseLayout edition1) CaseRange case-checked s (caseIn c t) (whole-failed case-natural s (caseIn c t) (d .is) o);
     decoded = λ e. absurd (let z : _≡_ {A = ℕ} 0 1 = cc in omega (arith, z));
     few = λ e. absurd (let z : _≡_ {A = ℕ} 0 1 = cc in omega (arith, z));
   }
@@ -65,9 +67,14 @@ module _ (s : List ℕ) {w : Went} (c : CaseRecord) (t : List ℕ) (d : FieldsDo
   unfolding readCase
   whole o h = whole-ended case-natural s (caseIn c t) (d .is) o h
 
+  told-number : {r : Ending} → ended (caseIn c t) r ≡ readCase s → (f : Fault) → r ≡ Fails f → Tells (caseLayout edition1) s f
+  unfolding readCase
+  told-number e = ended-tells (caseLayout edition1) CaseRange case-checked s (caseIn c t) e
+
   pub case-ends : {q : Place} {r : Ending} → length t ≡ 15792 → w ≡ W.On q → r ≡ endingOf (tailFault s (q .at)) (q .clash) → CaseDone s r c t
   case-ends {q} {r} long o h = record {
     is = whole o h;
+    refused = told-number (whole o h);
     decoded = λ e. let b = d .bodied q o in record {
       long = long;
       devices = b .devices;

@@ -5,7 +5,9 @@ use Prim.Native.Nat.{ℕ, _*_, _≤_, _<_}
 use lib.ListN.{getD}
 use Rattle.numbers.specs.Sum.{sumℕ}
 use Rattle.model.specs.Case.{Zone, Six, Device, DevicePrices, Case}
+use Rattle.layouts.specs.declared.Fault.{Fault}
 use Rattle.layouts.specs.declared.Place.{Place}
+use Rattle.layouts.specs.Numbers.{Tells}
 use Rattle.model.specs.declared.CaseRecord.{CaseRecord}
 use Rattle.layouts.specs.Layout.{list, begin}
 use Rattle.model.specs.Messages.{Counts, edition1, zone, device, caseLayout}
@@ -15,7 +17,7 @@ use Rattle.ranges.specs.Views.{caseIn, cellsIn, recordAt, Decoded}
 use Rattle.fields.specs.declared.Went.{Went}
 use Rattle.fields.specs.declared.Went.the-variants.{On}
 use Rattle.fields.specs.declared.Ending.{Ending}
-use Rattle.fields.specs.declared.Ending.the-variants.{Passes}
+use Rattle.fields.specs.declared.Ending.the-variants.{Passes, Fails}
 use Rattle.fields.specs.Got.{Got, good, bad, got, told}
 use Rattle.fields.specs.Ended.{ended}
 use Rattle.devices.specs.Device.{Few}
@@ -59,5 +61,6 @@ pub record FieldsDone (s : List ℕ) (w : Went) (c : CaseRecord) (t : List ℕ) 
 -- what reading a case leaves: the record and the table hold the case that its message says, and where it passes they are a decoded case
 pub record CaseDone (s : List ℕ) (e : Ending) (c : CaseRecord) (t : List ℕ) : Type 0 where
   pub is : ended (caseIn c t) e ≡ readCase s
+  pub refused : (f : Fault) → e ≡ Fails f → Tells (caseLayout edition1) s f
   pub decoded : e ≡ Passes → Decoded c t
   pub few : e ≡ Passes → (i : ℕ) → i < c .ndevices → Few (recordAt c i)

@@ -2,7 +2,7 @@
 use mathlib.Core.Path.{_≡_}
 use mathlib.Core.List.{List, [], _∷_}
 use Prim.Native.Nat.{ℕ, _≤_, _<_}
-use lib.ListN.{getD}
+use lib.ListN.{getD, replicate}
 use Rattle.model.specs.Case.{Reserves}
 use Rattle.layouts.specs.Layout.{Layout, _▸_}
 use Rattle.model.specs.Messages.{Head, Costs, edition1, head, costs, eight, kW, device}
@@ -68,3 +68,26 @@ pub record DeviceDone (s : List ℕ) (p : Place) (n zones last : ℕ) (w : Went)
   pub is : told w (deviceOf n d t) ≡ got (device edition1 n zones last) s p
   pub padded : (q : Place) → w ≡ On q → (k : ℕ) → k < n → Padded (cellRow t k)
   pub few : (q : Place) → w ≡ On q → Few d
+
+-- what an array of devices holds where nothing is stored: zeros, and no states and windows
+abbrev pub blankDevice : DeviceRecord
+blankDevice = record {
+  side = 0;
+  zonebits = 0;
+  on0 = 0;
+  power0 = 0;
+  minutes0 = 0;
+  minup = 0;
+  mindown = 0;
+  ramps = replicate 4 0;
+  oncost = 0;
+  startcost = 0;
+  stopcost = 0;
+  limits = replicate 8 0;
+  nstates = 0;
+  states = replicate 4 (record { longest = 0; cost = 0 });
+  nstarts = 0;
+  starts = replicate 4 (record { from = 0; until = 0; most = 0 });
+  nenergies = 0;
+  energies = replicate 4 (record { kind = 0; from = 0; until = 0; energy = 0 });
+}

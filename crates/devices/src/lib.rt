@@ -12,7 +12,7 @@ ghost use mathlib.Core.Path.{_≡_};
 ghost use Prim.Native.Nat.{_-_, _%_, _^_, _≤_};
 ghost use lib.Dec.{eqb};
 ghost use lib.ListN.{length};
-ghost use Rattle.devices.specs.Device.{front, headOf, deviceFrom, DeviceDone};
+ghost use Rattle.devices.specs.Device.{front, headOf, deviceFrom, DeviceDone, blankDevice};
 ghost use Rattle.layouts.specs.Layout.{noted};
 ghost use Rattle.ranges.specs.Views.{stateIn};
 ghost use Rattle.fields.specs.Got.{got, told};
@@ -288,7 +288,10 @@ pub struct DeviceRead {
     pub device: DeviceRecord,
 }
 
-pub fn no_device() -> DeviceRecord {
+// A device of zeros.
+pub fn no_device() -> DeviceRecord
+    ensures { λ r. ⌜ r ≡ blankDevice ⌝ }
+{
     let ramps = [0u64; 4];
     let limits = [0u64; 8];
     let states = [State {

@@ -132,7 +132,7 @@ module _ (q : System) (p : Plan) where
       let f : suc i - 1 ≡ i = omega arith in
       rw (ne-eqb n 20 (λ g. omega arith), e, f) refl
 
-  rule-in-window : (i w : ℕ) → RuleAt q p (windowBreach i w) ≡ Rule20 q p i w
+  rule-in-window : (i w : ℕ) → RuleAt q p (windowBreach i w 20) ≡ Rule20 q p i w
   unfolding RuleAt
   rule-in-window i w =
       let e : suc i - 1 ≡ i = omega arith in
@@ -146,7 +146,7 @@ module _ (q : System) (p : Plan) where
   InCell t i b = (n : ℕ) × List·Memᴰ n cellNumbers × (CellRule q p t i n → ⊥) × (b ≡ cellBreach t i n)
 
   InWindow : ℕ → ℕ → Breach → Type 0
-  InWindow i w b = (Rule20 q p i w → ⊥) × (b ≡ windowBreach i w)
+  InWindow i w b = (Rule20 q p i w → ⊥) × (b ≡ windowBreach i w 20)
 
   cell-listed : (t i : ℕ) → All (InCell t i) (cellBreaches q p t i)
   unfolding cellBreaches InCell
@@ -175,15 +175,15 @@ module _ (q : System) (p : Plan) where
   unfolding oneWindow failing InWindow
   window-listed i w = go (windowTest q p i w) (window-decided i w)
     where
-      go : (b : Bool) → Decides (Rule20 q p i w) b → All (InWindow i w) (map (λ n. windowBreach i w) (unless b 20 []))
+      go : (b : Bool) → Decides (Rule20 q p i w) b → All (InWindow i w) (map (windowBreach i w) (unless b 20 []))
       go true d = tt
       go false d = (((λ r. d .no r), refl), tt)
 
-  window-in : (i w : ℕ) → (Rule20 q p i w → ⊥) → List·Memᴰ (windowBreach i w) (oneWindow q p i w)
+  window-in : (i w : ℕ) → (Rule20 q p i w → ⊥) → List·Memᴰ (windowBreach i w 20) (oneWindow q p i w)
   unfolding oneWindow failing
   window-in i w f = go (windowTest q p i w) (window-decided i w)
     where
-      go : (b : Bool) → Decides (Rule20 q p i w) b → List·Memᴰ (windowBreach i w) (map (λ n. windowBreach i w) (unless b 20 []))
+      go : (b : Bool) → Decides (Rule20 q p i w) b → List·Memᴰ (windowBreach i w 20) (map (windowBreach i w) (unless b 20 []))
       go true d = absurd (f (d .yes tt))
       go false d = List·Memᴰ·head refl
 
@@ -191,7 +191,7 @@ module _ (q : System) (p : Plan) where
   unfolding oneWindow failing
   window-ordered i w = go (windowTest q p i w)
     where
-      go : (b : Bool) → Ordered Before (map (λ n. windowBreach i w) (unless b 20 []))
+      go : (b : Bool) → Ordered Before (map (windowBreach i w) (unless b 20 []))
       go true = tt
       go false = (tt, tt)
 
@@ -243,7 +243,7 @@ module _ (q : System) (p : Plan) where
   windows-failed : (b : Breach) → InWindows b → Failed b
   unfolding InWindows InDevice InWindow
   windows-failed b h =
-      let i = h .0 in let w = h .2 .0 in let e : b ≡ windowBreach i w = h .2 .2 .1 in
+      let i = h .0 in let w = h .2 .0 in let e : b ≡ windowBreach i w 20 = h .2 .2 .1 in
       record {
         place = in-window i w (h .1) (h .2 .1) e;
         not = λ r. h .2 .2 .0 (rw (sym (rule-in-window i w), sym e) r);
@@ -286,7 +286,7 @@ module _ (q : System) (p : Plan) where
       (λ s t a b l h k. before-cells (h .2) (k .2) (λ m n. inl (omega arith)))
       0 (intervals q) (λ t l m. interval-listed t) (λ t l m. interval-ordered t)
 
-  before-windows : {i w j v : ℕ} {a b : Breach} → InWindow i w a → InWindow j v b → Lex (inTurn (windowBreach i w)) (inTurn (windowBreach j v)) → Before a b
+  before-windows : {i w j v : ℕ} {a b : Breach} → InWindow i w a → InWindow j v b → Lex (inTurn (windowBreach i w 20)) (inTurn (windowBreach j v 20)) → Before a b
   unfolding InWindow
   before-windows h k l = rw (h .1, k .1) (alike (λ e. refl) (λ e. refl) l)
 

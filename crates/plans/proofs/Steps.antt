@@ -12,7 +12,7 @@ use Rattle.model.specs.Judgement.{readPlan}
 use Rattle.layouts.specs.Layout.{list, repeated, held, _then_, begin, readWhole, passes}
 use Rattle.model.specs.Messages.{edition1, kW, eight, setting, planLayout}
 use Rattle.layouts.specs.Layout.{figure}
-use Rattle.ranges.specs.Ranges.{SettingRange, PlanRange, plan-range}
+use Rattle.ranges.specs.Ranges.{SettingRange, PlanRange, plan-range, Settings, settings-checked}
 use Rattle.numbers.specs.Every.{all-at}
 use Rattle.ranges.specs.Views.{rows, span, settingIn, settingAt, planOf}
 use Rattle.ranges.specs.Viewed.{setting-is}
@@ -22,7 +22,7 @@ use Rattle.fields.specs.declared.Went.{Went}
 use Rattle.fields.specs.declared.Went.the-variants as W
 use Rattle.fields.specs.declared.Ending.{Ending}
 use Rattle.fields.specs.declared.Ending.the-variants.{Passes}
-use Rattle.fields.specs.Ended.{ended}
+use Rattle.fields.specs.Ended.{ended, ended-tells}
 use Rattle.fields.specs.Each.{list-natural}
 use Rattle.fields.specs.Got.{good, bad, got, figured, told, Natural, nat-natural, then-natural, held-natural, goes-on, goes-off, mapped, told-off, went-good, went-bad}
 use Rattle.fields.proofs.Steps.{eight-natural}
@@ -104,4 +104,8 @@ module _ (devices intervals : ℕ) (s : List ℕ) where
       rw (setting-is sized devices intervals t k i l m) at one
 
   pub plan-read : {r : Ending} (t : List ℕ) → ended (planOf devices intervals t) r ≡ readWhole (planLayout edition1 devices intervals) s → PlanRead devices intervals s t r
-  plan-read t e = record { reads = e; range = plan-ranges t e }
+  plan-read t e = record {
+    reads = e;
+    refused = ended-tells (planLayout edition1 devices intervals) (Settings devices intervals) (settings-checked devices intervals) s (planOf devices intervals t) e;
+    range = plan-ranges t e;
+  }

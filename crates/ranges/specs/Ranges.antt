@@ -283,12 +283,19 @@ unfolding M.setting
 setting-checked = held-checked _ _ _ _ _ (pair-checked _ _ _ _ (figure-checked 1 0 1) (pair-checked _ _ _ _ (figure-checked 17 0 100000) (eight-checked _ _ (figure-checked 17 0 100000))))
     (λ v ok. record { on = ok .0; online = ok .1 .0; reserves = ok .1 .1 })
 
-pub plan-checked : (q : System) → Checked (M.planLayout edition1 (length (q .devices)) (length (q .halves))) (PlanRange q)
+-- a plan's settings: of so many intervals, each of so many devices
+abbrev pub Settings : ℕ → ℕ → Plan → Type 0
+Settings devices intervals p = (length (p .settings) ≡ intervals) × All (λ row. (length row ≡ devices) × All SettingRange row) (p .settings)
+
+pub settings-checked : (devices intervals : ℕ) → Checked (M.planLayout edition1 devices intervals) (Settings devices intervals)
 unfolding M.planLayout
-plan-checked q = held-checked _ _ _ _ _
+settings-checked devices intervals = held-checked _ _ _ _ _
     (pair-checked _ _ _ _ (nat-checked _) (pair-checked _ _ _ _ (nat-checked _) (pair-checked _ _ _ _ (nat-checked _) (pair-checked _ _ _ _ (nat-checked _)
     (list-checked _ _ _ (list-checked _ M.setting SettingRange setting-checked))))))
-    (λ v ok. record { intervals = ok .1 .1 .1 .1 .0; each = ok .1 .1 .1 .1 .1 })
+    (λ v ok. (ok .1 .1 .1 .1 .0, ok .1 .1 .1 .1 .1))
+
+pub plan-checked : (q : System) → Checked (M.planLayout edition1 (length (q .devices)) (length (q .halves))) (PlanRange q)
+plan-checked q = weaken _ (Settings (length (q .devices)) (length (q .halves))) (PlanRange q) (settings-checked (length (q .devices)) (length (q .halves))) (λ p ok. record { intervals = ok .0; each = ok .1 })
 
 pub plan-range : (q : System) (s : List ℕ) (p : Plan) → readPlan q s ≡ passes p → PlanRange q p
 unfolding readPlan
