@@ -9,7 +9,8 @@ use Rattle.bits.specs.declared.Framed.{Framed}
 use Rattle.bits.specs.declared.Framed.the-variants as B
 use Rattle.model.specs.declared.CaseRecord.{CaseRecord}
 use Rattle.model.specs.declared.Subject.the-variants as S
-use Rattle.model.specs.declared.Verdict.the-variants.{Refused}
+use Rattle.model.specs.declared.Verdict.{Verdict}
+use Rattle.model.specs.declared.Verdict.the-variants.{Accepted, Broken, Refused}
 use Rattle.model.specs.Batch.{Line, caseLine, answer, framing, planVerdict}
 use Rattle.model.specs.Case.{Case}
 use Rattle.model.specs.Forced.{intervals, devices, zones}
@@ -21,8 +22,6 @@ use Rattle.lines.specs.Writes.{Writes}
 use Rattle.answers.specs.Frames.{framed}
 use Rattle.answers.specs.declared.CaseAnswer.{CaseAnswer}
 use Rattle.answers.specs.declared.PlanAnswer.{PlanAnswer}
-use Rattle.answers.specs.declared.Judged.{Judged}
-use Rattle.answers.specs.declared.Judged.the-variants as J
 
 -- ---- the first frame: "case first"
 
@@ -57,12 +56,23 @@ planAnswers c index frame B.End = []
 planAnswers c index frame (B.Message from until) = answer index (planVerdict c (readPlan (c .system) (part frame from until))) ∷ []
 planAnswers c index frame (B.Refused f) = framing (numberOf f) ∷ []
 
-abbrev pub judgedOf : Case → List ℕ → Framed → Judged
-judgedOf c frame B.End = J.Over
-judgedOf c frame (B.Message from until) = J.Plan (planVerdict c (readPlan (c .system) (part frame from until)))
-judgedOf c frame (B.Refused f) = J.Over
+-- a batch goes on behind a plan
+abbrev pub moreOf : Framed → Bool
+moreOf B.End = false
+moreOf (B.Message from until) = true
+moreOf (B.Refused f) = false
 
--- the result buffer afterwards
+abbrev pub accepts : Verdict → Bool
+accepts (Accepted z) = true
+accepts (Broken b) = false
+accepts (Refused s f) = false
+
+abbrev pub acceptedOf : Case → List ℕ → Framed → Bool
+acceptedOf c frame B.End = false
+acceptedOf c frame (B.Message from until) = accepts (planVerdict c (readPlan (c .system) (part frame from until)))
+acceptedOf c frame (B.Refused f) = false
+
+-- the result buffer afterwards, which holds the completion of a plan that was accepted
 abbrev pub resultOf : Case → List ℕ → List ℕ → Framed → List ℕ
 resultOf c frame buffer B.End = buffer
 resultOf c frame buffer (B.Message from until) = withPlan c buffer (readPlan (c .system) (part frame from until)) .result
@@ -82,5 +92,6 @@ pub record AnswersCase (frame table before after : List ℕ) (r : CaseAnswer) : 
 
 pub record AnswersPlan (c : Case) (index : ℕ) (frame buffer left before after : List ℕ) (r : PlanAnswer) : Type 0 where
   pub text : Writes (texts (planAnswers c index frame (framed frame))) before after (r .bytes)
-  pub judged : r .judged ≡ judgedOf c frame (framed frame)
+  pub more : r .more ≡ moreOf (framed frame)
+  pub accepted : r .accepted ≡ acceptedOf c frame (framed frame)
   pub result : left ≡ resultOf c frame buffer (framed frame)

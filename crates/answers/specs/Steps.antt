@@ -1,6 +1,6 @@
 -- The answers to a frame, by the splitter's cases.
 use mathlib.Core.Path.{_≡_, refl, sym, ap, subst, _∙_}
-use mathlib.Core.Bool.{true, false}
+use mathlib.Core.Bool.{Bool, true, false}
 use mathlib.Core.List.{List, [], _∷_, _++_, append-nil}
 use Prim.Native.Nat.{ℕ, _+_, _≤_, _<_}
 use native.Mathlib.Omega.{arith}
@@ -12,7 +12,7 @@ use Rattle.bits.specs.Batch.{part, bytesOf, messageAt}
 use Rattle.bits.specs.declared.Fault.{Fault}
 use Rattle.bits.specs.declared.Framed.{Framed}
 use Rattle.bits.specs.declared.Framed.the-variants as B
-use Rattle.bits.proofs.Frames.{some}
+use Rattle.bits.proofs.Frames.{lies, some}
 use Rattle.model.specs.declared.CaseRecord.{CaseRecord}
 use Rattle.model.specs.declared.Subject.the-variants as S
 use Rattle.model.specs.declared.Verdict.{Verdict}
@@ -33,11 +33,10 @@ use Rattle.plan_unit.specs.Steps.{inspect-passes}
 use Rattle.lines.specs.Text.{text, texts}
 use Rattle.lines.specs.Writes.{Writes}
 use Rattle.answers.specs.Frames.{limit, frameBytes, frameRoom, framed}
-use Rattle.answers.specs.Answers.{readLine, readAfter, caseLines, caseAfter, planAnswers, judgedOf, resultOf, afterOf, AnswersCase, AnswersPlan}
+use Rattle.answers.specs.Answers.{readLine, readAfter, caseLines, caseAfter, planAnswers, moreOf, accepts, acceptedOf, resultOf, afterOf, AnswersCase, AnswersPlan}
 use Rattle.answers.specs.Room.{resultRoom, completion-fits, enough}
 use Rattle.answers.specs.declared.CaseAnswer.{CaseAnswer}
 use Rattle.answers.specs.declared.PlanAnswer.{PlanAnswer}
-use Rattle.answers.specs.declared.Judged.the-variants as J
 
 -- ---- a frame's length
 
@@ -67,7 +66,7 @@ one-line {l} {m} e w = let f : text l ≡ text m ++ [] = ap text e ∙ sym (appe
 
 -- ---- the case
 
-never : {P : Type 0} → false ≡ true → P
+pub never : {P : Type 0} → false ≡ true → P
 never k = let z : _≡_ {A = ℕ} 0 1 = cc in absurd (omega arith)
 
 module _ (frame table before : List ℕ) {x : Framed} (e : x ≡ framed frame) (case : CaseRecord) where
@@ -110,25 +109,34 @@ module _ (frame table before : List ℕ) {x : Framed} (e : x ≡ framed frame) (
 -- ---- a plan
 
 module _ (c : Case) (index : ℕ) (frame buffer before : List ℕ) {x : Framed} (e : x ≡ framed frame) where
-  pub plan-end : x ≡ B.End → AnswersPlan c index frame buffer buffer before before (record { bytes = 0; judged = J.Over })
+  pub plan-end : x ≡ B.End → AnswersPlan c index frame buffer buffer before before (record { bytes = 0; more = false; accepted = false })
   plan-end t =
       let f : framed frame ≡ B.End = sym e ∙ t in
-      record { text = rw f (no-line before); judged = rw f refl; result = rw f refl }
+      record { text = rw f (no-line before); more = rw f refl; accepted = rw f refl; result = rw f refl }
 
   pub plan-framing : {f : Fault} {after : List ℕ} {n : ℕ} → x ≡ B.Refused f → Writes (text (framing (numberOf f))) before after n
-      → AnswersPlan c index frame buffer buffer before after (record { bytes = n; judged = J.Over })
+      → AnswersPlan c index frame buffer buffer before after (record { bytes = n; more = false; accepted = false })
   plan-framing {f} t w =
       let g : framed frame ≡ B.Refused f = sym e ∙ t in
-      record { text = rw g (one-line refl w); judged = rw g refl; result = rw g refl }
+      record { text = rw g (one-line refl w); more = rw g refl; accepted = rw g refl; result = rw g refl }
 
 module _ (c : CaseRecord) (table : List ℕ) (index : ℕ) (frame buffer before : List ℕ) {x : Framed} (e : x ≡ framed frame) where
-  pub plan-judged : {from until : ℕ} {m left after : List ℕ} {v : Verdict} {n : ℕ} → Decoded c table → resultRoom ≤ length buffer → x ≡ B.Message from until
-      → m ≡ messageAt limit frame 0 → JudgesPlan c table m buffer left v → Writes (text (answer index v)) before after n
-      → AnswersPlan (caseIn c table) index frame buffer left before after (record { bytes = n; judged = J.Plan v })
-  plan-judged {from} {until} {m} {v = v} d room t i j w =
+  pub plan-judged : {from until : ℕ} {m left after : List ℕ} {v : Verdict} {n : ℕ} {a : Bool} → Decoded c table → resultRoom ≤ length buffer → x ≡ B.Message from until
+      → m ≡ messageAt limit frame 0 → JudgesPlan c table m buffer left v → Writes (text (answer index v)) before after n → a ≡ accepts v
+      → AnswersPlan (caseIn c table) index frame buffer left before after (record { bytes = n; more = true; accepted = a })
+  plan-judged {from} {until} {m} {v = v} d room t i j w h =
       let C = caseIn c table in
       let k : framed frame ≡ B.Message from until = sym e ∙ t in
       let p : m ≡ part frame from until = i ∙ sym (some limit frame 0 e t) in
       let f : (p : Plan) → length (completionBytes C p) ≤ length buffer = λ p. omega (arith, completion-fits C (d .range .system) p, room) in
       let g : v ≡ planVerdict C (readPlan (C .system) (part frame from until)) = j .verdict ∙ rw p (enough C buffer f (readPlan (C .system) (part frame from until))) in
-      record { text = rw k (one-line (ap (answer index) g) w); judged = rw k (ap J.Plan g); result = rw k (j .result ∙ rw p refl) }
+      record { text = rw k (one-line (ap (answer index) g) w); more = rw k refl; accepted = rw k (h ∙ ap accepts g); result = rw k (j .result ∙ rw p refl) }
+
+-- a frame behind which the batch goes on has a byte
+pub more-bytes : (frame : List ℕ) → moreOf (framed frame) ≡ true → 0 < length frame
+more-bytes frame h = go (framed frame) refl h
+  where
+    go : (x : Framed) → x ≡ framed frame → moreOf x ≡ true → 0 < length frame
+    go B.End e k = never k
+    go (B.Message from until) e k = let l = lies limit frame 0 e refl in omega (arith, l .within, l .behind, l .ordered)
+    go (B.Refused f) e k = never k

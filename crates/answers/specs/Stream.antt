@@ -2,25 +2,18 @@
 use mathlib.Core.List.{List, [], _++_}
 use Prim.Native.Nat.{ℕ, zero, suc}
 use lib.ListN.{length, drop}
-use Rattle.bits.specs.declared.Framed.{Framed}
-use Rattle.bits.specs.declared.Framed.the-variants as B
+use Rattle.bits.specs.Pick.{pick}
 use Rattle.model.specs.Case.{Case}
 use Rattle.lines.specs.Text.{texts}
 use Rattle.answers.specs.Frames.{frameOf, framed}
-use Rattle.answers.specs.Answers.{After, over, plans, caseLines, caseAfter, planAnswers}
-
--- a batch goes on behind a plan
-abbrev pub behindPlan : Framed → List ℕ → List ℕ
-behindPlan B.End t = []
-behindPlan (B.Message from until) t = t
-behindPlan (B.Refused f) t = []
+use Rattle.answers.specs.Answers.{After, over, plans, caseLines, caseAfter, planAnswers, moreOf}
 
 -- the plans, where these bytes of the batch are left; n bounds how many
 unfoldable pub plansText : Case → ℕ → ℕ → List ℕ → List ℕ
 plansText c zero index rest = []
 plansText c (suc n) index rest =
     let frame = frameOf rest in
-    texts (planAnswers c index frame (framed frame)) ++ behindPlan (framed frame) (plansText c n (suc index) (drop (length frame) rest))
+    texts (planAnswers c index frame (framed frame)) ++ pick (moreOf (framed frame)) (plansText c n (suc index) (drop (length frame) rest)) []
 
 abbrev pub behindCase : After → ℕ → List ℕ → List ℕ
 behindCase over n rest = []

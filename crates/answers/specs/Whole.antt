@@ -16,7 +16,7 @@ use Rattle.model.specs.Layout.{Whole, passes, fails}
 use Rattle.lines.specs.Text.{text, texts, batchText}
 use Rattle.answers.specs.Frames.{limit, frameOf, framed}
 use Rattle.answers.specs.Answers.{readLine, readAfter, caseLines, caseAfter, planAnswers}
-use Rattle.answers.specs.Stream.{behindPlan, plansText, behindCase, streamText}
+use Rattle.answers.specs.Stream.{plansText, behindCase, streamText}
 use Rattle.answers.specs.Splits.{Both, ends, holds, refuses, both}
 
 one-line : (l : Line) (ls : List Line) → texts (l ∷ []) ++ texts ls ≡ texts (l ∷ ls)

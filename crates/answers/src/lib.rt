@@ -10,7 +10,7 @@ ghost use lib.ListN.{length};
 ghost use Rattle.model.specs.Views.{caseIn, Decoded};
 ghost use Rattle.lines.specs.Writes.{lineRoom};
 ghost use Rattle.answers.specs.Frames.{frameBytes, frameRoom};
-ghost use Rattle.answers.specs.Answers.{AnswersCase, AnswersPlan};
+ghost use Rattle.answers.specs.Answers.{accepts, AnswersCase, AnswersPlan};
 ghost use Rattle.answers.specs.Room.{resultRoom};
 
 // The most bytes of a message, and those of the length ahead of it.
@@ -89,15 +89,22 @@ pub fn answer_case(frame: &[u8], table: &mut [u32], out: &mut [u8]) -> CaseAnswe
     }
 }
 
-// The batch is over, or a plan was judged and others may follow.
-pub enum Judged {
-    Over,
-    Plan(Verdict),
+// Whether a verdict is acceptance.
+fn accepted(v: Verdict) -> bool
+    ensures { λ r. ⌜ r ≡ accepts v ⌝ }
+{
+    match v {
+        Verdict::Accepted(_) => true,
+        Verdict::Broken(_) => false,
+        Verdict::Refused(_, _) => false,
+    }
 }
 
+// The line's bytes; whether others may follow; whether a completion was written.
 pub struct PlanAnswer {
     pub bytes: usize,
-    pub judged: Judged,
+    pub more: bool,
+    pub accepted: bool,
 }
 
 // To each further frame, of a plan.
@@ -115,13 +122,15 @@ pub fn answer_plan(
     match bits::frame_at(frame, 0, LIMIT) {
         Framed::End => PlanAnswer {
             bytes: 0,
-            judged: Judged::Over,
+            more: false,
+            accepted: false,
         },
         Framed::Refused(f) => {
             let bytes = lines::put_framing(out, f);
             PlanAnswer {
                 bytes,
-                judged: Judged::Over,
+                more: false,
+            accepted: false,
             }
         }
         Framed::Message(_, _) => {
@@ -129,7 +138,8 @@ pub fn answer_plan(
             let bytes = lines::put_answer(out, index, v);
             PlanAnswer {
                 bytes,
-                judged: Judged::Plan(v),
+                more: true,
+                accepted: accepted(v),
             }
         }
     }

@@ -3,6 +3,7 @@ use bits::Fault;
 use model::Breach;
 use model::Subject;
 use model::Verdict;
+ghost use mathlib.Core.Path.{_≡_};
 ghost use mathlib.Core.List.{_++_};
 ghost use Prim.Native.Nat.{_+_, _*_, _≤_};
 ghost use lib.ListN.{length};
@@ -11,6 +12,13 @@ ghost use Rattle.model.specs.Batch.{caseLine, answer, framing};
 ghost use Rattle.lines.specs.Decimal.{decimal};
 ghost use Rattle.lines.specs.Text.{space, newline, figures as figuresOf, wordLine, answerText, text as textOf, failureText};
 ghost use Rattle.lines.specs.Writes.{lineRoom, Writes, Puts};
+
+// Room for a line.
+pub fn line_buffer() -> [u8; 112]
+    ensures { λ r. ⌜ length r ≡ lineRoom ⌝ }
+{
+    [0u8; 112]
+}
 
 // The bytes of a text from the place `at` on; answers the place behind them.
 fn put_bytes(out: &mut [u8], at: usize, text: &[u8]) -> usize

@@ -28,6 +28,9 @@ judge-plan-requires c κs = search needs
 put-answer-requires : tie.Need-put-answer-requires
 put-answer-requires c κs = search needs
 
+accepted-requires : tie.Need-accepted-requires
+accepted-requires c κs = search needs
+
 returns : tie.Need-returns
 returns c = plan-end _ _ _ _ _ (c .before .before .frame-at .ensures) (c .enum-told .given .1)
 
@@ -44,7 +47,7 @@ same-length-3 : tie.Need-same-length-3
 same-length-3 c = search needs
 
 returns-3 : tie.Need-returns-3
-returns-3 c = let s = c .before .before .before .before .before .before .before .before .before .before .before .before .before .before .before .before in plan-judged _ _ _ _ _ _ (c .before .before .before .before .before .before .before .before .before .before .before .frame-at .ensures) (s .pre .0) (s .pre .1) (c .before .before .before .before .before .before .before .before .before .enum-told2 .given .1) (c .before .before .before .before .before .before .before .before .message-at .ensures) (c .before .before .before .before .before .before .judge-plan .ensures) (c .before .before .put-answer .ensures)
+returns-3 c = let s = c .before .before .before .before .before .before .before .before .before .before .before .before .before .before .before .before .before in plan-judged _ _ _ _ _ _ (c .before .before .before .before .before .before .before .before .before .before .before .before .frame-at .ensures) (s .pre .0) (s .pre .1) (c .before .before .before .before .before .before .before .before .before .before .enum-told2 .given .1) (c .before .before .before .before .before .before .before .before .before .message-at .ensures) (c .before .before .before .before .before .before .before .judge-plan .ensures) (c .before .before .before .put-answer .ensures) (c .accepted .ensures)
 
 pub answer-plan-spec : {M : Type 1} → statement M
 answer-plan-spec =
@@ -58,6 +61,7 @@ answer-plan-spec =
     message-at-requires
     judge-plan-requires
     put-answer-requires
+    accepted-requires
     returns
     same-length
     returns-2
