@@ -130,7 +130,7 @@ pub fn answer_plan(
             PlanAnswer {
                 bytes,
                 more: false,
-            accepted: false,
+                accepted: false,
             }
         }
         Framed::Message(_, _) => {

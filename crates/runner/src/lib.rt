@@ -22,6 +22,25 @@ fn least(a: u64, b: u64) -> u64
     if a < b { a } else { b }
 }
 
+// Room for a frame, a decoded case and the longest completion.
+pub fn frame_buffer() -> [u8; 65539]
+    ensures { λ r. ⌜ length r ≡ frameRoom ⌝ }
+{
+    [0u8; 65539]
+}
+
+pub fn table_buffer() -> [u32; 15792]
+    ensures { λ r. ⌜ length r ≡ 15792 ⌝ }
+{
+    [0u32; 15792]
+}
+
+pub fn result_buffer() -> [u8; 12288]
+    ensures { λ r. ⌜ length r ≡ resultRoom ⌝ }
+{
+    [0u8; 12288]
+}
+
 // Whether a call that failed is tried again: it was interrupted, or what it asks for is not ready.
 fn again(error: i32) -> bool {
     libc::sched_yield();
