@@ -1,7 +1,17 @@
 // Runs the batches of a corpus, each behind a 32-bit byte length, with a line on each completion's bytes.
-use libc::STDIN_FILENO;
 use libc::STDOUT_FILENO;
-ghost use Prim.Native.Nat.{_<_};
+use model::CaseRecord;
+ghost use mathlib.Core.Path.{_≡_};
+ghost use Prim.Native.Nat.{_^_, _≤_, _<_};
+ghost use lib.ListN.{length};
+ghost use Rattle.ranges.specs.Views.{Decoded};
+ghost use Rattle.answers.specs.Frames.{frameRoom};
+
+fn least(a: u64, b: u64) -> u64
+    ensures { λ r. ⌜ (r ≤ a) × (r ≤ b) ⌝ }
+{
+    if a < b { a } else { b }
+}
 
 fn wide(x: u8) -> u64
     ensures { λ r. ⌜ r < 256 ⌝ }
@@ -9,19 +19,119 @@ fn wide(x: u8) -> u64
     x as u64
 }
 
+// One byte more of a CRC-32 (IEEE 802.3, reflected).
+fn crc_byte(crc: u32, b: u8) -> u32 {
+    let mut c = crc ^ (b as u32);
+    let mut k: u32 = 0;
+    while k < 8 {
+        let low = c % 2;
+        c = c / 2;
+        if low == 1 {
+            c = c ^ 0xedb8_8320;
+        }
+        k += 1;
+    }
+    c
+}
+
+fn crc(bytes: &[u8]) -> u32 {
+    let mut c: u32 = 0xffff_ffff;
+    let mut i: usize = 0;
+    while i < bytes.len() {
+        c = crc_byte(c, bytes[i]);
+        i += 1;
+    }
+    c ^ 0xffff_ffff
+}
+
+// A word, a number and a line's end or a space.
+fn print(word: &[u8], n: u64, end: &[u8]) {
+    io::write_all(STDOUT_FILENO, word);
+    io::print_decimal(STDOUT_FILENO, n);
+    io::write_all(STDOUT_FILENO, end);
+}
+
+// The length and the checksum of the completion that the result holds.
+fn print_completion(case: CaseRecord, result: &[u8])
+    requires { ⌜ (case .ndevices ≤ 16) × (case .nintervals ≤ 48) × (case .nzones ≤ 4) ⌝ }
+{
+    let n = least(completion::completion_bytes(case), result.len() as u64) as usize;
+    let bytes = &result[0..n];
+    print(b"completion ", n as u64, b" ");
+    print(b"", crc(bytes) as u64, b"\n");
+}
+
+// The plans of a batch of which `left` bytes are not read yet; answers how many were not read.
+fn run_plans(case: CaseRecord, table: &[u32], frame: &mut [u8], left: u64) -> u64
+    requires { ⌜ Decoded case (now table) × (length (now frame) ≡ frameRoom) × (left < 2 ^ 32) ⌝ }
+    ensures { λ r. ⌜ r < 2 ^ 32 ⌝ }
+{
+    let mut result = runner::result_buffer();
+    let mut rest = left;
+    let mut index: u64 = 1;
+    while 0 < rest {
+        let turn = runner::next(case, table, frame, &mut result, rest, index);
+        if turn.accepted {
+            print_completion(case, &result);
+        }
+        if !turn.more {
+            return turn.rest;
+        }
+        rest = turn.rest;
+        index += 1;
+    }
+    rest
+}
+
+// A batch of `left` bytes; answers how many were not read.
+fn run_batch(left: u64) -> u64
+    requires { ⌜ left < 2 ^ 32 ⌝ }
+    ensures { λ r. ⌜ r < 2 ^ 32 ⌝ }
+{
+    let mut frame = runner::frame_buffer();
+    let mut table = runner::table_buffer();
+    let started = runner::start(&mut frame, &mut table, left);
+    let case = started.case;
+    if started.more {
+        run_plans(case, &table, &mut frame, started.rest)
+    } else {
+        started.rest
+    }
+}
+
+// Reads and drops some of the next bytes; answers how many, 0 where none is left.
+fn skip_some(left: u64) -> u64
+    ensures { λ r. ⌜ r ≤ left ⌝ }
+{
+    let mut space = io::buffer();
+    let n = least(left, 4096) as usize;
+    let got = runner::read_full(&mut space[0..n]);
+    least(got.0 as u64, left)
+}
+
+// Reads and drops the rest of a batch.
+fn skip(count: u64) {
+    let mut left = count;
+    while 0 < left {
+        let got = skip_some(left);
+        if got == 0 {
+            return;
+        }
+        left = left - got;
+    }
+}
+
 // Runs the next batch; answers false where none is left.
 fn next_batch(index: u64) -> bool {
     let mut head = [0u8; 4];
-    let got = io::read_full(STDIN_FILENO, &mut head);
-    if got < 4 {
+    let got = runner::read_full(&mut head);
+    if got.0 < 4 {
         return false;
     }
     let length = ((wide(head[0]) * 256 + wide(head[1])) * 256 + wide(head[2])) * 256
         + wide(head[3]);
-    io::write_all(STDOUT_FILENO, b"batch ");
-    io::print_decimal(STDOUT_FILENO, index);
-    io::write_all(STDOUT_FILENO, b"\n");
-    runner::skip(runner::run(length, true));
+    print(b"batch ", index, b"\n");
+    skip(run_batch(length));
     true
 }
 

@@ -1,0 +1,70 @@
+-- `answers::answer_plan` meets its contract. Assumes nothing.
+use Rattle.answers.specs.Steps.{plan-end, plan-framing, plan-judged}
+use borrow.Author.Needs.{needs}
+use Rattle.answers.proofs.answer_plan.Statement.{statement}
+use Rattle.answers.proofs.answer_plan.Tie as tie
+
+frame-at-requires : tie.Need-frame-at-requires
+frame-at-requires c κs = search needs
+
+enum-told : tie.Need-enum-told
+enum-told c = search needs
+
+enum-known-f : tie.Need-enum-known-f
+enum-known-f c = search needs
+
+put-framing-requires : tie.Need-put-framing-requires
+put-framing-requires c κs = search needs
+
+enum-told-2 : tie.Need-enum-told-2
+enum-told-2 c = search needs
+
+message-at-requires : tie.Need-message-at-requires
+message-at-requires c κs = search needs
+
+judge-plan-requires : tie.Need-judge-plan-requires
+judge-plan-requires c κs = search needs
+
+put-answer-requires : tie.Need-put-answer-requires
+put-answer-requires c κs = search needs
+
+accepted-requires : tie.Need-accepted-requires
+accepted-requires c κs = search needs
+
+returns : tie.Need-returns
+returns c = plan-end _ _ _ _ _ (c .before .before .frame-at .ensures .is) (c .enum-told .given .1)
+
+same-length : tie.Need-same-length
+same-length c = search needs
+
+returns-2 : tie.Need-returns-2
+returns-2 c = plan-framing _ _ _ _ _ (c .before .before .before .before .before .before .before .frame-at .ensures .is) (c .before .before .before .before .before .f .given .1) (c .before .before .put-framing .ensures)
+
+same-length-2 : tie.Need-same-length-2
+same-length-2 c = search needs
+
+same-length-3 : tie.Need-same-length-3
+same-length-3 c = search needs
+
+returns-3 : tie.Need-returns-3
+returns-3 c = let s = c .before .before .before .before .before .before .before .before .before .before .before .before .before .before .before .before .before in plan-judged _ _ _ _ _ _ (c .before .before .before .before .before .before .before .before .before .before .before .before .frame-at .ensures .is) (s .pre .0) (s .pre .1) (c .before .before .before .before .before .before .before .before .before .before .enum-told2 .given .1) (c .before .before .before .before .before .before .before .before .before .message-at .ensures) (c .before .before .before .before .before .before .before .judge-plan .ensures) (c .before .before .before .put-answer .ensures) (c .accepted .ensures)
+
+pub answer-plan-spec : {M : Type 1} → statement M
+answer-plan-spec =
+    tie.close
+    (tie.spec
+    frame-at-requires
+    enum-told
+    enum-known-f
+    put-framing-requires
+    enum-told-2
+    message-at-requires
+    judge-plan-requires
+    put-answer-requires
+    accepted-requires
+    returns
+    same-length
+    returns-2
+    same-length-2
+    same-length-3
+    returns-3)

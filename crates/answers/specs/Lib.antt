@@ -1,0 +1,7 @@
+pub mod Frames
+pub mod Answers
+pub mod Stream
+pub mod Room
+pub mod Splits
+pub mod Whole
+pub mod Steps

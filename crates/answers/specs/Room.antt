@@ -1,0 +1,49 @@
+-- The batch program's result buffer has room for every completion.
+use mathlib.Core.Path.{_≡_, refl, _∙_}
+use mathlib.Core.List.{List}
+use Prim.Native.Nat.{ℕ, _+_, _*_, _≤_}
+use native.Mathlib.Omega.{arith}
+use native.Mathlib.Nat.{mul-le-mul}
+use borrow.Author.Tests.{le-leb}
+use lib.Dec.{leb}
+use lib.ListN.{length}
+use Rattle.numbers.specs.Base.{upTo}
+use Rattle.model.specs.Case.{Case, Plan, System, noDevice}
+use Rattle.model.specs.Forced.{intervals, devices, zones, device}
+use Rattle.layouts.specs.Layout.{Whole, passes, fails}
+use Rattle.ranges.specs.Ranges.{SystemRange, DeviceRange}
+use Rattle.numbers.specs.Every.{all-at, length-range, sum-bound}
+use Rattle.numbers.specs.Every.{all-upTo}
+use Rattle.model.specs.Ours.{ours}
+use Rattle.model.specs.Judgement.{energyWindows, ourSurplus, completionBytes, accepts, verdict, judged, withPlan}
+use Rattle.model.specs.Batch.{planVerdict}
+use Rattle.writing.specs.Size.{intervalWidth, written-needed}
+
+abbrev pub resultRoom : ℕ
+resultRoom = 12288
+
+module _ (c : Case) (r : SystemRange (c .system)) where
+  abbrev q : System
+  q = c .system
+
+  windows-few : energyWindows q ≤ 64
+  unfolding energyWindows
+  windows-few =
+      let s = sum-bound (λ i. length (device q i .energyWindows)) 4 (upTo (devices q)) (all-upTo _ (devices q) (λ i l. all-at (DeviceRange (length (q .halves))) noDevice (q .devices) (r .eachDevice) i l .energies)) in
+      omega (arith, s, length-range 0 (devices q), r .devices)
+
+  interval-few : intervalWidth (devices q) (zones q) ≤ 1983
+  interval-few = omega (arith, r .devices, r .zones)
+
+  pub completion-fits : (p : Plan) → length (completionBytes c p) ≤ resultRoom
+  unfolding completionBytes
+  completion-fits p = omega (arith, written-needed q (ours c p) (ourSurplus c p), mul-le-mul (r .intervals) interval-few, windows-few)
+
+-- so every verdict is that of a buffer long enough
+module _ (c : Case) (buffer : List ℕ) (fits : (p : Plan) → length (completionBytes c p) ≤ length buffer) where
+  pub enough : (w : Whole Plan) → withPlan c buffer w .verdict ≡ planVerdict c w
+  unfolding planVerdict judged verdict accepts
+  enough (passes p) =
+      let n = length (completionBytes c p) in
+      rw (le-leb n (length buffer) (fits p), le-leb n n (omega arith)) refl
+  enough (fails f) = refl

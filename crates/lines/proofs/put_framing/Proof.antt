@@ -1,0 +1,36 @@
+-- `lines::put_framing` meets its contract. Assumes nothing.
+use native.Mathlib.Omega.{arith}
+use Rattle.lines.specs.Writes.{writes-as}
+use Rattle.lines.specs.Spelling.{framing-is}
+use borrow.Author.Needs.{needs}
+use Rattle.lines.proofs.put_framing.Statement.{statement}
+use Rattle.lines.proofs.put_framing.Tie as tie
+
+number-of-requires : tie.Need-number-of-requires
+number-of-requires c κs = search needs
+
+slice-aggregate-put-word : tie.Need-slice-aggregate-put-word
+slice-aggregate-put-word c = search needs
+
+slice-aggregate-put-word-2 : tie.Need-slice-aggregate-put-word-2
+slice-aggregate-put-word-2 c = search needs
+
+put-word-requires : tie.Need-put-word-requires
+put-word-requires c κs = search needs
+
+same-length : tie.Need-same-length
+same-length c = search needs
+
+returns : tie.Need-returns
+returns c = writes-as (framing-is (c .before .before .before .before .before .before .before .before .args .f) (c .before .before .before .before .before .before .number-of .ensures)) (c .before .before .put-word .ensures) (omega arith)
+
+pub put-framing-spec : {M : Type 1} → statement M
+put-framing-spec =
+    tie.close
+    (tie.spec
+    number-of-requires
+    slice-aggregate-put-word
+    slice-aggregate-put-word-2
+    put-word-requires
+    same-length
+    returns)

@@ -1,0 +1,44 @@
+-- `lines::put_surplus` meets its contract. Assumes nothing.
+use native.Mathlib.Omega.{arith}
+use lib.ListN.{length-append}
+use Rattle.lines.specs.Writes.{behind}
+use borrow.Author.Needs.{needs}
+use Rattle.lines.proofs.put_surplus.Statement.{statement}
+use Rattle.lines.proofs.put_surplus.Tie as tie
+
+put-number-requires : tie.Need-put-number-requires
+put-number-requires c κs = search needs
+
+put-bytes-requires : tie.Need-put-bytes-requires
+put-bytes-requires c κs = search needs
+
+put-number-requires-2 : tie.Need-put-number-requires-2
+put-number-requires-2 c κs = search needs
+
+slice-aggregate-put-bytes : tie.Need-slice-aggregate-put-bytes
+slice-aggregate-put-bytes c = search needs
+
+put-bytes-requires-2 : tie.Need-put-bytes-requires-2
+put-bytes-requires-2 c κs = search needs
+
+same-length : tie.Need-same-length
+same-length c = search needs
+
+returns : tie.Need-returns
+returns c =
+    let p = c .before .before .before .before .before .before .before .before .before .before .before .before .before .before .before .put-number in
+    let q = c .before .before .before .before .before .before .before .before .before .before .before .put-bytes in
+    let r = c .before .before .before .before .before .before .before .put-number2 in
+    behind (behind (behind (p .ensures) (q .ensures) (omega (arith, p .ensures .short))) (r .ensures) (simp length-append (omega (arith, p .ensures .short, q .ensures .short)))) (c .before .before .put-bytes2 .ensures) (simp length-append (omega (arith, p .ensures .short, q .ensures .short, r .ensures .short)))
+
+pub put-surplus-spec : {M : Type 1} → statement M
+put-surplus-spec =
+    tie.close
+    (tie.spec
+    put-number-requires
+    put-bytes-requires
+    put-number-requires-2
+    slice-aggregate-put-bytes
+    put-bytes-requires-2
+    same-length
+    returns)

@@ -1,0 +1,88 @@
+-- `runner::next` meets its contract. Assumes nothing.
+use mathlib.Core.Path.{_≡_, sym, _∙_}
+use mathlib.Core.Bool.{Bool, true, false}
+use mathlib.Core.List.{List}
+use mathlib.Core.Logic.{⊎-elim}
+use Prim.Native.Nat.{ℕ, _-_, _≤_, _<_}
+use native.Mathlib.Omega.{arith}
+use lib.ListN.{length, length-take}
+use lib.Seq.{length-take-le}
+use Rattle.answers.specs.Frames.{framed}
+use Rattle.answers.specs.Answers.{moreOf}
+use Rattle.answers.specs.Steps.{never, more-bytes}
+use borrow.Author.Needs.{needs}
+use Rattle.runner.proofs.next.Statement.{statement}
+use Rattle.runner.proofs.next.Tie as tie
+
+-- behind a frame that holds a message fewer bytes are left
+progress : (frame : List ℕ) {m : Bool} {n left : ℕ} → m ≡ moreOf (framed frame) → length frame ≤ n → n ≤ left → m ≡ true → left - n < left
+progress frame e h l t = omega (arith, more-bytes frame (sym e ∙ t))
+
+read-frame-requires : tie.Need-read-frame-requires
+read-frame-requires c κs = search needs
+
+told-requires : tie.Need-told-requires
+told-requires c κs = search needs
+
+line-buffer-requires : tie.Need-line-buffer-requires
+line-buffer-requires c κs = search needs
+
+sub-answer-plan : tie.Need-sub-answer-plan
+sub-answer-plan c = search needs
+
+part-answer-plan-start : tie.Need-part-answer-plan-start
+part-answer-plan-start c = search needs
+
+part-answer-plan-end : tie.Need-part-answer-plan-end
+part-answer-plan-end c = search needs
+
+slice-aggregate-answer-plan : tie.Need-slice-aggregate-answer-plan
+slice-aggregate-answer-plan c = search needs
+
+answer-plan-requires : tie.Need-answer-plan-requires
+answer-plan-requires c κs = search needs
+
+array-share-prefix-line : tie.Need-array-share-prefix-line
+array-share-prefix-line c = search needs
+
+slice-aggregate-tell : tie.Need-slice-aggregate-tell
+slice-aggregate-tell c = sym (length-take-le _ _ (omega (arith, c .before .before .before .before .answer-plan .ensures .text .short)))
+
+tell-requires : tie.Need-tell-requires
+tell-requires c κs = search needs
+
+sub-rest : tie.Need-sub-rest
+sub-rest c = search needs
+
+same-length : tie.Need-same-length
+same-length c = search needs
+
+same-length-2 : tie.Need-same-length-2
+same-length-2 c = search needs
+
+returns : tie.Need-returns
+returns c =
+    let e = c .before .before .before .before .before .before .answer-plan .ensures in (
+      omega arith,
+      λ h. ⊎-elim (λ w. progress _ (e .more) (simp length-take (omega arith)) (omega arith) (cc)) (λ w. never (cc)) (c .if1 .came),
+    )
+
+pub next-spec : {M : Type 1} → statement M
+next-spec =
+    tie.close
+    (tie.spec
+    read-frame-requires
+    told-requires
+    line-buffer-requires
+    sub-answer-plan
+    part-answer-plan-start
+    part-answer-plan-end
+    slice-aggregate-answer-plan
+    answer-plan-requires
+    array-share-prefix-line
+    slice-aggregate-tell
+    tell-requires
+    sub-rest
+    same-length
+    same-length-2
+    returns)
