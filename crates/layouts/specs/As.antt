@@ -29,7 +29,7 @@ pub as-trans : {A B C : Type 0} {l : Layout C} {g : B → C} {m : Layout B} {f :
 as-trans {f = f} u v = record { reads = λ s p bad next. u .reads s p bad next ∙ v .reads s p bad _; writes = λ a. u .writes (f a) ∙ v .writes a }
 
 -- goes on alike behind the same layout
-ahead : {A X : Type 0} (m : Layout A) (s : List ℕ) (p : Place) (bad : Fault → X) {next other : A → Place → X}
+pub ahead : {A X : Type 0} (m : Layout A) (s : List ℕ) (p : Place) (bad : Fault → X) {next other : A → Place → X}
     → ((a : A) (q : Place) → next a q ≡ other a q) → m .read s p bad next ≡ m .read s p bad other
 ahead {A} {X} m s p bad e = ap (λ (h : A → Place → X). m .read s p bad h) (fun-ext (λ a. fun-ext (λ q. e a q)))
 
