@@ -123,6 +123,17 @@ module _ {A B : Type 0} {l : Layout B} {f : A → B} {m : Layout A} (u : As l f 
   unfolding present
   as-since k e b m₀ h = rw (has-not k e h) (as-nothing b)
 
+  -- what is known of the newer side's values is known of the older's
+  pub as-checked : (P : B → Type 0) (Q : A → Type 0) (g : B → A) → ((a : A) → g (f a) ≡ a) → ((b : B) → P b → Q (g b)) → Checked l P → Checked m Q
+  as-checked P Q g back h v = record { outcome = λ s p. go s p (v .outcome s p) }
+    where
+      same : {X : Type 0} (s : List ℕ) (p : Place) (bad : Fault → X) (next : A → Place → X) → m .read s p bad next ≡ l .read s p bad (λ b q. next (g b) q)
+      same s p bad next = sym (u .reads s p bad (λ b q. next (g b) q) ∙ ahead m s p bad (λ a q. ap (λ x. next x q) (back a)))
+
+      go : (s : List ℕ) (p : Place) → Outcome P (λ X bad next. l .read {X = X} s p bad next) → Outcome Q (λ X bad next. m .read {X = X} s p bad next)
+      go s p (stops x e) = stops x (λ X bad next. same s p bad next ∙ e X bad _)
+      go s p (goes b q k e) = goes (g b) q (h b k) (λ X bad next. same s p bad next ∙ e X bad _)
+
   -- a whole message
   pub as-whole : (P : A → Type 0) → Checked m P → (s : List ℕ) → readWhole l s ≡ mapWhole f (readWhole m s)
   unfolding readWhole settle
