@@ -21,6 +21,7 @@ use Rattle.numbers.specs.Base.{range, upTo}
 use Rattle.numbers.specs.Ranges.{sum-last}
 use Rattle.layouts.specs.Layout.{bytes, int}
 use Rattle.numbers.specs.Every.{all-upTo}
+use Rattle.model.specs.Editions.{batch, mostWindows}
 use Rattle.model.specs.Messages.{counts, edition1}
 use Rattle.layouts.specs.Layout.{any}
 use Rattle.model.specs.Judgement.{written, completionOf, countsOf, energyWindows}
@@ -32,7 +33,7 @@ use Rattle.writing.specs.Runs.{run, run-none, puts-as, fits-more}
 use Rattle.writing.specs.Size.{deviceWidth, zoneWidth, mismatchWidth, overrunWidth, intervalWidth, headerWidth, surplusWidth, completionWidth, needed, needed-room}
 use Rattle.writing.specs.Whole.{sixAt, deviceAt, deviceBits, zoneBits, intervalBits, overrunBits, windowsOf, windowsTo, windows-none, windows-all, windows-within, interval-puts, completion-puts}
 use Rattle.needs.specs.Energies.{windowsIn}
-use Rattle.tables.specs.Cells.{intervals-of, devices-of, zones-of, device-of, CellOf}
+use Rattle.tables.specs.Cells.{intervals-of, devices-of, zones-of, few-devices, few-intervals, device-of, CellOf}
 use Rattle.dispatch.specs.Choices.{ChoiceOf}
 use Rattle.dispatch.specs.declared.Choice.{Choice}
 
@@ -95,6 +96,12 @@ module _ (c : CaseRecord) (table plan forced : List ℕ) (h : Unbroken c table p
   system-range : SystemRange q
   system-range = h .ready .decoded .range .system
 
+  few : devices q ≤ batch .devices
+  few = few-devices c table plan forced (h .ready)
+
+  short : intervals q ≤ batch .intervals
+  short = few-intervals c table plan forced (h .ready)
+
   pub plan-range-of : PlanRange q p
   unfolding planOf
   plan-range-of = record {
@@ -110,7 +117,7 @@ module _ (c : CaseRecord) (table plan forced : List ℕ) (h : Unbroken c table p
     lt = omega (arith, intervals-of c table plan forced (h .ready))
 
     pub mismatch-fits : mismatchNeed q p t < 2 ^ 23
-    mismatch-fits = omega (arith, mismatch-bound q p system-range plan-range-of (h .rules) t lt)
+    mismatch-fits = omega (arith, mismatch-bound q p system-range plan-range-of (h .rules) (batch .devices) few t lt)
 
     module _ (z : ℕ) (m : z < c .nzones) where
       mt : z < zones q
@@ -122,12 +129,12 @@ module _ (c : CaseRecord) (table plan forced : List ℕ) (h : Unbroken c table p
 
       pub six-fits : {six : List ℕ} → six ≡ map (λ k. maxZero (shortfallNeed q p t z k)) shortfalls → FitsSix (sixIn six)
       six-fits e = rw e (record {
-        rgu = omega (arith, shortfall-bound q p system-range plan-range-of (h .rules) t z rgu lt mt);
-        rgd = omega (arith, shortfall-bound q p system-range plan-range-of (h .rules) t z rgd lt mt);
-        scr = omega (arith, shortfall-bound q p system-range plan-range-of (h .rules) t z scr lt mt);
-        nsc = omega (arith, shortfall-bound q p system-range plan-range-of (h .rules) t z nsc lt mt);
-        rru = omega (arith, shortfall-bound q p system-range plan-range-of (h .rules) t z rru lt mt);
-        rrd = omega (arith, shortfall-bound q p system-range plan-range-of (h .rules) t z rrd lt mt);
+        rgu = omega (arith, shortfall-bound q p system-range plan-range-of (h .rules) (batch .devices) few t z rgu lt mt);
+        rgd = omega (arith, shortfall-bound q p system-range plan-range-of (h .rules) (batch .devices) few t z rgd lt mt);
+        scr = omega (arith, shortfall-bound q p system-range plan-range-of (h .rules) (batch .devices) few t z scr lt mt);
+        nsc = omega (arith, shortfall-bound q p system-range plan-range-of (h .rules) (batch .devices) few t z nsc lt mt);
+        rru = omega (arith, shortfall-bound q p system-range plan-range-of (h .rules) (batch .devices) few t z rru lt mt);
+        rrd = omega (arith, shortfall-bound q p system-range plan-range-of (h .rules) (batch .devices) few t z rrd lt mt);
       })
 
     -- a device's choices
@@ -159,7 +166,7 @@ module _ (c : CaseRecord) (table plan forced : List ℕ) (h : Unbroken c table p
       pub overrun-fits : maxZero (overrunNeed q p i w) < 2 ^ 32
       overrun-fits =
           let mt : i < devices q = omega (arith, devices-of c table plan forced (h .ready)) in
-          omega (arith, overrun-bound q p system-range plan-range-of (h .rules) i w mt)
+          omega (arith, overrun-bound q p system-range plan-range-of (h .rules) (batch .intervals) short i w mt)
 
     -- its overruns fit behind those of the devices before it
     pub windows-room : {xs a b : List ℕ} {at next : ℕ} → Puts (windowsTo q i * overrunWidth) xs a b at next → Room a at (windowsTo q (c .ndevices) * overrunWidth) → Room b next (windowsOf q i * overrunWidth)
@@ -202,7 +209,7 @@ module _ (c : CaseRecord) (table plan forced : List ℕ) (h : Unbroken c table p
     few-windows : windowsTo q (c .ndevices) ≤ 64
     unfolding windowsTo
     few-windows = subst (λ (n : ℕ). sumℕ (windowsOf q) (upTo n) ≤ 64) (devices-of c table plan forced (h .ready))
-        (over-devices q p system-range plan-range-of (h .rules) (windowsOf q) 4 (λ i m. device-at q p system-range plan-range-of (h .rules) i m .energies))
+        (over-devices q p system-range plan-range-of (h .rules) (batch .devices) few (windowsOf q) mostWindows (λ i m. device-at q p system-range plan-range-of (h .rules) i m .energies))
 
     small-whole : completionWidth (c .ndevices) (c .nintervals) (c .nzones) (windowsTo q (c .ndevices)) < 2 ^ 63
     small-whole =

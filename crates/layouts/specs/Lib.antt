@@ -4,4 +4,8 @@ pub mod Split
 pub mod Layout
 pub mod Trip
 pub mod Checked
+pub mod Since
+pub mod As
+pub mod Own
+pub mod OwnBytes
 pub mod Numbers

@@ -41,7 +41,7 @@ fieldsOf l s p = l .read s p (λ f. refused (byNumber f)) (λ a after. read afte
 -- ---- numbers 1 to 4, "field's first bit"
 
 module _ (s : List ℕ) (p : Place) where
-  abbrev at-first : ℕ → Fields
+  abbrev pub at-first : ℕ → Fields
   at-first n = refused (record { number = n; returned = p .at })
 
   -- 1 "message ends before or inside the field"
@@ -64,7 +64,7 @@ module _ (s : List ℕ) (p : Place) where
   outside {low} {high} {v} (inr h) = inr (lt-leb v high h)
 
   -- a value out of its range has the field's own fault
-  wrong-is : (f : Field) (v : ℕ) (c : Cursor) → readField s (p .at) (f .width) ≡ Value v c → (v < f .low) ⊎ (f .high < v) → fieldsOf (nat f) s p ≡ refused (byNumber (f .wrong (p .at)))
+  pub wrong-is : (f : Field) (v : ℕ) (c : Cursor) → readField s (p .at) (f .width) ≡ Value v c → (v < f .low) ⊎ (f .high < v) → fieldsOf (nat f) s p ≡ refused (byNumber (f .wrong (p .at)))
   unfolding fieldsOf nat
   wrong-is f v c e h = rw e (tested (leb (f .low) v) (leb v (f .high)) _ _ (outside h))
 

@@ -165,7 +165,7 @@ bit-none : (i : ℕ) → bitAt [] i ≡ 0
 unfolding bitAt
 bit-none i = rw zero-div refl
 
-bit-past : (x : ℕ) (s : List ℕ) (j : ℕ) → bitAt (x ∷ s) (suc (suc (suc (suc (suc (suc (suc (suc j)))))))) ≡ bitAt s j
+pub bit-past : (x : ℕ) (s : List ℕ) (j : ℕ) → bitAt (x ∷ s) (suc (suc (suc (suc (suc (suc (suc (suc j)))))))) ≡ bitAt s j
 unfolding bitAt
 bit-past x s j =
     let u : suc (suc (suc (suc (suc (suc (suc (suc j))))))) / 8 ≡ suc (j / 8) = omega arith in

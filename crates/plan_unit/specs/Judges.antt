@@ -6,7 +6,8 @@ use Rattle.model.specs.declared.CaseRecord.{CaseRecord}
 use Rattle.model.specs.declared.Verdict.{Verdict}
 use Rattle.model.specs.Judgement.{judgement, withPlan, readPlan}
 use Rattle.theorems.specs.Promise.{Promise, PlanPromise, promised, plan-promised}
-use Rattle.ranges.specs.Ranges.{CaseRange}
+use Rattle.model.specs.Editions.{batch}
+use Rattle.ranges.specs.Ranges.{Taken}
 use Rattle.ranges.specs.Views.{caseIn}
 
 -- `before` and `after` are the result buffer as it came and as it is left
@@ -31,7 +32,7 @@ pub record JudgesPlan (c : CaseRecord) (table ps before after : List ℕ) (v : V
   pub result : after ≡ withPlan (caseIn c table) before (readPlan (caseIn c table .system) ps) .result
   pub promise : PlanPromise (caseIn c table) ps before (record { verdict = v; result = after })
 
-pub judges-plan : {c : CaseRecord} {table ps before after : List ℕ} {v : Verdict} → CaseRange (caseIn c table)
+pub judges-plan : {c : CaseRecord} {table ps before after : List ℕ} {v : Verdict} → Taken 1 batch (caseIn c table)
     → v ≡ withPlan (caseIn c table) before (readPlan (caseIn c table .system) ps) .verdict → after ≡ withPlan (caseIn c table) before (readPlan (caseIn c table .system) ps) .result
     → JudgesPlan c table ps before after v
 judges-plan {c} {table} {ps} {before} {after} {v} g e f = record {

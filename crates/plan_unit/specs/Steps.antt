@@ -19,7 +19,9 @@ use Rattle.model.specs.Breaches.{breaches}
 use Rattle.model.specs.Named.{none-every, every-none}
 use Rattle.model.specs.Ours.{ours}
 use Rattle.layouts.specs.Layout.{passes, fails, readWhole}
+use Rattle.model.specs.Editions.{batch}
 use Rattle.model.specs.Messages.{edition1, planLayout}
+use Rattle.ranges.specs.Ranges.{Taken}
 use Rattle.model.specs.Judgement.{judged, verdict, accepts, unlessBroken, bufferAfter, ourSurplus, completionBytes, energyWindows, readPlan, withPlan, judgement, readCase}
 use Rattle.ranges.specs.Views.{caseIn, planIn, halvesIn, minimaIn, cellsIn, Decoded, Planned, Ready}
 use Rattle.ranges.specs.Viewed.{devices-are, intervals-are, zones-are}
@@ -79,6 +81,10 @@ devices-in c table = devices-are c (halvesIn table) (minimaIn table) (cellsIn ta
 
 intervals-in : (c : CaseRecord) (table : List ℕ) → Decoded c table → intervals (caseIn c table .system) ≡ c .nintervals
 intervals-in c table d = intervals-are c (halvesIn table) (minimaIn table) (cellsIn table) (omega (arith, d .intervals, d .long, length-take 48 (drop 0 table)))
+
+-- a decoded case is one of edition 1 that the batch program takes
+taken-in : (c : CaseRecord) (table : List ℕ) → Decoded c table → Taken 1 batch (caseIn c table)
+taken-in c table d = record { devices = omega (arith, devices-in c table, d .devices); intervals = omega (arith, intervals-in c table d, d .intervals); range = d .range }
 
 -- what judging a case that failed, or passed, is
 case-off : (cs ps before : List ℕ) (f : Fault) → readCase cs ≡ fails f → (Refused S.Case f ≡ judgement cs ps before .verdict) × (before ≡ judgement cs ps before .result)
@@ -160,12 +166,12 @@ module _ (c : CaseRecord) (table ps plan : List ℕ) (d : Decoded c table) (e : 
   pub plan-fails : (before : List ℕ) {f : Fault} → e ≡ Fails f → JudgesPlan c table ps before before (Refused S.Plan f)
   plan-fails before {f} t =
       let g : readPlan (caseIn c table .system) ps ≡ fails f = sym plan-read ∙ ap (ended (planIn c plan)) t in
-      judges-plan (d .range) (rw g refl) (rw g refl)
+      judges-plan (taken-in c table d) (rw g refl) (rw g refl)
 
   pub plan-passes : {before after : List ℕ} {v : Verdict} → e ≡ Passes → Decides c table plan before after v → JudgesPlan c table ps before after v
   plan-passes t k =
       let g : readPlan (caseIn c table .system) ps ≡ passes (planIn c plan) = sym plan-read ∙ ap (ended (planIn c plan)) t in
-      judges-plan (d .range) (rw g (k .verdict)) (rw g (k .result))
+      judges-plan (taken-in c table d) (rw g (k .verdict)) (rw g (k .result))
 
   pub planned-of : length plan ≡ 7680 → e ≡ Passes → Planned c plan
   planned-of n t = record { long = n; range = h .range t }

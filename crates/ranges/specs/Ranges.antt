@@ -1,5 +1,5 @@
--- The ranges of a case and a plan that pass reading.
-use mathlib.Core.Path.{_≡_}
+-- The ranges of a case and a plan that pass reading, in every edition.
+use mathlib.Core.Path.{_≡_, refl}
 use mathlib.Core.List.{List, [], _∷_, map}
 use Prim.Native.Nat.{ℕ, _≤_}
 use native.Mathlib.Omega.{arith}
@@ -8,9 +8,14 @@ use lib.IntN.{natAbs}
 use Rattle.numbers.specs.Sum.{All}
 use Rattle.model.specs.Case.{Reserves, Ramps, StartWindow, EnergyWindow, Shares, Six, Minima, Cell, CellPrices, Device, DevicePrices, Zone, System, Prices, Case, Plan, Setting}
 use Rattle.layouts.specs.Layout.{Layout, Field, nat, list, counted, _then_, _▸_, passes, figure, any, countOf}
+use Rattle.model.specs.Editions.{newest, Largest, batch, devicesIn, intervalsIn, mostDevices, mostIntervals, mostZones, mostStates, mostWindows, startsBits, mostStarts}
 use Rattle.model.specs.Messages as M
 use Rattle.model.specs.Messages.{edition1}
+use Rattle.model.specs.ByEdition as B
+use Rattle.model.specs.ByEdition.{Stated, statedIn, plannedIn}
+use Rattle.model.specs.AsBefore.{case-as, plan-as}
 use Rattle.model.specs.Judgement.{readCase, readPlan}
+use Rattle.layouts.specs.As.{as-checked}
 use Rattle.layouts.specs.Checked.{Checked, nat-checked, int-checked, list-checked, such-checked, held-checked, then-checked, whole-checked, weaken}
 
 pair-checked : {A B : Type 0} (l : Layout A) (m : Layout B) (P : A → Type 0) (Q : B → Type 0) → Checked l P → Checked m Q → Checked (l ▸ m) (λ x. P (x .0) × Q (x .1))
@@ -65,9 +70,9 @@ pub record CellPriceRange (c : CellPrices) : Type 0 where
   pub blocks : All (λ x. natAbs x ≤ 10000) (c .blocks)
   pub reserves : Eight (λ r. r ≤ 10000) (c .reserves)
 
-cell-checked : Checked M.cell (λ v. CellRange (v .0) × CellPriceRange (v .1))
+cell-checked : (e : ℕ) → Checked (B.cell e) (λ v. CellRange (v .0) × CellPriceRange (v .1))
 unfolding M.cell
-cell-checked = held-checked _ _ _ _ _
+cell-checked e = held-checked _ _ _ _ _
     (pair-checked _ _ _ _ (figure-checked 2 0 2)
     (pair-checked _ _ _ _ (then-checked M.kW _ _ (λ low high. high ≤ 100000) (figure-checked 17 0 100000) (λ low ok. such-checked _ _ _ (figure-checked 17 0 100000)))
     (pair-checked _ _ _ _ (apart-checked _ 4 (λ x. x ≤ 100000) (λ x. natAbs x ≤ 10000) (counted-checked (countOf 3 0 4) _ _ (pair-checked _ _ _ _ (figure-checked 17 0 100000) (int-checked 15 10000))))
@@ -98,7 +103,7 @@ headOf d = record { side = d .side; zoneBits = d .zoneBits; on0 = d .on0; power0
 pub record StartRange (w : StartWindow) : Type 0 where
   pub from : w .from ≤ 65535
   pub until : w .until ≤ 65535
-  pub most : w .most ≤ 48
+  pub most : w .most ≤ mostStarts newest
 
 pub record EnergyRange (w : EnergyWindow) : Type 0 where
   pub kind : w .kind ≤ 1
@@ -111,9 +116,9 @@ pub record DeviceRange (intervals : ℕ) (d : Device) : Type 0 where
   pub limits : Eight (λ r. r ≤ 100000) (d .limits)
   pub longest : All (λ x. x ≤ 60000) (d .longest)
   pub startWindows : All StartRange (d .startWindows)
-  pub states : length (d .longest) ≤ 4
-  pub starts : length (d .startWindows) ≤ 4
-  pub energies : length (d .energyWindows) ≤ 4
+  pub states : length (d .longest) ≤ mostStates
+  pub starts : length (d .startWindows) ≤ mostWindows
+  pub energies : length (d .energyWindows) ≤ mostWindows
   pub energy : All EnergyRange (d .energyWindows)
   pub each : length (d .cells) ≡ intervals
   pub cells : All CellRange (d .cells)
@@ -138,9 +143,9 @@ ends-checked : (last : ℕ) → Checked (M.windowEnds last) (λ v. (v .0 ≤ 655
 unfolding M.windowEnds
 ends-checked last = then-checked (any 16) _ _ (λ a b. b ≤ 65535) (figure-checked 16 0 65535) (λ a ok. such-checked _ _ _ (figure-checked 16 0 65535))
 
-start-checked : (last : ℕ) → Checked (M.startWindow edition1 last) StartRange
-unfolding M.startWindow
-start-checked last = held-checked _ _ _ _ _ (pair-checked _ _ _ _ (ends-checked last) (figure-checked 6 0 48)) (λ v ok. record { from = ok .0 .0; until = ok .0 .1; most = ok .1 })
+start-checked : (e last : ℕ) → Checked (B.startWindow e last) StartRange
+unfolding B.startWindow
+start-checked e last = held-checked _ _ _ _ _ (pair-checked _ _ _ _ (ends-checked last) (figure-checked (startsBits e) 0 (mostStarts e))) (λ v ok. record { from = ok .0 .0; until = ok .0 .1; most = ok .1 })
 
 energy-checked : (last : ℕ) → Checked (M.energyWindow last) EnergyRange
 unfolding M.energyWindow
@@ -159,16 +164,17 @@ pub record DevicePriceRange (x : DevicePrices) : Type 0 where
   pub states : All (λ z. natAbs z ≤ 1000000000) (x .stateCosts)
   pub cells : All CellPriceRange (x .cells)
 
-device-checked : (intervals zones last : ℕ) → Checked (M.device edition1 intervals zones last) (λ v. DeviceRange intervals (v .0) × DevicePriceRange (v .1))
-unfolding M.device
-device-checked n zones last = held-checked _ _ _ _ _
+device-checked : (e intervals zones last : ℕ) → Checked (B.device e intervals zones last) (λ v. DeviceRange intervals (v .0) × DevicePriceRange (v .1))
+unfolding B.device
+device-checked e n zones last = held-checked _ _ _ _ _
     (pair-checked _ _ _ _ (head-checked zones)
     (pair-checked _ _ _ _ costs-checked
     (pair-checked _ _ _ _ (eight-checked _ _ (figure-checked 17 0 100000))
-    (pair-checked _ _ _ _ (apart-checked _ 4 (λ x. x ≤ 60000) (λ z. natAbs z ≤ 1000000000) (counted-checked (countOf 3 0 4) _ _ (pair-checked _ _ _ _ (figure-checked 16 0 60000) (int-checked 31 1000000000))))
-    (pair-checked _ _ _ _ (counted-checked (countOf 3 0 4) _ _ (start-checked last))
-    (pair-checked _ _ _ _ (counted-checked (countOf 3 0 4) _ _ (energy-checked last))
-    (some-checked n M.cell CellRange CellPriceRange cell-checked)))))))
+    (pair-checked _ _ _ _ (apart-checked _ mostStates (λ x. x ≤ 60000) (λ z. natAbs z ≤ 1000000000)
+    (counted-checked (countOf 3 0 mostStates) _ _ (pair-checked _ _ _ _ (figure-checked 16 0 60000) (int-checked 31 1000000000))))
+    (pair-checked _ _ _ _ (counted-checked (countOf 3 0 mostWindows) _ _ (start-checked e last))
+    (pair-checked _ _ _ _ (counted-checked (countOf 3 0 mostWindows) _ _ (energy-checked last))
+    (some-checked n (B.cell e) CellRange CellPriceRange (cell-checked e))))))))
     (λ v ok. (
       record { head = ok .0; limits = ok .1 .1 .0; longest = ok .1 .1 .1 .0 .1; startWindows = ok .1 .1 .1 .1 .0 .1; states = ok .1 .1 .1 .0 .0; starts = ok .1 .1 .1 .1 .0 .0; energies = ok .1 .1 .1 .1 .1 .0 .0; energy = ok .1 .1 .1 .1 .1 .0 .1; each = ok .1 .1 .1 .1 .1 .1 .0; cells = ok .1 .1 .1 .1 .1 .1 .1 },
       record { on = ok .1 .0 .0; start = ok .1 .0 .1; stop = ok .1 .0 .2; states = ok .1 .1 .1 .0 .2; cells = ok .1 .1 .1 .1 .1 .1 .2 },
@@ -209,27 +215,21 @@ six-checked : Checked (M.six (figure 7 1 100)) SixRange
 unfolding M.six
 six-checked = let u = figure-checked 7 1 100 in held-checked _ _ _ _ _ (pair-checked _ _ _ _ u (pair-checked _ _ _ _ u (pair-checked _ _ _ _ u (pair-checked _ _ _ _ u (pair-checked _ _ _ _ u u))))) (λ v ok. record { rgu = ok .0; rgd = ok .1 .0; scr = ok .1 .1 .0; nsc = ok .1 .1 .1 .0; rru = ok .1 .1 .1 .1 .0; rrd = ok .1 .1 .1 .1 .1 })
 
-zone-checked : (intervals : ℕ) → Checked (M.zone intervals) (λ v. ZoneRange (v .0) × SixRange (v .1))
+zone-checked : (e intervals : ℕ) → Checked (B.zone e intervals) (λ v. ZoneRange (v .0) × SixRange (v .1))
 unfolding M.zone
-zone-checked n = held-checked _ _ _ _ _ (pair-checked _ _ _ _ shares-checked (pair-checked _ _ _ _ six-checked (list-checked n M.minima _ minima-checked)))
+zone-checked e n = held-checked _ _ _ _ _ (pair-checked _ _ _ _ shares-checked (pair-checked _ _ _ _ six-checked (list-checked n M.minima _ minima-checked)))
     (λ v ok. (record { shares = ok .0; minima = ok .1 .1 .1 }, ok .1 .0))
 
 -- the quantities of a case
 pub record SystemRange (q : System) : Type 0 where
   pub someInterval : 1 ≤ length (q .halves)
-  pub intervals : length (q .halves) ≤ 48
+  pub intervals : length (q .halves) ≤ mostIntervals
   pub halves : All (λ h. h ≤ 180) (q .halves)
   pub someDevice : 1 ≤ length (q .devices)
-  pub devices : length (q .devices) ≤ 16
+  pub devices : length (q .devices) ≤ mostDevices
   pub eachDevice : All (DeviceRange (length (q .halves))) (q .devices)
-  pub zones : length (q .zones) ≤ 4
+  pub zones : length (q .zones) ≤ mostZones
   pub eachZone : All ZoneRange (q .zones)
-
-counts-checked : (kind : ℕ) → Checked (M.counts kind edition1) (λ n. ((1 ≤ n .devices) × (n .devices ≤ 16)) × ((1 ≤ n .intervals) × (n .intervals ≤ 48)) × (n .zones ≤ 4))
-unfolding M.counts
-counts-checked kind = held-checked _ _ _ _ _
-    (pair-checked _ _ _ _ (nat-checked _) (pair-checked _ _ _ _ (nat-checked _) (pair-checked _ _ _ _ (nat-checked _) (pair-checked _ _ _ _ (nat-checked _) (nat-checked _)))))
-    (λ v ok. (ok .1 .1 .0, ok .1 .1 .1 .0, ok .1 .1 .1 .1 .1))
 
 -- the prices of a case
 pub record PricesRange (x : Prices) : Type 0 where
@@ -242,31 +242,75 @@ pub record CaseRange (c : Case) : Type 0 where
   pub system : SystemRange (c .system)
   pub prices : PricesRange (c .prices)
 
-pub case-checked : Checked (M.caseLayout edition1) CaseRange
-unfolding M.caseLayout
-case-checked = held-checked _ _ _ _ _
-    (then-checked (M.counts 1 edition1) _ _ _ (counts-checked 1) (λ n ok.
-    pair-checked _ _ _ _ (figure-checked 14 1 10000) (pair-checked _ _ _ _ (figure-checked 14 1 10000)
-    (then-checked (list (n .intervals) (figure 8 1 180)) _ _ _ (list-checked _ _ _ (figure-checked 8 1 180)) (λ halves h.
-    pair-checked _ _ _ _ (some-checked (n .zones) _ ZoneRange SixRange (zone-checked (n .intervals))) (some-checked (n .devices) _ (DeviceRange (n .intervals)) DevicePriceRange (device-checked (n .intervals) (n .zones) _)))))))
-    (λ v ok. let h = ok .1 .1 .1 .0 in let z = ok .1 .1 .1 .1 .0 in let d = ok .1 .1 .1 .1 .1 in record {
-      system = record {
-        someInterval = omega arith;
-        intervals = omega arith;
-        halves = h .1;
-        someDevice = omega arith;
-        devices = omega arith;
-        eachDevice = rw (h .0) (d .1);
-        zones = omega arith;
-        eachZone = z .1;
-      };
-      prices = record { mismatch = ok .1 .0; overrun = ok .1 .1 .0; zones = z .2; devices = d .2 };
-    })
+-- what is read of a case's counts
+abbrev Counted : ℕ → ℕ → M.Counts → Type 0
+Counted devices intervals n = ((1 ≤ n .devices) × (n .devices ≤ devices)) × ((1 ≤ n .intervals) × (n .intervals ≤ intervals)) × (n .zones ≤ mostZones)
 
--- a case that passes reading is within its ranges
-pub case-range : (s : List ℕ) (c : Case) → readCase s ≡ passes c → CaseRange c
+counts-checked : (e : ℕ) (l : Largest) → Checked (B.counts e l) (Counted (devicesIn e l) (intervalsIn e l))
+unfolding B.counts
+counts-checked e l = held-checked _ _ _ _ _ (pair-checked _ _ _ _ (nat-checked _) (pair-checked _ _ _ _ (nat-checked _) (nat-checked _))) (λ v ok. (ok .0, ok .1 .0, ok .1 .1 .1))
+
+-- a case of edition e as a reader takes it: within the edition's counts and the reader's
+pub record Taken (e : ℕ) (l : Largest) (c : Case) : Type 0 where
+  pub devices : length (c .system .devices) ≤ devicesIn e l
+  pub intervals : length (c .system .halves) ≤ intervalsIn e l
+  pub range : CaseRange c
+
+pub record StatedRange (l : Largest) (x : Stated) : Type 0 where
+  pub edition : (1 ≤ x .edition) × (x .edition ≤ newest)
+  pub case : Taken (x .edition) l (x .case)
+
+-- any reader that takes no more than the most
+module _ (l : Largest) (most : l .devices ≤ mostDevices) (long : l .intervals ≤ mostIntervals) where
+  content-checked : (e : ℕ) → Checked (B.content e l) (Taken e l)
+  unfolding B.content
+  content-checked e = held-checked _ _ _ _ _
+      (then-checked (B.counts e l) _ _ _ (counts-checked e l) (λ n ok.
+      pair-checked _ _ _ _ (figure-checked 14 1 10000) (pair-checked _ _ _ _ (figure-checked 14 1 10000)
+      (then-checked (list (n .intervals) (figure 8 1 180)) _ _ _ (list-checked _ _ _ (figure-checked 8 1 180)) (λ halves h.
+      pair-checked _ _ _ _ (some-checked (n .zones) _ ZoneRange SixRange (zone-checked e (n .intervals)))
+      (some-checked (n .devices) _ (DeviceRange (n .intervals)) DevicePriceRange (device-checked e (n .intervals) (n .zones) _)))))))
+      (λ v ok. let h = ok .1 .1 .1 .0 in let z = ok .1 .1 .1 .1 .0 in let d = ok .1 .1 .1 .1 .1 in record {
+        devices = omega arith;
+        intervals = omega arith;
+        range = record {
+          system = record {
+            someInterval = omega arith;
+            intervals = omega arith;
+            halves = h .1;
+            someDevice = omega arith;
+            devices = omega arith;
+            eachDevice = rw (h .0) (d .1);
+            zones = omega arith;
+            eachZone = z .1;
+          };
+          prices = record { mismatch = ok .1 .0; overrun = ok .1 .1 .0; zones = z .2; devices = d .2 };
+        };
+      })
+
+  pub stated-checked : Checked (B.caseLayout l) (StatedRange l)
+  unfolding B.caseLayout
+  stated-checked = held-checked _ _ _ _ _
+      (pair-checked _ _ _ _ (nat-checked _) (then-checked (nat B.editionField) _ _ _ (nat-checked B.editionField) (λ e ok. content-checked e)))
+      (λ v ok. record { edition = ok .1 .0; case = ok .1 .1 })
+
+  -- a case that passes reading is within its ranges
+  pub stated-range : (s : List ℕ) (x : Stated) → statedIn l s ≡ passes x → StatedRange l x
+  unfolding statedIn
+  stated-range s x h = whole-checked (B.caseLayout l) (StatedRange l) stated-checked s x h
+
+-- and so is one of edition 1, as it was before there were others
+pub case-checked : Checked (M.caseLayout edition1) (Taken 1 batch)
+case-checked = as-checked (case-as batch (omega arith) (omega arith)) _ _ (λ x. x .case) (λ c. refl)
+    (λ x ok. let e : x .edition ≡ 1 = omega (arith, ok .edition .0, ok .edition .1) in rw e at (ok .case))
+    (stated-checked batch (omega arith) (omega arith))
+
+pub case-taken : (s : List ℕ) (c : Case) → readCase s ≡ passes c → Taken 1 batch c
 unfolding readCase
-case-range s c e = whole-checked (M.caseLayout edition1) CaseRange case-checked s c e
+case-taken s c e = whole-checked (M.caseLayout edition1) (Taken 1 batch) case-checked s c e
+
+pub case-range : (s : List ℕ) (c : Case) → readCase s ≡ passes c → CaseRange c
+case-range s c e = case-taken s c e .range
 
 -- the settings of a plan
 pub record SettingRange (x : Setting) : Type 0 where
@@ -278,24 +322,35 @@ pub record PlanRange (q : System) (p : Plan) : Type 0 where
   pub intervals : length (p .settings) ≡ length (q .halves)
   pub each : All (λ row. (length row ≡ length (q .devices)) × All SettingRange row) (p .settings)
 
-setting-checked : Checked M.setting SettingRange
+setting-checked : (e : ℕ) → Checked (B.setting e) SettingRange
 unfolding M.setting
-setting-checked = held-checked _ _ _ _ _ (pair-checked _ _ _ _ (figure-checked 1 0 1) (pair-checked _ _ _ _ (figure-checked 17 0 100000) (eight-checked _ _ (figure-checked 17 0 100000))))
+setting-checked e = held-checked _ _ _ _ _ (pair-checked _ _ _ _ (figure-checked 1 0 1) (pair-checked _ _ _ _ (figure-checked 17 0 100000) (eight-checked _ _ (figure-checked 17 0 100000))))
     (λ v ok. record { on = ok .0; online = ok .1 .0; reserves = ok .1 .1 })
 
 -- a plan's settings: of so many intervals, each of so many devices
 abbrev pub Settings : ℕ → ℕ → Plan → Type 0
 Settings devices intervals p = (length (p .settings) ≡ intervals) × All (λ row. (length row ≡ devices) × All SettingRange row) (p .settings)
 
-pub settings-checked : (devices intervals : ℕ) → Checked (M.planLayout edition1 devices intervals) (Settings devices intervals)
-unfolding M.planLayout
-settings-checked devices intervals = held-checked _ _ _ _ _
+pub settings-in : (e devices intervals : ℕ) → Checked (B.planLayout e devices intervals) (Settings devices intervals)
+unfolding B.planLayout
+settings-in e devices intervals = held-checked _ _ _ _ _
     (pair-checked _ _ _ _ (nat-checked _) (pair-checked _ _ _ _ (nat-checked _) (pair-checked _ _ _ _ (nat-checked _) (pair-checked _ _ _ _ (nat-checked _)
-    (list-checked _ _ _ (list-checked _ M.setting SettingRange setting-checked))))))
+    (list-checked _ _ _ (list-checked _ (B.setting e) SettingRange (setting-checked e)))))))
     (λ v ok. (ok .1 .1 .1 .1 .0, ok .1 .1 .1 .1 .1))
 
+pub planned-checked : (e : ℕ) (q : System) → Checked (B.planLayout e (length (q .devices)) (length (q .halves))) (PlanRange q)
+planned-checked e q = weaken _ (Settings (length (q .devices)) (length (q .halves))) (PlanRange q) (settings-in e (length (q .devices)) (length (q .halves))) (λ p ok. record { intervals = ok .0; each = ok .1 })
+
+pub planned-range : (e : ℕ) (q : System) (s : List ℕ) (p : Plan) → plannedIn e q s ≡ passes p → PlanRange q p
+unfolding plannedIn
+planned-range e q s p h = whole-checked _ (PlanRange q) (planned-checked e q) s p h
+
+-- a plan of edition 1
+pub settings-checked : (devices intervals : ℕ) → Checked (M.planLayout edition1 devices intervals) (Settings devices intervals)
+settings-checked devices intervals = rw plan-as at (settings-in 1 devices intervals)
+
 pub plan-checked : (q : System) → Checked (M.planLayout edition1 (length (q .devices)) (length (q .halves))) (PlanRange q)
-plan-checked q = weaken _ (Settings (length (q .devices)) (length (q .halves))) (PlanRange q) (settings-checked (length (q .devices)) (length (q .halves))) (λ p ok. record { intervals = ok .0; each = ok .1 })
+plan-checked q = rw plan-as at (planned-checked 1 q)
 
 pub plan-range : (q : System) (s : List ℕ) (p : Plan) → readPlan q s ≡ passes p → PlanRange q p
 unfolding readPlan

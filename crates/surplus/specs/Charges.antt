@@ -9,6 +9,7 @@ use lib.IntN.{ℤ, pos, negℤ, _*ℤ_}
 use Rattle.numbers.specs.Laws.{maxZero}
 use Rattle.numbers.specs.declared.Ledger.{Ledger}
 use Rattle.model.specs.Case.{Plan, Case, Six, noSix}
+use Rattle.model.specs.Editions.{batch}
 use Rattle.model.specs.Forced.{zones, duration}
 use Rattle.model.specs.Rules.{EveryRule}
 use Rattle.model.specs.Completion.{Shortfall, shortfalls, shortfallNeed, mismatchNeed, overrunNeed, shortfallCost, mismatchCost}
@@ -90,7 +91,8 @@ module _ {zone : ZoneRecord} {table plan forced : List ℕ} {t z : ℕ} {x : Lis
 
   pub six-small : SixSmall x (zone .prices)
   six-small = record {
-    amount = λ j l. rw (w .amounts) (six-get (λ n. n ≤ 6400000000) need (λ s. shortfall-bound (k .system) p (w .ready .decoded .range .system) (plan-range-of c table plan forced (w .ready)) (w .rules) t z s
+    amount = λ j l. rw (w .amounts) (six-get (λ n. n ≤ 6400000000) need (λ s. shortfall-bound (k .system) p (w .ready .decoded .range .system) (plan-range-of c table plan forced (w .ready)) (w .rules)
+        (batch .devices) (Cells.few-devices c table plan forced (w .ready)) t z s
         (omega (arith, w .interval, Cells.intervals-of c table plan forced (w .ready))) (omega (arith, w .known, Cells.zones-of c table plan forced (w .ready)))) j l);
     price = six-price (zone .prices) (subst SixRange prices-are (six-at k (w .ready .decoded .range .prices) z));
   }
@@ -148,7 +150,8 @@ module _ {price : ℕ} {table plan forced : List ℕ} {t m : ℕ} (w : IntervalO
   mismatch-power = omega (
     arith,
     w .power,
-    mismatch-bound (caseIn (w .case) table .system) (planIn (w .case) plan) (w .ready .decoded .range .system) (plan-range-of (w .case) table plan forced (w .ready)) (w .rules) t
+    mismatch-bound (caseIn (w .case) table .system) (planIn (w .case) plan) (w .ready .decoded .range .system) (plan-range-of (w .case) table plan forced (w .ready)) (w .rules)
+        (batch .devices) (Cells.few-devices (w .case) table plan forced (w .ready)) t
         (omega (arith, w .interval, Cells.intervals-of (w .case) table plan forced (w .ready))),
   )
 
@@ -196,7 +199,8 @@ module _ {price : ℕ} {table plan forced : List ℕ} {i w e : ℕ} (o : Overrun
   overrun-energy = omega (
     arith,
     o .energy,
-    overrun-bound (caseIn (o .case) table .system) (planIn (o .case) plan) (o .ready .decoded .range .system) (plan-range-of (o .case) table plan forced (o .ready)) (o .rules) i w
+    overrun-bound (caseIn (o .case) table .system) (planIn (o .case) plan) (o .ready .decoded .range .system) (plan-range-of (o .case) table plan forced (o .ready)) (o .rules)
+        (batch .intervals) (Cells.few-intervals (o .case) table plan forced (o .ready)) i w
         (omega (arith, o .device, Cells.devices-of (o .case) table plan forced (o .ready))),
   )
 

@@ -6,9 +6,12 @@ use lib.ListN.{length}
 use lib.IntN.{natAbs}
 use Rattle.numbers.specs.Sum.{All}
 use Rattle.model.specs.Case.{Six, Case, Plan}
-use Rattle.layouts.specs.Layout.{Layout, _then_, _▸_, readWhole, passes}
+use Rattle.layouts.specs.declared.Fault.{Fault}
+use Rattle.layouts.specs.Layout.{Layout, nat, _then_, _▸_, readWhole, passes, bytes, any, countOf}
+use Rattle.model.specs.Editions.{deviceBits, intervalBits}
+use Rattle.model.specs.ByEdition as B
+use Rattle.model.specs.ByEdition.{completionFront, completionKind}
 use Rattle.model.specs.Messages.{Edition, edition1, Counts, six, deviceChoice, intervalChoice, completionLayout, counts, DeviceChoice, IntervalChoice, Written}
-use Rattle.layouts.specs.Layout.{any, countOf}
 use Rattle.model.specs.Judgement.{written, countsOf, energyWindows, ourSurplus, completionBytes}
 use Rattle.model.specs.Ours.{ours}
 use Rattle.layouts.specs.Trip.{Lawful, nat-law, int-law, then-law, held-law, list-law, weaken, whole-back, Fits}
@@ -37,10 +40,7 @@ pub record FitsInterval (n : Counts) (r : IntervalChoice) : Type 0 where
   pub zones : All FitsSix (r .zones)
   pub mismatch : r .mismatch ≤ 2 ^ 23 - 1
 
-pub record FitsWritten (e : Edition) (n : Counts) (windows : ℕ) (r : Written) : Type 0 where
-  pub devices : (1 ≤ n .devices) × (n .devices ≤ e .mostDevices)
-  pub intervals : (1 ≤ n .intervals) × (n .intervals ≤ e .mostIntervals)
-  pub zones : n .zones ≤ 4
+pub record FitsWritten (n : Counts) (windows : ℕ) (r : Written) : Type 0 where
   pub length : length (r .intervals) ≡ n .intervals
   pub each : All (FitsInterval n) (r .intervals)
   pub count : lib.ListN.length (r .overruns) ≡ windows
@@ -74,6 +74,49 @@ interval-law n =
     weaken _ _ _ (held-law _ _ _ _ (pair-law _ _ _ _ (list-law (n .devices) deviceChoice FitsDevice device-law) (pair-law _ _ _ _ (list-law (n .zones) (six (any 33)) FitsSix six-law) (any-law 23 (omega arith)))))
     (λ r ok. (((ok .each, ok .devices), ((ok .every, ok .zones), ok .mismatch)), refl))
 
+-- ---- a completion of every edition
+
+-- counts that their fields can hold, in an edition that its field can hold
+pub record Countable (e : ℕ) (n : Counts) : Type 0 where
+  pub edition : e < 2 ^ 4
+  pub devices : n .devices < 2 ^ deviceBits e
+  pub intervals : n .intervals < 2 ^ intervalBits e
+  pub zones : n .zones < 2 ^ 3
+
+-- a field that holds one value
+only-law : (w v : ℕ) (wrong : ℕ → Fault) → v < 2 ^ w → Lawful (nat (record { width = w; low = v; high = v; wrong = wrong })) (λ x. x ≡ v)
+only-law w v wrong h = weaken _ _ _ (nat-law (record { width = w; low = v; high = v; wrong = wrong }) h) (λ x e. (omega arith, omega arith))
+
+front-law : (e : ℕ) (n : Counts) → Countable e n → Lawful (completionFront e n) (λ m. m ≡ n)
+unfolding completionFront
+front-law e n k = weaken _ _ _
+    (held-law _ _ _ _ (pair-law _ _ _ _ (only-law 4 completionKind _ (omega arith)) (pair-law _ _ _ _ (only-law 4 e _ (k .edition))
+    (pair-law _ _ _ _ (only-law (deviceBits e) (n .devices) _ (k .devices)) (pair-law _ _ _ _ (only-law (intervalBits e) (n .intervals) _ (k .intervals)) (only-law 3 (n .zones) _ (k .zones)))))))
+    (λ m h. rw h ((refl, (refl, (refl, (refl, refl)))), refl))
+
+completed-law : (e : ℕ) (n : Counts) (windows : ℕ) → Countable e n → Lawful (B.completionLayout e n windows) (FitsWritten n windows)
+unfolding B.completionLayout
+completed-law e n windows k =
+    weaken _ _ _ (held-law _ _ _ _
+    (pair-law _ _ _ _ (front-law e n k)
+    (pair-law _ _ _ _ (list-law (n .intervals) (B.intervalChoice e (n .devices) (n .zones)) (FitsInterval n) (interval-law n))
+    (pair-law _ _ _ _ (list-law windows (any 32) _ (any-law 32 (omega arith)))
+    (int-law 64 (2 ^ 63))))))
+    (λ x ok. ((refl, ((ok .length, ok .each), ((ok .count, ok .overruns), (ok .surplus, ok .size)))), refl))
+
+-- what is written reads back, in every edition
+pub completed-back : (e : ℕ) (n : Counts) (windows : ℕ) → Countable e n → (r : Written) → FitsWritten n windows r → length (B.completionLayout e n windows .write r) + 8 < 2 ^ 63
+    → readWhole (B.completionLayout e n windows) (bytes (B.completionLayout e n windows .write r)) ≡ passes r
+completed-back e n windows k r fits small = whole-back _ _ (completed-law e n windows k) r fits small
+
+-- ---- a completion of edition 1, as it was before there were others
+
+-- its counts are within the edition's limits
+pub record Limited (e : Edition) (n : Counts) : Type 0 where
+  pub devices : (1 ≤ n .devices) × (n .devices ≤ e .mostDevices)
+  pub intervals : (1 ≤ n .intervals) × (n .intervals ≤ e .mostIntervals)
+  pub zones : n .zones ≤ 4
+
 -- what an edition's widths must hold
 pub record Roomy (e : Edition) : Type 0 where
   pub number : e .number < 2 ^ 4
@@ -84,7 +127,7 @@ pub roomy1 : Roomy edition1
 roomy1 = omega arith
 
 counts-law : (kind : ℕ) (e : Edition) → kind < 2 ^ 4 → Roomy e
-    → Lawful (counts kind e) (λ n. ((1 ≤ n .devices) × (n .devices ≤ e .mostDevices)) × ((1 ≤ n .intervals) × (n .intervals ≤ e .mostIntervals)) × (n .zones ≤ 4))
+    → Lawful (counts kind e) (Limited e)
 unfolding counts
 counts-law kind e k r =
     weaken _ _ _ (held-law _ _ _ _
@@ -93,9 +136,9 @@ counts-law kind e k r =
     (pair-law _ _ _ _ (nat-law (countOf (e .deviceBits) 1 (e .mostDevices)) (r .devices))
     (pair-law _ _ _ _ (nat-law (countOf (e .intervalBits) 1 (e .mostIntervals)) (r .intervals))
     (nat-law (countOf 3 0 4) (omega arith)))))))
-    (λ n ok. (((omega arith, omega arith), ((omega arith, omega arith), (ok .0, (ok .1, (omega arith, ok .2))))), refl))
+    (λ n ok. (((omega arith, omega arith), ((omega arith, omega arith), (ok .devices, (ok .intervals, (omega arith, ok .zones))))), refl))
 
-completion-law : (e : Edition) → Roomy e → (n : Counts) (windows : ℕ) → Lawful (completionLayout e n windows) (FitsWritten e n windows)
+completion-law : (e : Edition) → Roomy e → (n : Counts) (windows : ℕ) → Lawful (completionLayout e n windows) (λ r. Limited e n × FitsWritten n windows r)
 unfolding completionLayout
 completion-law e r n windows =
     weaken _ _ _ (held-law _ _ _ _
@@ -103,12 +146,12 @@ completion-law e r n windows =
     (pair-law _ _ _ _ (list-law (n .intervals) (intervalChoice (n .devices) (n .zones)) (FitsInterval n) (interval-law n))
     (pair-law _ _ _ _ (list-law windows (any 32) _ (any-law 32 (omega arith)))
     (int-law 64 (2 ^ 63))))))
-    (λ x ok. (((ok .devices, ok .intervals, ok .zones), ((ok .length, ok .each), ((ok .count, ok .overruns), (ok .surplus, ok .size)))), refl))
+    (λ x ok. let f = ok .1 in ((ok .0, ((f .length, f .each), ((f .count, f .overruns), (f .surplus, f .size)))), refl))
 
 -- "exactly the completion's bytes": they read back as our completion with the surplus reported
-pub reads-back : (c : Case) (p : Plan)
-    → FitsWritten edition1 (countsOf (c .system)) (energyWindows (c .system)) (written (c .system) (ours c p) (ourSurplus c p))
+pub reads-back : (c : Case) (p : Plan) → Limited edition1 (countsOf (c .system))
+    → FitsWritten (countsOf (c .system)) (energyWindows (c .system)) (written (c .system) (ours c p) (ourSurplus c p))
     → length (completionLayout edition1 (countsOf (c .system)) (energyWindows (c .system)) .write (written (c .system) (ours c p) (ourSurplus c p))) + 8 < 2 ^ 63
     → readWhole (completionLayout edition1 (countsOf (c .system)) (energyWindows (c .system))) (completionBytes c p) ≡ passes (written (c .system) (ours c p) (ourSurplus c p))
 unfolding completionBytes
-reads-back c p fits small = whole-back _ _ (completion-law edition1 roomy1 (countsOf (c .system)) (energyWindows (c .system))) _ fits small
+reads-back c p limits fits small = whole-back _ _ (completion-law edition1 roomy1 (countsOf (c .system)) (energyWindows (c .system))) _ (limits, fits) small

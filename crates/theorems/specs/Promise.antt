@@ -19,16 +19,20 @@ use Rattle.model.specs.Case.{System, Case, Plan, noSix, noDevicePrices, noCellP
 use Rattle.model.specs.Forced.{intervals, devices, zones, device}
 use Rattle.model.specs.Completion as C
 use Rattle.model.specs.Ours.{ours}
+use Rattle.model.specs.Rules.{EveryRule}
 use Rattle.bits.specs.Twos.{toTwos}
 use Rattle.layouts.specs.Numbers.{Tells, fails-tells}
-use Rattle.layouts.specs.Layout.{Layout, Field, nat, int, _then_, _▸_, list, held, readWhole, Whole, passes, fails, any}
+use Rattle.layouts.specs.Layout.{Layout, Field, nat, int, _then_, _▸_, list, held, readWhole, Whole, passes, fails, bytes, any}
 use Rattle.model.specs.Messages as M
-use Rattle.model.specs.Messages.{edition1, Counts, caseLayout, planLayout, completionLayout}
+use Rattle.model.specs.Messages.{edition1, Counts, Written, caseLayout, planLayout}
+use Rattle.model.specs.Editions.{batch, deviceBits, intervalBits, mostDevices, mostIntervals, mostZones, mostWindows}
+use Rattle.model.specs.ByEdition as B
+use Rattle.model.specs.AsBefore.{completion-as}
 use Rattle.model.specs.Judgement.{Judged, judged, verdict, bufferAfter, withPlan, withCase, readCase, readPlan, judgement, written, countsOf, completionOf, energyWindows, ourSurplus, completionBytes}
 use Rattle.layouts.specs.Trip.{Fits, length-bits}
-use Rattle.theorems.specs.Back.{FitsDevice, FitsInterval, FitsSix, FitsWritten, reads-back}
-use Rattle.ranges.specs.Ranges.{PricesRange, SixRange, DevicePriceRange, CellPriceRange, CaseRange, PlanRange, case-checked, plan-checked, case-range, plan-range}
-use Rattle.theorems.specs.Sizes.{PriceRange, fits, surplus-size, over-devices, device-at}
+use Rattle.theorems.specs.Back.{FitsDevice, FitsInterval, FitsSix, FitsWritten, Countable, completed-back, reads-back}
+use Rattle.ranges.specs.Ranges.{PricesRange, SixRange, DevicePriceRange, CellPriceRange, CaseRange, Taken, PlanRange, case-checked, plan-checked, case-taken, plan-range}
+use Rattle.theorems.specs.Sizes.{PriceRange, mostPrice, mostShortfallPrice, mostChange, mostBlocks, surplusLimit, fits, surplus-size, over-devices, device-at}
 use Rattle.numbers.specs.Every.{all-or}
 use Rattle.theorems.specs.Theorem.{Right, right-verdict, apart}
 
@@ -44,13 +48,13 @@ module _ (c : Case) (r : PricesRange (c .prices)) where
   pub cell-prices-at : (t i : ℕ) → CellPriceRange (C.cellPrices c t i)
   cell-prices-at t i = all-or CellPriceRange noCellPrices (record { blocks = tt; reserves = omega arith }) (C.devicePrices c i .cells) (prices-at i .cells) t
 
-  pub state-at : (i : ℕ) (z : ℤ) → natAbs (C.stateCost c i z) ≤ 1000000000
+  pub state-at : (i : ℕ) (z : ℤ) → natAbs (C.stateCost c i z) ≤ mostChange
   unfolding C.stateCost
   state-at i (pos zero) = omega arith
-  state-at i (pos (suc k)) = all-or (λ z. natAbs z ≤ 1000000000) (pos 0) (omega arith) (C.devicePrices c i .stateCosts) (prices-at i .states) k
+  state-at i (pos (suc k)) = all-or (λ z. natAbs z ≤ mostChange) (pos 0) (omega arith) (C.devicePrices c i .stateCosts) (prices-at i .states) k
   state-at i (negsuc k) = omega arith
 
-  pub shortfall-at : (z : ℕ) (k : C.Shortfall) → C.shortfallPrice (getD (c .prices .zones) z noSix) k ≤ 100
+  pub shortfall-at : (z : ℕ) (k : C.Shortfall) → C.shortfallPrice (getD (c .prices .zones) z noSix) k ≤ mostShortfallPrice
   shortfall-at z C.rgu = six-at z .rgu
   shortfall-at z C.rgd = six-at z .rgd
   shortfall-at z C.scr = six-at z .scr
@@ -67,11 +71,11 @@ module _ (c : Case) (r : PricesRange (c .prices)) where
     start = λ i. prices-at i .start;
     stop = λ i. prices-at i .stop;
     state = state-at;
-    block = λ t i k. all-or (λ z. natAbs z ≤ 10000) (pos 0) (omega arith) (C.cellPrices c t i .blocks) (cell-prices-at t i .blocks) k;
+    block = λ t i k. all-or (λ z. natAbs z ≤ mostPrice) (pos 0) (omega arith) (C.cellPrices c t i .blocks) (cell-prices-at t i .blocks) k;
     reserve = λ t i. cell-prices-at t i .reserves;
   }
 
-pub fits-64 : (z : ℤ) → natAbs z < 2000000000000000000 → Fits 64 z
+pub fits-64 : (z : ℤ) → natAbs z < surplusLimit → Fits 64 z
 fits-64 (pos v) h = omega arith
 fits-64 (negsuc v) h = omega arith
 
@@ -109,33 +113,94 @@ held-sized : {A B : Type 0} (to : A → B) (from : B → A) (l : Layout A) (P : 
 unfolding held
 held-sized to from l P Q n u h = record { size = λ b ok. u .size (from b) (h b ok) }
 
-six-sized : Sized (M.six (any 33)) FitsSix 198
-unfolding M.six
-six-sized = let u = nat-sized _ (λ v. Unit {0}) in held-sized _ _ _ _ _ 198 (pair-sized _ _ _ _ 33 165 u (pair-sized _ _ _ _ 33 132 u (pair-sized _ _ _ _ 33 99 u (pair-sized _ _ _ _ 33 66 u (pair-sized _ _ _ _ 33 33 u u))))) (λ b ok. (tt, (tt, (tt, (tt, (tt, tt))))))
+-- the widths of a completion's parts, in bits
 
-device-sized : Sized M.deviceChoice FitsDevice 73
+abbrev shortfallsWidth : ℕ
+shortfallsWidth = 33 + (33 + (33 + (33 + (33 + 33))))
+
+abbrev blocksWidth : ℕ
+blocksWidth = mostBlocks * 17
+
+abbrev deviceWidth : ℕ
+deviceWidth = 1 + (1 + (3 + blocksWidth))
+
+abbrev intervalWidth : ℕ
+intervalWidth = mostDevices * deviceWidth + (mostZones * shortfallsWidth + 23)
+
+abbrev frontWidth : ℕ → ℕ
+frontWidth e = 4 + (4 + (deviceBits e + (intervalBits e + 3)))
+
+-- overruns and surplus
+abbrev endWidth : ℕ
+endWidth = mostDevices * mostWindows * 32 + 64
+
+abbrev completionWidth : ℕ → ℕ
+completionWidth e = frontWidth e + (mostIntervals * intervalWidth + endWidth)
+
+abbrev Any : {A : Type 0} → A → Type 0
+Any a = Unit {0}
+
+six-sized : Sized (M.six (any 33)) FitsSix shortfallsWidth
+unfolding M.six
+six-sized = let u = nat-sized _ Any in held-sized _ _ _ _ _ _
+    (pair-sized _ _ _ _ _ _ u (pair-sized _ _ _ _ _ _ u (pair-sized _ _ _ _ _ _ u (pair-sized _ _ _ _ _ _ u (pair-sized _ _ _ _ _ _ u u))))) (λ b ok. (tt, (tt, (tt, (tt, (tt, tt))))))
+
+device-sized : Sized M.deviceChoice FitsDevice deviceWidth
 unfolding M.deviceChoice
-device-sized = held-sized _ _ _ _ _ 73 (pair-sized _ _ _ _ 1 72 (nat-sized _ (λ v. Unit {0})) (pair-sized _ _ _ _ 1 71 (nat-sized _ (λ v. Unit {0})) (pair-sized _ _ _ _ 3 68 (nat-sized _ (λ v. Unit {0})) (list-sized 4 4 _ (λ b. b ≤ 2 ^ 17 - 1) 17 (nat-sized _ _)))))
+device-sized = held-sized _ _ _ _ _ _
+    (pair-sized _ _ _ _ _ _ (nat-sized _ Any) (pair-sized _ _ _ _ _ _ (nat-sized _ Any) (pair-sized _ _ _ _ _ _ (nat-sized _ Any) (list-sized 4 mostBlocks _ (λ b. b ≤ 2 ^ 17 - 1) _ (nat-sized _ _)))))
     (λ b ok. (tt, (tt, (tt, (omega (arith, ok .four), ok .blocks)))))
 
-interval-sized : (n : Counts) → n .devices ≤ 16 → n .zones ≤ 4 → Sized (M.intervalChoice (n .devices) (n .zones)) (FitsInterval n) 1983
-unfolding M.intervalChoice
-interval-sized n d z = held-sized _ _ _ _ _ 1983 (pair-sized _ _ _ _ 1168 815 (list-sized _ 16 _ FitsDevice 73 device-sized) (pair-sized _ _ _ _ 792 23 (list-sized _ 4 _ FitsSix 198 six-sized) (nat-sized _ (λ v. Unit {0}))))
-    (λ b ok. ((omega (arith, ok .each), ok .devices), ((omega (arith, ok .every), ok .zones), tt)))
+-- at most so many devices, intervals, zones and energy windows
+module _ (e : ℕ) (n : Counts) (d : n .devices ≤ mostDevices) (i : n .intervals ≤ mostIntervals) (z : n .zones ≤ mostZones) where
+  interval-sized : Sized (B.intervalChoice e (n .devices) (n .zones)) (FitsInterval n) intervalWidth
+  unfolding M.intervalChoice
+  interval-sized = held-sized _ _ _ _ _ _
+      (pair-sized _ _ _ _ _ _ (list-sized _ mostDevices _ FitsDevice deviceWidth device-sized) (pair-sized _ _ _ _ _ _ (list-sized _ mostZones _ FitsSix shortfallsWidth six-sized) (nat-sized _ Any)))
+      (λ b ok. ((omega (arith, ok .each), ok .devices), ((omega (arith, ok .every), ok .zones), tt)))
 
-counts-sized : Sized (M.counts 3 edition1) (λ n. Unit {0}) 22
-unfolding M.counts
-counts-sized = held-sized _ _ _ _ _ 22 (pair-sized _ _ _ _ 4 18 (nat-sized _ (λ v. Unit {0})) (pair-sized _ _ _ _ 4 14 (nat-sized _ (λ v. Unit {0})) (pair-sized _ _ _ _ 5 9 (nat-sized _ (λ v. Unit {0})) (pair-sized _ _ _ _ 6 3 (nat-sized _ (λ v. Unit {0})) (nat-sized _ (λ v. Unit {0})))))) (λ b ok. (tt, (tt, (tt, (tt, tt)))))
+  front-sized : Sized (B.completionFront e n) Any (frontWidth e)
+  unfolding B.completionFront
+  front-sized = held-sized _ _ _ _ _ _
+      (pair-sized _ _ _ _ _ _ (nat-sized _ Any) (pair-sized _ _ _ _ _ _ (nat-sized _ Any) (pair-sized _ _ _ _ _ _ (nat-sized _ Any) (pair-sized _ _ _ _ _ _ (nat-sized _ Any) (nat-sized _ Any)))))
+      (λ b ok. (tt, (tt, (tt, (tt, tt)))))
 
-int-sized : (w most : ℕ) → Sized (int w most) (λ z. Unit {0}) w
-unfolding int
-int-sized w most = record { size = λ z ok. omega (arith, length-bits w (toTwos w z)) }
+  int-sized : (w most : ℕ) → Sized (int w most) Any w
+  unfolding int
+  int-sized w most = record { size = λ z ok. omega (arith, length-bits w (toTwos w z)) }
 
-completion-sized : (n : Counts) (windows : ℕ) → windows ≤ 64 → n .devices ≤ 16 → n .zones ≤ 4 → Sized (completionLayout edition1 n windows) (FitsWritten edition1 n windows) 97318
-unfolding completionLayout
-completion-sized n windows w d z = held-sized _ _ _ _ _ 97318 (pair-sized _ _ _ _ 22 97296 counts-sized (pair-sized _ _ _ _ 95184 2112 (list-sized _ 48 _ (FitsInterval n) 1983 (interval-sized n d z))
-    (pair-sized _ _ _ _ 2048 64 (list-sized _ 64 _ (λ x. x ≤ 2 ^ 32 - 1) 32 (nat-sized _ _)) (int-sized 64 _))))
-    (λ b k. (tt, ((omega (arith, k .length, k .intervals .1), k .each), ((omega (arith, k .count), k .overruns), tt))))
+  pub completion-sized : (windows : ℕ) → windows ≤ mostDevices * mostWindows → Sized (B.completionLayout e n windows) (FitsWritten n windows) (completionWidth e)
+  unfolding B.completionLayout
+  completion-sized windows w = held-sized _ _ _ _ _ _
+      (pair-sized _ _ _ _ _ _ front-sized (pair-sized _ _ _ _ _ _ (list-sized _ mostIntervals _ (FitsInterval n) intervalWidth interval-sized)
+      (pair-sized _ _ _ _ _ _ (list-sized _ (mostDevices * mostWindows) _ (λ x. x ≤ 2 ^ 32 - 1) _ (nat-sized _ _)) (int-sized 64 _))))
+      (λ b k. (tt, ((omega (arith, k .length), k .each), ((omega (arith, k .count), k .overruns), tt))))
+
+-- ---- our completion of every edition
+
+-- how the completions of a case's plans are laid out
+abbrev pub completionIn : ℕ → System → Layout Written
+completionIn e q = B.completionLayout e (countsOf q) (energyWindows q)
+
+module _ (c : Case) (p : Plan) (g : CaseRange c) (rp : PlanRange (c .system) p) (ok : EveryRule (c .system) p) where
+  abbrev our : Written
+  our = written (c .system) (ours c p) (ourSurplus c p)
+
+  pub small-surplus : natAbs (ourSurplus c p) < surplusLimit
+  small-surplus = surplus-size c p (g .system) rp ok (price-range c (g .prices))
+
+  pub our-fits : FitsWritten (countsOf (c .system)) (energyWindows (c .system)) our
+  our-fits = let small = small-surplus in fits c p (g .system) rp ok (fits-64 (ourSurplus c p) small) (omega arith)
+
+  pub our-size : (e : ℕ) → length (completionIn e (c .system) .write our) ≤ completionWidth e
+  unfolding energyWindows
+  our-size e = completion-sized e (countsOf (c .system)) (g .system .devices) (g .system .intervals) (g .system .zones) (energyWindows (c .system))
+      (over-devices (c .system) p (g .system) rp ok mostDevices (g .system .devices) (λ i. length (device (c .system) i .energyWindows)) mostWindows (λ i m. device-at (c .system) p (g .system) rp ok i m .energies))
+      .size our our-fits
+
+  -- "exactly the completion's bytes": they read back as our completion with the surplus reported, in every edition whose fields hold the case's counts
+  pub our-back : (e : ℕ) → Countable e (countsOf (c .system)) → readWhole (completionIn e (c .system)) (bytes (completionIn e (c .system) .write our)) ≡ passes our
+  our-back e k = completed-back e (countsOf (c .system)) (energyWindows (c .system)) k our our-fits (let n = our-size e in omega arith)
 
 -- ---- the promises
 
@@ -148,7 +213,7 @@ pub record Wrote (c : Case) (p : Plan) (z : ℤ) (before after : List ℕ) : Typ
   pub reads : readWhole (completionOf (c .system)) (take (length (completionBytes c p)) after) ≡ passes (written (c .system) (ours c p) z)
   pub bytes : take (length (completionBytes c p)) after ≡ completionBytes c p
   pub rest : drop (length (completionBytes c p)) after ≡ drop (length (completionBytes c p)) before
-  pub size : natAbs z < 2000000000000000000
+  pub size : natAbs z < surplusLimit
 
 -- Item 1: a message s that does not pass reading is refused with its number and place, which `Tells` gives their meaning, and no byte of the result is touched
 pub record RefusedBy {A : Type 0} (l : Layout A) (s : List ℕ) (which : Subject) (f : Fault) (before : List ℕ) (j : Judged) : Type 0 where
@@ -175,22 +240,17 @@ untouched (Accepted z) out before h = absurd (h z refl)
 untouched (Broken b) out before h = refl
 untouched (Refused s f) out before h = refl
 
-module _ (c : Case) (ps : List ℕ) (p : Plan) (g : CaseRange c) (rp : readPlan (c .system) ps ≡ passes p) (room : ℕ) where
-  abbrev small-surplus : Right c p room (verdict c p room) → (z : ℤ) → verdict c p room ≡ Accepted z → natAbs (ourSurplus c p) < 2000000000000000000
-  unfolding ourSurplus
-  small-surplus r z e = surplus-size c p (g .system) (plan-range (c .system) ps p rp) (r .meets z e .rules) (price-range c (g .prices))
-
+module _ (c : Case) (ps : List ℕ) (p : Plan) (g : Taken 1 batch c) (rp : readPlan (c .system) ps ≡ passes p) (room : ℕ) where
   -- the bytes of an acceptance read back as our completion
   our-bytes : (z : ℤ) → verdict c p room ≡ Accepted z → readWhole (completionOf (c .system)) (completionBytes c p) ≡ passes (written (c .system) (ours c p) (ourSurplus c p))
-  unfolding energyWindows
   our-bytes z e =
-      let v = right-verdict c p room in
       let q = plan-range (c .system) ps p rp in
-      let ok = v .meets z e .rules in
-      let small = small-surplus v z e in
-      let f = fits c p (g .system) q ok (g .system .someDevice) (g .system .someInterval) (fits-64 (ourSurplus c p) small) (omega arith) in
-      let n = completion-sized (countsOf (c .system)) (energyWindows (c .system)) (over-devices (c .system) p (g .system) q ok (λ i. length (device (c .system) i .energyWindows)) 4 (λ i m. device-at (c .system) p (g .system) q ok i m .energies)) (g .system .devices) (g .system .zones) .size _ f in
-      reads-back c p f (omega arith)
+      let ok = right-verdict c p room .meets z e .rules in
+      let s = g .range .system in
+      let same = completion-as (countsOf (c .system)) (energyWindows (c .system)) (our c p (g .range) q ok) in
+      let n = our-size c p (g .range) q ok 1 in
+      reads-back c p (record { devices = (s .someDevice, omega (arith, g .devices)); intervals = (s .someInterval, omega (arith, g .intervals)); zones = s .zones }) (our-fits c p (g .range) q ok)
+      (rw same at (let m : length (completionIn 1 (c .system) .write (our c p (g .range) q ok)) + 8 < 2 ^ 63 = omega arith in m))
 
   wrote-by : (z : ℤ) (before after : List ℕ) → verdict c p room ≡ Accepted z → after ≡ completionBytes c p ++ drop (length (completionBytes c p)) before → Wrote c p z before after
   unfolding ourSurplus
@@ -201,7 +261,7 @@ module _ (c : Case) (ps : List ℕ) (p : Plan) (g : CaseRange c) (rp : readPlan 
         reads = ap (readWhole (completionOf (c .system))) t ∙ our-bytes z e ∙ ap (λ (y : ℤ). passes (written (c .system) (ours c p) y)) (v .surplus z e);
         bytes = t;
         rest = ap (drop (length (completionBytes c p))) h ∙ drop-at (completionBytes c p) _ _ refl;
-        size = rw (sym (v .surplus z e)) (small-surplus v z e);
+        size = rw (sym (v .surplus z e)) (small-surplus c p (g .range) (plan-range (c .system) ps p rp) (v .meets z e .rules));
       }
 
 -- what judging a plan that passes reading leaves
@@ -223,7 +283,7 @@ plan-else c before (passes p) h = judged-else c p before h
 plan-else c before (fails f) h = refl
 
 -- a plan's bytes against a case within its ranges
-pub plan-promised : (c : Case) → CaseRange c → (ps before : List ℕ) → PlanPromise c ps before (withPlan c before (readPlan (c .system) ps))
+pub plan-promised : (c : Case) → Taken 1 batch c → (ps before : List ℕ) → PlanPromise c ps before (withPlan c before (readPlan (c .system) ps))
 unfolding readPlan
 plan-promised c g ps before = record {
   plan-refused = λ f e. record { verdict = rw e refl; number = fails-tells (planOf (c .system)) (PlanRange (c .system)) (plan-checked (c .system)) ps f e; untouched = rw e refl };
@@ -240,6 +300,6 @@ plan-promised c g ps before = record {
 pub promised : (cs ps before : List ℕ) → Promise cs ps before (judgement cs ps before)
 unfolding judgement readCase
 promised cs ps before = record {
-  case-refused = λ f e. record { verdict = rw e refl; number = fails-tells (caseLayout edition1) CaseRange case-checked cs f e; untouched = rw e refl };
-  case-passed = λ c e. subst (PlanPromise c ps before) (sym (ap (withCase ps before) e)) (plan-promised c (case-range cs c e) ps before);
+  case-refused = λ f e. record { verdict = rw e refl; number = fails-tells (caseLayout edition1) (Taken 1 batch) case-checked cs f e; untouched = rw e refl };
+  case-passed = λ c e. subst (PlanPromise c ps before) (sym (ap (withCase ps before) e)) (plan-promised c (case-taken cs c e) ps before);
 }

@@ -2,7 +2,7 @@
 use mathlib.Core.Path.{_≡_, refl, ap}
 use mathlib.Core.Bool.{Bool, true, false, not, _&&_, cond}
 use mathlib.Core.List.{List, [], _∷_, _++_, map}
-use Prim.Native.Nat.{ℕ, zero, suc, _+_, _-_, _*_, _^_, _≤_, _<_}
+use Prim.Native.Nat.{ℕ, zero, suc, _+_, _-_, _*_, _^_, _≤_, _<_, max}
 use native.Mathlib.Omega.{arith}
 use native.Mathlib.Nat.{mul-le-mul}
 use lib.Dec.{T, ltb, leb, eqb}
@@ -23,10 +23,105 @@ use Rattle.model.specs.Ours.{filling, bestState, lasts, ours, whole}
 use Rattle.ranges.specs.Ranges.{SystemRange, DeviceRange, EnergyRange, CellRange, ZoneRange, MinimaRange, PlanRange, SettingRange, Eight}
 use Rattle.numbers.specs.Every.{all-at, all-or, all-getD, length-range, sum-bound, largest-bound, gate-le, bit-le, map-of-all, all-range, all-upTo}
 use Rattle.theorems.specs.Best.{filling-cap}
-use Rattle.model.specs.Messages.{edition1}
+use Rattle.model.specs.Editions.{mostDevices, mostIntervals, mostZones, mostStates, mostWindows}
 use Rattle.model.specs.Judgement.{written, countsOf, energyWindows, ourSurplus}
 use Rattle.layouts.specs.Trip.{Fits}
 use Rattle.theorems.specs.Back.{FitsSix, FitsDevice, FitsInterval, FitsWritten}
+
+-- ---- the greatest figures that pass reading, each with its words
+
+-- "A 17-bit power is 0..100,000", kW
+abbrev pub mostPower : ℕ
+mostPower = 100000
+
+-- "Per interval: d/2, 8 (1..180)"
+abbrev pub mostMinutes : ℕ
+mostMinutes = 360
+
+-- "(0..1,000 thousandths)"
+abbrev pub mostShare : ℕ
+mostShare = 1000
+
+-- a kW in W
+abbrev pub watts : ℕ
+watts = 1000
+
+-- "rru and rrd minima 23 each (0..6,400,000)", kW
+abbrev pub mostMinimum : ℕ
+mostMinimum = 6400000
+
+-- "energy 32 (0..4·10^9)"
+abbrev pub mostEnergy : ℕ
+mostEnergy = 4000000000
+
+-- "(1..10,000 per kW·min)"; "price 15 (±10,000)"; "eight reserve prices 14 each (0..10,000)"
+abbrev pub mostPrice : ℕ
+mostPrice = 10000
+
+-- "(1..100 per W·min)"
+abbrev pub mostShortfallPrice : ℕ
+mostShortfallPrice = 100
+
+-- "on cost per minute 17 (0..100,000)"
+abbrev pub mostOnCost : ℕ
+mostOnCost = 100000
+
+-- "start, stop cost 30 each (0..10^9)"; "cost 31 (±10^9)"
+abbrev pub mostChange : ℕ
+mostChange = 1000000000
+
+-- ---- the greatest needs, of n devices and m intervals
+
+-- the power of a side, and so the mismatch: it is at most the larger side's
+abbrev pub mostTotal : ℕ → ℕ
+mostTotal n = n * mostPower
+
+-- W: a minimum, or shares of the load and twice of the largest unit
+abbrev pub mostShortfall : ℕ → ℕ
+mostShortfall n = max (watts * mostMinimum) (mostShare * mostTotal n + 2 * (mostShare * mostPower))
+
+-- kW·min: a minimum, or a set's energy over the day
+abbrev pub mostOverrun : ℕ → ℕ
+mostOverrun m = max mostEnergy (m * (mostMinutes * mostPower))
+
+-- ---- the greatest terms of a surplus, of n devices and m intervals: grains of a cell, a zone or an interval
+
+-- "blocks 3 (0..4)"
+abbrev pub mostBlocks : ℕ
+mostBlocks = 4
+
+-- "The eight"; the six kinds of shortfall
+abbrev pub reserveKinds : ℕ
+reserveKinds = 8
+
+abbrev pub shortfallKinds : ℕ
+shortfallKinds = 6
+
+abbrev pub mostBlockWorth : ℕ
+mostBlockWorth = mostMinutes * (mostBlocks * (mostPrice * mostPower))
+
+abbrev pub mostOnCosts : ℕ
+mostOnCosts = mostMinutes * (mostOnCost * 1)
+
+-- start, stop and state
+abbrev pub mostChanges : ℕ
+mostChanges = 3 * mostChange
+
+abbrev pub mostReserves : ℕ
+mostReserves = mostMinutes * (reserveKinds * (mostPrice * mostPower))
+
+abbrev pub mostShortfallCost : ℕ → ℕ
+mostShortfallCost n = mostMinutes * (shortfallKinds * (mostShortfallPrice * mostShortfall n))
+
+abbrev pub mostMismatchCost : ℕ → ℕ
+mostMismatchCost n = mostMinutes * (mostPrice * mostTotal n)
+
+abbrev pub mostOverrunCost : ℕ → ℕ → ℕ
+mostOverrunCost n m = mostPrice * (n * (mostWindows * mostOverrun m))
+
+-- "For our completion its size stays below 2·10^18"
+abbrev pub surplusLimit : ℕ
+surplusLimit = 2 * 10 ^ 18
 
 -- one of u and 1 − u is 0
 shared : (m v a b : ℕ) → v ≤ 1 → a ≤ m * v → b ≤ m * (1 - v) → a + b ≤ m
@@ -39,6 +134,15 @@ max-sub a zero = omega arith
 max-sub a (suc b) = go (ltb a (suc b))
   where
     go : (t : Bool) → maxZero (cond t (negsuc (suc b - suc a)) (pos (a - suc b))) ≤ a
+    go true = omega arith
+    go false = omega arith
+
+-- what two amounts differ by is at most the larger
+apart-most : (a b m : ℕ) → a ≤ m → b ≤ m → natAbs (pos a -ℤ pos b) ≤ m
+apart-most a zero m h k = omega arith
+apart-most a (suc b) m h k = go (ltb a (suc b))
+  where
+    go : (t : Bool) → natAbs (cond t (negsuc (suc b - suc a)) (pos (a - suc b))) ≤ m
     go true = omega arith
     go false = omega arith
 
@@ -64,81 +168,91 @@ module _ (q : System) (p : Plan) (rq : SystemRange q) (rp : PlanRange q p) (ok :
   rule18-most : (t i : ℕ) → t < intervals q → i < devices q → psu q p t i + psd q p t i ≤ cell q t i .pmax * (1 - u q p t i)
   rule18-most t i l m = omega (arith, rule18-holds q p ok t i l m)
 
-  pub power-bound : (t i : ℕ) → t < intervals q → i < devices q → power q p t i ≤ 100000
+  pub power-bound : (t i : ℕ) → t < intervals q → i < devices q → power q p t i ≤ mostPower
   unfolding power u
   power-bound t i l m =
       let h = shared (cell q t i .pmax) (setting q p t i .on) (setting q p t i .online) (psu q p t i + psd q p t i) (setting-at t i l m .on) (rule16-most t i l m) (rule18-most t i l m) in
       omega (arith, h, cell-at t i l m .pmax)
 
-  pub over-devices : (f : ℕ → ℕ) (b : ℕ) → ((i : ℕ) → i < devices q → f i ≤ b) → sumℕ f (upTo (devices q)) ≤ 16 * b
-  over-devices f b h =
-      let s = sum-bound f b (upTo (devices q)) (all-upTo _ _ h) in
-      let n : length (upTo (devices q)) ≤ 16 = omega (arith, length-range 0 (devices q), rq .devices) in
-      let e : b ≤ b = omega arith in
-      omega (arith, s, mul-le-mul n e)
-
-  over-intervals : (f : ℕ → ℕ) (b : ℕ) → ((t : ℕ) → t < intervals q → f t ≤ b) → sumℕ f (upTo (intervals q)) ≤ 48 * b
-  over-intervals f b h =
-      let s = sum-bound f b (upTo (intervals q)) (all-upTo _ _ h) in
-      let n : length (upTo (intervals q)) ≤ 48 = omega (arith, length-range 0 (intervals q), rq .intervals) in
-      let e : b ≤ b = omega arith in
-      omega (arith, s, mul-le-mul n e)
-
-  pub load-bound : (t z : ℕ) → t < intervals q → C.load q p t z ≤ 1600000
-  unfolding C.load
-  load-bound t z l = over-devices _ 100000 (λ i m. gate-le (member q z i && consuming q i) (power q p t i) 100000 (power-bound t i l m))
-
-  pub unit-bound : (t z : ℕ) → t < intervals q → C.largestUnit q p t z ≤ 100000
+  pub unit-bound : (t z : ℕ) → t < intervals q → C.largestUnit q p t z ≤ mostPower
   unfolding C.largestUnit
-  unit-bound t z l = largest-bound _ 100000 (upTo (devices q)) (all-upTo _ _ (λ i m. gate-le (member q z i && not (consuming q i)) (power q p t i) 100000 (power-bound t i l m)))
-
-  pub total-bound : (b : Bool) (t : ℕ) → t < intervals q → C.total q p b t ≤ 1600000
-  unfolding C.total
-  total-bound true t l = over-devices _ 100000 (λ i m. gate-le (consuming q i) (power q p t i) 100000 (power-bound t i l m))
-  total-bound false t l = over-devices _ 100000 (λ i m. gate-le (not (consuming q i)) (power q p t i) 100000 (power-bound t i l m))
-
-  pub mismatch-bound : (t : ℕ) → t < intervals q → C.mismatchNeed q p t ≤ 3200000
-  unfolding C.mismatchNeed
-  mismatch-bound t l = bound-sub (pos (C.total q p true t)) (pos (C.total q p false t)) 1600000 1600000 (total-bound true t l) (total-bound false t l)
+  unit-bound t z l = largest-bound _ mostPower (upTo (devices q)) (all-upTo _ _ (λ i m. gate-le (member q z i && not (consuming q i)) (power q p t i) mostPower (power-bound t i l m)))
 
   pub zone-at : (z : ℕ) → z < zones q → ZoneRange (zone q z)
   zone-at z m = all-at ZoneRange noZone (q .zones) (rq .eachZone) z m
 
-  pub required-bound : (t z : ℕ) (k : C.Shortfall) → t < intervals q → z < zones q → C.required q p t z k ≤ 6400000000
-  unfolding C.required
-  required-bound t z C.rgu l m = let s = zone-at z m .shares in omega (arith, times _ _ 1000 1600000 (s .rgu) (load-bound t z l))
-  required-bound t z C.rgd l m = let s = zone-at z m .shares in omega (arith, times _ _ 1000 1600000 (s .rgd) (load-bound t z l))
-  required-bound t z C.scr l m = let s = zone-at z m .shares in omega (arith, times _ _ 1000 1600000 (s .rgu) (load-bound t z l), times _ _ 1000 100000 (s .scr) (unit-bound t z l))
-  required-bound t z C.nsc l m = let s = zone-at z m .shares in omega (arith, times _ _ 1000 1600000 (s .rgu) (load-bound t z l), times _ _ 1000 100000 (s .scr) (unit-bound t z l), times _ _ 1000 100000 (s .nsc) (unit-bound t z l))
-  required-bound t z C.rru l m = omega (arith, minima-get (zone q z .minima) (zone-at z m .minima) t .rru)
-  required-bound t z C.rrd l m = omega (arith, minima-get (zone q z .minima) (zone-at z m .minima) t .rrd)
-
-  pub shortfall-bound : (t z : ℕ) (k : C.Shortfall) → t < intervals q → z < zones q → maxZero (C.shortfallNeed q p t z k) ≤ 6400000000
-  unfolding C.shortfallNeed
-  shortfall-bound t z k l m = omega (arith, max-sub (C.required q p t z k) (1000 * C.held q p t z k), required-bound t z k l m)
-
-  pub duration-bound : (t : ℕ) → duration q t ≤ 360
+  pub duration-bound : (t : ℕ) → duration q t ≤ mostMinutes
   unfolding duration
   duration-bound t = omega (arith, all-getD 180 (q .halves) (rq .halves) t)
 
-  minutes-bound : (from until t : ℕ) → C.minutesIn q p from until t ≤ 360
+  minutes-bound : (from until t : ℕ) → C.minutesIn q p from until t ≤ mostMinutes
   unfolding C.minutesIn
-  minutes-bound from until t = gate-le (ltb from (midpoint q t) && leb (midpoint q t) until) (duration q t) 360 (duration-bound t)
+  minutes-bound from until t = gate-le (ltb from (midpoint q t) && leb (midpoint q t) until) (duration q t) mostMinutes (duration-bound t)
 
-  pub energy-bound : (i w : ℕ) → i < devices q → C.energyIn q p i w ≤ 1728000000
-  unfolding C.energyIn
-  energy-bound i w m = over-intervals _ 36000000 (λ t l. times _ _ 360 100000 (minutes-bound _ _ t) (power-bound t i l m))
+  -- ---- at most n devices
+  module _ (n : ℕ) (few : devices q ≤ n) where
+    pub over-devices : (f : ℕ → ℕ) (b : ℕ) → ((i : ℕ) → i < devices q → f i ≤ b) → sumℕ f (upTo (devices q)) ≤ n * b
+    over-devices f b h =
+        let s = sum-bound f b (upTo (devices q)) (all-upTo _ _ h) in
+        let k : length (upTo (devices q)) ≤ n = omega (arith, length-range 0 (devices q), few) in
+        let e : b ≤ b = omega arith in
+        omega (arith, s, mul-le-mul k e)
 
-  pub overrun-bound : (i w : ℕ) → i < devices q → maxZero (C.overrunNeed q p i w) ≤ 4000000000
-  unfolding C.overrunNeed
-  overrun-bound i w m = go (eqb (energyWindow q i w .kind) 0)
-    where
-      limit : energyWindow q i w .energy ≤ 4000000000
-      limit = all-or EnergyRange noEnergyWindow (record { kind = omega arith; from = omega arith; until = omega arith; energy = omega arith }) (device q i .energyWindows) (device-at i m .energy) w .energy
+    pub load-bound : (t z : ℕ) → t < intervals q → C.load q p t z ≤ mostTotal n
+    unfolding C.load
+    load-bound t z l = over-devices _ mostPower (λ i m. gate-le (member q z i && consuming q i) (power q p t i) mostPower (power-bound t i l m))
 
-      go : (b : Bool) → maxZero (pick b (pos (C.energyIn q p i w) -ℤ pos (energyWindow q i w .energy)) (pos (energyWindow q i w .energy) -ℤ pos (C.energyIn q p i w))) ≤ 4000000000
-      go true = omega (arith, max-sub (C.energyIn q p i w) (energyWindow q i w .energy), energy-bound i w m)
-      go false = omega (arith, max-sub (energyWindow q i w .energy) (C.energyIn q p i w), limit)
+    pub total-bound : (b : Bool) (t : ℕ) → t < intervals q → C.total q p b t ≤ mostTotal n
+    unfolding C.total
+    total-bound true t l = over-devices _ mostPower (λ i m. gate-le (consuming q i) (power q p t i) mostPower (power-bound t i l m))
+    total-bound false t l = over-devices _ mostPower (λ i m. gate-le (not (consuming q i)) (power q p t i) mostPower (power-bound t i l m))
+
+    pub mismatch-bound : (t : ℕ) → t < intervals q → C.mismatchNeed q p t ≤ mostTotal n
+    unfolding C.mismatchNeed
+    mismatch-bound t l = apart-most (C.total q p true t) (C.total q p false t) (mostTotal n) (total-bound true t l) (total-bound false t l)
+
+    share-bound : (share t z : ℕ) → share ≤ mostShare → t < intervals q → share * C.load q p t z ≤ mostShare * mostTotal n
+    share-bound share t z h l = times share _ mostShare (mostTotal n) h (load-bound t z l)
+
+    unit-share : (share t z : ℕ) → share ≤ mostShare → t < intervals q → share * C.largestUnit q p t z ≤ mostShare * mostPower
+    unit-share share t z h l = times share _ mostShare mostPower h (unit-bound t z l)
+
+    pub required-bound : (t z : ℕ) (k : C.Shortfall) → t < intervals q → z < zones q → C.required q p t z k ≤ mostShortfall n
+    unfolding C.required
+    required-bound t z C.rgu l m = let s = zone-at z m .shares in omega (arith, share-bound _ t z (s .rgu) l)
+    required-bound t z C.rgd l m = let s = zone-at z m .shares in omega (arith, share-bound _ t z (s .rgd) l)
+    required-bound t z C.scr l m = let s = zone-at z m .shares in omega (arith, share-bound _ t z (s .rgu) l, unit-share _ t z (s .scr) l)
+    required-bound t z C.nsc l m = let s = zone-at z m .shares in omega (arith, share-bound _ t z (s .rgu) l, unit-share _ t z (s .scr) l, unit-share _ t z (s .nsc) l)
+    required-bound t z C.rru l m = omega (arith, minima-get (zone q z .minima) (zone-at z m .minima) t .rru)
+    required-bound t z C.rrd l m = omega (arith, minima-get (zone q z .minima) (zone-at z m .minima) t .rrd)
+
+    pub shortfall-bound : (t z : ℕ) (k : C.Shortfall) → t < intervals q → z < zones q → maxZero (C.shortfallNeed q p t z k) ≤ mostShortfall n
+    unfolding C.shortfallNeed
+    shortfall-bound t z k l m = omega (arith, max-sub (C.required q p t z k) (1000 * C.held q p t z k), required-bound t z k l m)
+
+  -- ---- at most m intervals
+  module _ (m : ℕ) (short : intervals q ≤ m) where
+    over-intervals : (f : ℕ → ℕ) (b : ℕ) → ((t : ℕ) → t < intervals q → f t ≤ b) → sumℕ f (upTo (intervals q)) ≤ m * b
+    over-intervals f b h =
+        let s = sum-bound f b (upTo (intervals q)) (all-upTo _ _ h) in
+        let k : length (upTo (intervals q)) ≤ m = omega (arith, length-range 0 (intervals q), short) in
+        let e : b ≤ b = omega arith in
+        omega (arith, s, mul-le-mul k e)
+
+    pub energy-bound : (i w : ℕ) → i < devices q → C.energyIn q p i w ≤ m * (mostMinutes * mostPower)
+    unfolding C.energyIn
+    energy-bound i w d = over-intervals _ (mostMinutes * mostPower) (λ t l. times _ _ mostMinutes mostPower (minutes-bound _ _ t) (power-bound t i l d))
+
+    pub overrun-bound : (i w : ℕ) → i < devices q → maxZero (C.overrunNeed q p i w) ≤ mostOverrun m
+    unfolding C.overrunNeed
+    overrun-bound i w d = go (eqb (energyWindow q i w .kind) 0)
+      where
+        limit : energyWindow q i w .energy ≤ mostEnergy
+        limit = all-or EnergyRange noEnergyWindow (record { kind = omega arith; from = omega arith; until = omega arith; energy = omega arith }) (device q i .energyWindows) (device-at i d .energy) w .energy
+
+        go : (b : Bool) → maxZero (pick b (pos (C.energyIn q p i w) -ℤ pos (energyWindow q i w .energy)) (pos (energyWindow q i w .energy) -ℤ pos (C.energyIn q p i w))) ≤ mostOverrun m
+        go true = omega (arith, max-sub (C.energyIn q p i w) (energyWindow q i w .energy), energy-bound i w d)
+        go false = omega (arith, max-sub (energyWindow q i w .energy) (C.energyIn q p i w), limit)
 
 -- ---- our completion fits its message
 
@@ -146,17 +260,24 @@ module _ (c : Case) (p : Plan) (rq : SystemRange (c .system)) (rp : PlanRange (c
   abbrev q : System
   q = c .system
 
-  pub state-bound : (t i : ℕ) → i < devices q → bestState c p t i ≤ 4
+  pub state-bound : (t i : ℕ) → i < devices q → bestState c p t i ≤ mostStates
   unfolding bestState
   state-bound t i m = go (eqb (su q p t i) 1)
     where
-      go : (b : Bool) → pick b (best (λ n. C.stateCost c i (pos n)) (lasts q p t i) 0 (range 1 (length (device q i .longest)))) 0 ≤ 4
-      go true = best-is (λ n. C.stateCost c i (pos n)) (lasts q p t i) (λ n. n ≤ 4) 0 (range 1 (length (device q i .longest))) (omega arith)
-          (all-range (λ k. T (lasts q p t i k) → k ≤ 4) 1 _ (λ k a b h. omega (arith, device-at q p rq rp ok i m .states)))
+      go : (b : Bool) → pick b (best (λ n. C.stateCost c i (pos n)) (lasts q p t i) 0 (range 1 (length (device q i .longest)))) 0 ≤ mostStates
+      go true = best-is (λ n. C.stateCost c i (pos n)) (lasts q p t i) (λ n. n ≤ mostStates) 0 (range 1 (length (device q i .longest))) (omega arith)
+          (all-range (λ k. T (lasts q p t i k) → k ≤ mostStates) 1 _ (λ k a b h. omega (arith, device-at q p rq rp ok i m .states)))
       go false = omega arith
 
-  pub block-bound : (t i k : ℕ) → t < intervals q → i < devices q → filling (consuming q i) (C.blockPrice c t i) (cap q t i) (power q p t i) k ≤ 131071
-  block-bound t i k l m = omega (arith, filling-cap (C.blockPrice c t i) (cap q t i) (power q p t i) (consuming q i) k, all-getD 100000 (cell q t i .caps) (cell-at q p rq rp ok t i l m .caps) k)
+  pub block-bound : (t i k : ℕ) → t < intervals q → i < devices q → filling (consuming q i) (C.blockPrice c t i) (cap q t i) (power q p t i) k ≤ mostPower
+  block-bound t i k l m = omega (
+    arith,
+    filling-cap (C.blockPrice c t i) (cap q t i) (power q p t i) (consuming q i) k,
+    all-getD mostPower (cell q t i .caps) (cell-at q p rq rp ok t i l m .caps) k,
+  )
+
+  block-fits : (t i k : ℕ) → t < intervals q → i < devices q → filling (consuming q i) (C.blockPrice c t i) (cap q t i) (power q p t i) k ≤ 2 ^ 17 - 1
+  block-fits t i k l m = omega (arith, block-bound t i k l m)
 
   pub device-fits : (t i : ℕ) → t < intervals q → i < devices q
       → FitsDevice (record { started = su q p t i; stopped = sd q p t i; state = bestState c p t i; blocks = map (filling (consuming q i) (C.blockPrice c t i) (cap q t i) (power q p t i)) blocks })
@@ -166,7 +287,7 @@ module _ (c : Case) (p : Plan) (rq : SystemRange (c .system)) (rp : PlanRange (c
     stopped = bit-le (ltb (u q p t i) (uBefore q p t i));
     state = omega (arith, state-bound t i m);
     four = refl;
-    blocks = (block-bound t i 0 l m, (block-bound t i 1 l m, (block-bound t i 2 l m, (block-bound t i 3 l m, tt))));
+    blocks = (block-fits t i 0 l m, (block-fits t i 1 l m, (block-fits t i 2 l m, (block-fits t i 3 l m, tt))));
   }
 
   gather-length : (f : ℕ → ℕ → ℕ) (n : ℕ → ℕ) (ks : List ℕ) → length (gather (λ i. map (f i) (upTo (n i))) ks) ≡ sumℕ n ks
@@ -183,31 +304,35 @@ module _ (c : Case) (p : Plan) (rq : SystemRange (c .system)) (rp : PlanRange (c
       join [] ys a b = b
       join (x ∷ xs) ys a b = (a .0, join xs ys (a .1) b)
 
+  shortfall-fits : (t z : ℕ) (k : C.Shortfall) → t < intervals q → z < zones q → maxZero (C.shortfallNeed q p t z k) ≤ 2 ^ 33 - 1
+  shortfall-fits t z k l m = omega (arith, shortfall-bound q p rq rp ok mostDevices (rq .devices) t z k l m)
+
+  overrun-fits : (i w : ℕ) → i < devices q → maxZero (C.overrunNeed q p i w) ≤ 2 ^ 32 - 1
+  overrun-fits i w m = omega (arith, overrun-bound q p rq rp ok mostIntervals (rq .intervals) i w m)
+
   -- all but the surplus
-  pub fits : 1 ≤ devices q → 1 ≤ intervals q → Fits 64 (ourSurplus c p) → natAbs (ourSurplus c p) ≤ 2 ^ 63
-      → FitsWritten edition1 (countsOf q) (energyWindows q) (written q (ours c p) (ourSurplus c p))
+  pub fits : Fits 64 (ourSurplus c p) → natAbs (ourSurplus c p) ≤ 2 ^ 63 → FitsWritten (countsOf q) (energyWindows q) (written q (ours c p) (ourSurplus c p))
   unfolding written ours energyWindows
-  fits d1 t1 f s = record {
-    devices = (d1, rq .devices);
-    intervals = (t1, rq .intervals);
-    zones = rq .zones;
+  fits f s = record {
     length = rw length-map (length-range 0 (intervals q));
     each = map-of-all (FitsInterval (countsOf q)) _ (upTo (intervals q)) (all-upTo _ _ (λ t l. record {
       each = rw length-map (length-range 0 (devices q));
       devices = map-of-all FitsDevice _ (upTo (devices q)) (all-upTo _ _ (λ i m. device-fits t i l m));
       every = rw length-map (length-range 0 (zones q));
       zones = map-of-all FitsSix _ (upTo (zones q)) (all-upTo _ _ (λ z m. record {
-        rgu = omega (arith, shortfall-bound q p rq rp ok t z C.rgu l m);
-        rgd = omega (arith, shortfall-bound q p rq rp ok t z C.rgd l m);
-        scr = omega (arith, shortfall-bound q p rq rp ok t z C.scr l m);
-        nsc = omega (arith, shortfall-bound q p rq rp ok t z C.nsc l m);
-        rru = omega (arith, shortfall-bound q p rq rp ok t z C.rru l m);
-        rrd = omega (arith, shortfall-bound q p rq rp ok t z C.rrd l m);
+        rgu = shortfall-fits t z C.rgu l m;
+        rgd = shortfall-fits t z C.rgd l m;
+        scr = shortfall-fits t z C.scr l m;
+        nsc = shortfall-fits t z C.nsc l m;
+        rru = shortfall-fits t z C.rru l m;
+        rrd = shortfall-fits t z C.rrd l m;
       }));
-      mismatch = omega (arith, mismatch-bound q p rq rp ok t l);
+      mismatch = omega (arith, mismatch-bound q p rq rp ok mostDevices (rq .devices) t l);
     }));
     count = gather-length (λ i w. maxZero (C.overrunNeed q p i w)) (λ i. length (device q i .energyWindows)) (upTo (devices q));
-    overruns = gather-all _ _ (upTo (devices q)) (all-upTo _ _ (λ i m. map-of-all (λ x. x ≤ 2 ^ 32 - 1) (λ w. maxZero (C.overrunNeed q p i w)) (upTo (length (device q i .energyWindows))) (all-upTo (λ w. maxZero (C.overrunNeed q p i w) ≤ 2 ^ 32 - 1) _ (λ w k. omega (arith, overrun-bound q p rq rp ok i w m)))));
+    overruns = gather-all _ _ (upTo (devices q)) (all-upTo _ _ (λ i m.
+        map-of-all (λ x. x ≤ 2 ^ 32 - 1) (λ w. maxZero (C.overrunNeed q p i w)) (upTo (length (device q i .energyWindows)))
+        (all-upTo (λ w. maxZero (C.overrunNeed q p i w) ≤ 2 ^ 32 - 1) _ (λ w k. overrun-fits i w m))));
     surplus = f;
     size = s;
   }
@@ -216,15 +341,15 @@ module _ (c : Case) (p : Plan) (rq : SystemRange (c .system)) (rp : PlanRange (c
 
 -- the ranges of prices
 pub record PriceRange (c : Case) : Type 0 where
-  pub mismatch : c .prices .mismatch ≤ 10000
-  pub overrun : c .prices .overrun ≤ 10000
-  pub shortfall : (z : ℕ) (k : C.Shortfall) → C.shortfallPrice (getD (c .prices .zones) z noSix) k ≤ 100
-  pub on : (i : ℕ) → C.devicePrices c i .onCost ≤ 100000
-  pub start : (i : ℕ) → C.devicePrices c i .startCost ≤ 1000000000
-  pub stop : (i : ℕ) → C.devicePrices c i .stopCost ≤ 1000000000
-  pub state : (i : ℕ) (z : ℤ) → natAbs (C.stateCost c i z) ≤ 1000000000
-  pub block : (t i k : ℕ) → natAbs (C.blockPrice c t i k) ≤ 10000
-  pub reserve : (t i : ℕ) → Eight (λ r. r ≤ 10000) (C.cellPrices c t i .reserves)
+  pub mismatch : c .prices .mismatch ≤ mostPrice
+  pub overrun : c .prices .overrun ≤ mostPrice
+  pub shortfall : (z : ℕ) (k : C.Shortfall) → C.shortfallPrice (getD (c .prices .zones) z noSix) k ≤ mostShortfallPrice
+  pub on : (i : ℕ) → C.devicePrices c i .onCost ≤ mostOnCost
+  pub start : (i : ℕ) → C.devicePrices c i .startCost ≤ mostChange
+  pub stop : (i : ℕ) → C.devicePrices c i .stopCost ≤ mostChange
+  pub state : (i : ℕ) (z : ℤ) → natAbs (C.stateCost c i z) ≤ mostChange
+  pub block : (t i k : ℕ) → natAbs (C.blockPrice c t i k) ≤ mostPrice
+  pub reserve : (t i : ℕ) → Eight (λ r. r ≤ mostPrice) (C.cellPrices c t i .reserves)
 
 side-bound : (b : Bool) (z : ℤ) (n : ℕ) → natAbs z ≤ n → natAbs (C.bySide b z) ≤ n
 side-bound true z n h = h
@@ -237,25 +362,22 @@ module _ (c : Case) (p : Plan) (rq : SystemRange (c .system)) (rp : PlanRange (c
   abbrev our : C.Completion ℤ
   our = whole (ours c p)
 
-  -- over intervals and n others, each at most b
+  -- over n of them, each at most b; over intervals and n others
+  line : (n m b : ℕ) (f : ℕ → ℤ) → n ≤ m → ((i : ℕ) → i < n → natAbs (f i) ≤ b) → natAbs (sumℤ f (upTo n)) ≤ m * b
+  line n m b f h g = omega (arith, bound-sum f b (upTo n) (all-upTo (λ i. natAbs (f i) ≤ b) n g), times (length (upTo n)) b m b (omega (arith, length-range 0 n)) (omega arith))
+
   grid : (n m b : ℕ) (f : ℕ → ℕ → ℤ) → n ≤ m → ((t i : ℕ) → t < intervals sys → i < n → natAbs (f t i) ≤ b)
-      → natAbs (sumℤ (λ t. sumℤ (f t) (upTo n)) (upTo (intervals sys))) ≤ 48 * (m * b)
-  grid n m b f h g = omega (
-    arith,
-    bound-sum (λ t. sumℤ (f t) (upTo n)) (m * b) (upTo (intervals sys)) (all-upTo (λ t. natAbs (sumℤ (f t) (upTo n)) ≤ m * b) _ row),
-    times (length (upTo (intervals sys))) (m * b) 48 (m * b) (omega (arith, length-range 0 (intervals sys), rq .intervals)) (omega arith),
-  )
-    where
-      row : (t : ℕ) → t < intervals sys → natAbs (sumℤ (f t) (upTo n)) ≤ m * b
-      row t l = omega (arith, bound-sum (f t) b (upTo n) (all-upTo (λ i. natAbs (f t i) ≤ b) n (λ i k. g t i l k)), times (length (upTo n)) b m b (omega (arith, length-range 0 n)) (omega arith))
+      → natAbs (sumℤ (λ t. sumℤ (f t) (upTo n)) (upTo (intervals sys))) ≤ mostIntervals * (m * b)
+  grid n m b f h g = line (intervals sys) mostIntervals (m * b) (λ t. sumℤ (f t) (upTo n)) (rq .intervals) (λ t l. line n m b (f t) h (λ i k. g t i l k))
 
   abbrev d : ℕ → ℤ
   d t = pos (duration sys t)
 
-  block-worth : (t i : ℕ) → t < intervals sys → i < devices sys → natAbs (C.blockWorth c p our t i) ≤ 1887422400000
+  block-worth : (t i : ℕ) → t < intervals sys → i < devices sys → natAbs (C.blockWorth c p our t i) ≤ mostBlockWorth
   unfolding C.blockWorth whole ours range
-  block-worth t i l m = bound-mul (d t) (C.bySide (consuming sys i) total) 360 5242840000 (duration-bound sys p rq rp ok t) (side-bound (consuming sys i) total 5242840000 (bound-sum term 1310710000 blocks
-      (all-upTo (λ k. natAbs (term k) ≤ 1310710000) 4 (λ k h. bound-mul (C.blockPrice c t i k) (our .block t i k) 10000 131071 (rc .block t i k) (block-bound c p rq rp ok t i k l m)))))
+  block-worth t i l m = bound-mul (d t) (C.bySide (consuming sys i) total) mostMinutes (mostBlocks * (mostPrice * mostPower)) (duration-bound sys p rq rp ok t)
+      (side-bound (consuming sys i) total (mostBlocks * (mostPrice * mostPower)) (bound-sum term (mostPrice * mostPower) blocks
+      (all-upTo (λ k. natAbs (term k) ≤ mostPrice * mostPower) mostBlocks (λ k h. bound-mul (C.blockPrice c t i k) (our .block t i k) mostPrice mostPower (rc .block t i k) (block-bound c p rq rp ok t i k l m)))))
     where
       term : ℕ → ℤ
       term k = C.blockPrice c t i k *ℤ our .block t i k
@@ -263,15 +385,16 @@ module _ (c : Case) (p : Plan) (rq : SystemRange (c .system)) (rp : PlanRange (c
       total : ℤ
       total = sumℤ term blocks
 
-  on-cost : (t i : ℕ) → t < intervals sys → i < devices sys → natAbs (C.onCost c p our t i) ≤ 36000000
+  on-cost : (t i : ℕ) → t < intervals sys → i < devices sys → natAbs (C.onCost c p our t i) ≤ mostOnCosts
   unfolding C.onCost u
-  on-cost t i l m = bound-mul (d t) (pos (C.devicePrices c i .onCost * u sys p t i)) 360 100000 (duration-bound sys p rq rp ok t) (times (C.devicePrices c i .onCost) (u sys p t i) 100000 1 (rc .on i) (setting-at sys p rq rp ok t i l m .on))
+  on-cost t i l m = bound-mul (d t) (pos (C.devicePrices c i .onCost * u sys p t i)) mostMinutes (mostOnCost * 1) (duration-bound sys p rq rp ok t)
+      (times (C.devicePrices c i .onCost) (u sys p t i) mostOnCost 1 (rc .on i) (setting-at sys p rq rp ok t i l m .on))
 
-  change-cost : (t i : ℕ) → t < intervals sys → i < devices sys → natAbs (C.changeCost c p our t i) ≤ 3000000000
+  change-cost : (t i : ℕ) → t < intervals sys → i < devices sys → natAbs (C.changeCost c p our t i) ≤ mostChanges
   unfolding C.changeCost whole ours su sd
-  change-cost t i l m = bound-add (a +ℤ b) (C.stateCost c i (our .state t i)) 2000000000 1000000000 (bound-add a b 1000000000 1000000000
-      (bound-mul (pos (C.devicePrices c i .startCost)) (our .started t i) 1000000000 1 (rc .start i) (bit-le (ltb (uBefore sys p t i) (u sys p t i))))
-      (bound-mul (pos (C.devicePrices c i .stopCost)) (our .stopped t i) 1000000000 1 (rc .stop i) (bit-le (ltb (u sys p t i) (uBefore sys p t i)))))
+  change-cost t i l m = bound-add (a +ℤ b) (C.stateCost c i (our .state t i)) (2 * mostChange) mostChange (bound-add a b mostChange mostChange
+      (bound-mul (pos (C.devicePrices c i .startCost)) (our .started t i) mostChange 1 (rc .start i) (bit-le (ltb (uBefore sys p t i) (u sys p t i))))
+      (bound-mul (pos (C.devicePrices c i .stopCost)) (our .stopped t i) mostChange 1 (rc .stop i) (bit-le (ltb (u sys p t i) (uBefore sys p t i)))))
       (rc .state i (our .state t i))
     where
       a : ℤ
@@ -280,60 +403,58 @@ module _ (c : Case) (p : Plan) (rq : SystemRange (c .system)) (rp : PlanRange (c
       b : ℤ
       b = pos (C.devicePrices c i .stopCost) *ℤ our .stopped t i
 
-  reserves-cost : (t i : ℕ) → t < intervals sys → i < devices sys → natAbs (C.reservesCost c p our t i) ≤ 2880000000000
+  reserves-cost : (t i : ℕ) → t < intervals sys → i < devices sys → natAbs (C.reservesCost c p our t i) ≤ mostReserves
   unfolding C.reservesCost C.reserveCost
   reserves-cost t i l m =
       let a = rc .reserve t i in let b = setting-at sys p rq rp ok t i l m .reserves in
-      bound-mul (d t) (pos (C.reserveCost (C.cellPrices c t i .reserves) (setting sys p t i .reserves))) 360 8000000000 (duration-bound sys p rq rp ok t)
+      bound-mul (d t) (pos (C.reserveCost (C.cellPrices c t i .reserves) (setting sys p t i .reserves))) mostMinutes (reserveKinds * (mostPrice * mostPower)) (duration-bound sys p rq rp ok t)
       (omega (
         arith,
-        times _ _ 10000 100000 (a .rgu) (b .rgu),
-        times _ _ 10000 100000 (a .rgd) (b .rgd),
-        times _ _ 10000 100000 (a .scr) (b .scr),
-        times _ _ 10000 100000 (a .nsc) (b .nsc),
-        times _ _ 10000 100000 (a .rruOn) (b .rruOn),
-        times _ _ 10000 100000 (a .rruOff) (b .rruOff),
-        times _ _ 10000 100000 (a .rrdOn) (b .rrdOn),
-        times _ _ 10000 100000 (a .rrdOff) (b .rrdOff),
+        times _ _ mostPrice mostPower (a .rgu) (b .rgu),
+        times _ _ mostPrice mostPower (a .rgd) (b .rgd),
+        times _ _ mostPrice mostPower (a .scr) (b .scr),
+        times _ _ mostPrice mostPower (a .nsc) (b .nsc),
+        times _ _ mostPrice mostPower (a .rruOn) (b .rruOn),
+        times _ _ mostPrice mostPower (a .rruOff) (b .rruOff),
+        times _ _ mostPrice mostPower (a .rrdOn) (b .rrdOn),
+        times _ _ mostPrice mostPower (a .rrdOff) (b .rrdOff),
       ))
 
-  shortfall-cost : (t z : ℕ) → t < intervals sys → z < zones sys → natAbs (C.shortfallCost c p our t z) ≤ 1382400000000000
+  shortfall-cost : (t z : ℕ) → t < intervals sys → z < zones sys → natAbs (C.shortfallCost c p our t z) ≤ mostShortfallCost mostDevices
   unfolding C.shortfallCost whole ours
-  shortfall-cost t z l m = bound-mul (d t) (sumℤ term C.shortfalls) 360 3840000000000 (duration-bound sys p rq rp ok t) (bound-sum term 640000000000 C.shortfalls
-      (all {P = λ k. natAbs (term k) ≤ 640000000000} (λ k. bound-mul (pos (C.shortfallPrice (getD (c .prices .zones) z noSix) k)) (our .shortfall t z k) 100 6400000000 (rc .shortfall z k) (shortfall-bound sys p rq rp ok t z k l m)) C.shortfalls))
+  shortfall-cost t z l m = bound-mul (d t) (sumℤ term C.shortfalls) mostMinutes (shortfallKinds * most) (duration-bound sys p rq rp ok t) (bound-sum term most C.shortfalls
+      (all {P = λ k. natAbs (term k) ≤ most} (λ k. bound-mul (pos (C.shortfallPrice (getD (c .prices .zones) z noSix) k)) (our .shortfall t z k) mostShortfallPrice (mostShortfall mostDevices) (rc .shortfall z k)
+      (shortfall-bound sys p rq rp ok mostDevices (rq .devices) t z k l m)) C.shortfalls))
     where
       term : C.Shortfall → ℤ
       term k = pos (C.shortfallPrice (getD (c .prices .zones) z noSix) k) *ℤ our .shortfall t z k
 
-  mismatch-cost : (t : ℕ) → t < intervals sys → natAbs (C.mismatchCost c p our t) ≤ 11520000000000
+      most : ℕ
+      most = mostShortfallPrice * mostShortfall mostDevices
+
+  mismatch-cost : (t : ℕ) → t < intervals sys → natAbs (C.mismatchCost c p our t) ≤ mostMismatchCost mostDevices
   unfolding C.mismatchCost whole ours
-  mismatch-cost t l = bound-mul (d t) (pos (c .prices .mismatch) *ℤ our .mismatch t) 360 32000000000 (duration-bound sys p rq rp ok t) (bound-mul (pos (c .prices .mismatch)) (our .mismatch t) 10000 3200000 (rc .mismatch) (mismatch-bound sys p rq rp ok t l))
+  mismatch-cost t l = bound-mul (d t) (pos (c .prices .mismatch) *ℤ our .mismatch t) mostMinutes (mostPrice * mostTotal mostDevices) (duration-bound sys p rq rp ok t)
+      (bound-mul (pos (c .prices .mismatch)) (our .mismatch t) mostPrice (mostTotal mostDevices) (rc .mismatch) (mismatch-bound sys p rq rp ok mostDevices (rq .devices) t l))
 
-  overruns-sum : (i : ℕ) → i < devices sys → natAbs (C.overruns c p our i) ≤ 16000000000
+  overruns-sum : (i : ℕ) → i < devices sys → natAbs (C.overruns c p our i) ≤ mostWindows * mostOverrun mostIntervals
   unfolding C.overruns whole ours
-  overruns-sum i m = omega (
-    arith,
-    bound-sum (our .overrun i) 4000000000 (upTo n) (all-upTo (λ w. natAbs (our .overrun i w) ≤ 4000000000) n (λ w k. overrun-bound sys p rq rp ok i w m)),
-    length-range 0 n,
-    device-at sys p rq rp ok i m .energies,
-  )
-    where
-      n : ℕ
-      n = length (device sys i .energyWindows)
+  overruns-sum i m = line (length (device sys i .energyWindows)) mostWindows (mostOverrun mostIntervals) (our .overrun i) (device-at sys p rq rp ok i m .energies)
+      (λ w k. overrun-bound sys p rq rp ok mostIntervals (rq .intervals) i w m)
 
-  -- "For our completion its size stays below 2·10^18"
-  pub surplus-size : natAbs (ourSurplus c p) < 2000000000000000000
+  pub surplus-size : natAbs (ourSurplus c p) < surplusLimit
   unfolding ourSurplus C.surplusOf
   surplus-size = omega (
     arith,
     bound-sub (A -ℤ B -ℤ E -ℤ H -ℤ K -ℤ M) G _ _ (bound-sub (A -ℤ B -ℤ E -ℤ H -ℤ K) M _ _ (bound-sub (A -ℤ B -ℤ E -ℤ H) K _ _ (bound-sub (A -ℤ B -ℤ E) H _ _ (bound-sub (A -ℤ B) E _ _ (bound-sub A B _ _
-        (grid (devices sys) 16 1887422400000 (C.blockWorth c p our) (rq .devices) block-worth)
-        (grid (devices sys) 16 36000000 (C.onCost c p our) (rq .devices) on-cost))
-        (grid (devices sys) 16 3000000000 (C.changeCost c p our) (rq .devices) change-cost))
-        (grid (devices sys) 16 2880000000000 (C.reservesCost c p our) (rq .devices) reserves-cost))
-        (grid (zones sys) 4 1382400000000000 (C.shortfallCost c p our) (rq .zones) shortfall-cost))
-        mismatches)
-        (bound-mul (pos (c .prices .overrun)) (sumℤ (C.overruns c p our) (upTo (devices sys))) 10000 256000000000 (rc .overrun) overs),
+        (grid (devices sys) mostDevices mostBlockWorth (C.blockWorth c p our) (rq .devices) block-worth)
+        (grid (devices sys) mostDevices mostOnCosts (C.onCost c p our) (rq .devices) on-cost))
+        (grid (devices sys) mostDevices mostChanges (C.changeCost c p our) (rq .devices) change-cost))
+        (grid (devices sys) mostDevices mostReserves (C.reservesCost c p our) (rq .devices) reserves-cost))
+        (grid (zones sys) mostZones (mostShortfallCost mostDevices) (C.shortfallCost c p our) (rq .zones) shortfall-cost))
+        (line (intervals sys) mostIntervals (mostMismatchCost mostDevices) (C.mismatchCost c p our) (rq .intervals) mismatch-cost))
+        (bound-mul (pos (c .prices .overrun)) (sumℤ (C.overruns c p our) (upTo (devices sys))) mostPrice (mostDevices * (mostWindows * mostOverrun mostIntervals)) (rc .overrun)
+        (line (devices sys) mostDevices (mostWindows * mostOverrun mostIntervals) (C.overruns c p our) (rq .devices) overruns-sum)),
   )
     where
       over : (ℕ → ℕ → ℤ) → ℤ
@@ -359,19 +480,3 @@ module _ (c : Case) (p : Plan) (rq : SystemRange (c .system)) (rp : PlanRange (c
 
       G : ℤ
       G = pos (c .prices .overrun) *ℤ sumℤ (C.overruns c p our) (upTo (devices sys))
-
-      mismatches : natAbs M ≤ 48 * 11520000000000
-      mismatches = omega (
-        arith,
-        bound-sum (C.mismatchCost c p our) 11520000000000 (upTo (intervals sys)) (all-upTo (λ t. natAbs (C.mismatchCost c p our t) ≤ 11520000000000) _ mismatch-cost),
-        length-range 0 (intervals sys),
-        rq .intervals,
-      )
-
-      overs : natAbs (sumℤ (C.overruns c p our) (upTo (devices sys))) ≤ 256000000000
-      overs = omega (
-        arith,
-        bound-sum (C.overruns c p our) 16000000000 (upTo (devices sys)) (all-upTo (λ i. natAbs (C.overruns c p our i) ≤ 16000000000) _ overruns-sum),
-        length-range 0 (devices sys),
-        rq .devices,
-      )

@@ -1,0 +1,175 @@
+-- "Messages": the fields of a case, a plan and a completion, in order, with widths and ranges, for every edition at once.
+-- The content is the newest edition's: what an edition lacks takes no bits and has its neutral value (`since`). Parts that no edition has added to are those of `Messages`.
+use mathlib.Core.List.{List}
+use Prim.Native.Nat.{ℕ, _^_}
+use Rattle.layouts.specs.declared.Fault.the-variants.{WrongKind}
+use Rattle.layouts.specs.Layout.{Field, Layout, Whole, nat, int, _then_, _▸_, list, held, counted, figure, any, countOf, fixed, readWhole}
+use lib.ListN.{length}
+use Rattle.model.specs.Case.{StartWindow, Cell, Device, Zone, CellPrices, DevicePrices, Six, Case, System, Setting, Plan}
+use Rattle.model.specs.Forced.{intervals, devices}
+use Rattle.model.specs.Editions.{newest, Largest, deviceBits, intervalBits, devicesIn, intervalsIn, mostZones, mostStates, mostWindows, startsBits, mostStarts}
+use Rattle.model.specs.Messages as M
+use Rattle.model.specs.Messages.{kW, minutes, eight, six, windowEnds, energyWindow, apart, head, costs, lastEnd, Counts, DeviceChoice, IntervalChoice, Written}
+
+-- ---- the front of a message
+
+-- "kind 4 (1)", (2), (3)
+abbrev pub caseKind : ℕ
+caseKind = 1
+
+abbrev pub planKind : ℕ
+planKind = 2
+
+abbrev pub completionKind : ℕ
+completionKind = 3
+
+-- "edition 4", of a case: 1 to the newest
+abbrev pub editionField : Field
+editionField = record { width = 4; low = 1; high = newest; wrong = WrongKind }
+
+-- "devices 5 (1..16); intervals 6 (1..48); zones 3 (0..4)", up to what the reader takes
+abbrev pub deviceCount : ℕ → Largest → Field
+deviceCount e l = countOf (deviceBits e) 1 (devicesIn e l)
+
+abbrev pub intervalCount : ℕ → Largest → Field
+intervalCount e l = countOf (intervalBits e) 1 (intervalsIn e l)
+
+abbrev pub zoneCount : Field
+zoneCount = countOf 3 0 mostZones
+
+unfoldable pub counts : ℕ → Largest → Layout Counts
+counts e l = held
+    (λ v. record { devices = v .0; intervals = v .1 .0; zones = v .1 .1 })
+    (λ r. (r .devices, (r .intervals, r .zones)))
+    (nat (deviceCount e l) ▸ nat (intervalCount e l) ▸ nat zoneCount)
+
+-- ---- Case
+
+-- "status 2 (0 free, 1 on, 2 off); pmin, pmax 17 each; blocks 3 (0..4), each cap 17 and price 15 (±10,000); eight reserve prices 14 each (0..10,000)"
+abbrev pub cell : ℕ → Layout (Cell × CellPrices)
+cell e = M.cell
+
+-- "each start 16, end 16, most starts 6 (0..48)"
+unfoldable pub startWindow : ℕ → ℕ → Layout StartWindow
+startWindow e last = held
+    (λ v. record { from = v .0 .0; until = v .0 .1; most = v .1 })
+    (λ r. ((r .from, r .until), r .most))
+    (windowEnds last ▸ figure (startsBits e) 0 (mostStarts e))
+
+-- "Per device": what stands ahead of its intervals, then its cells
+unfoldable pub device : ℕ → ℕ → ℕ → ℕ → Layout (Device × DevicePrices)
+device e intervals zones last = held
+    (λ v. let h = v .0 in let c = v .1 .0 in let w = v .1 .1 .1 in (
+      record {
+        side = h .side;
+        zoneBits = h .zoneBits;
+        on0 = h .on0;
+        power0 = h .power0;
+        minutes0 = h .minutes0;
+        minUp = h .minUp;
+        minDown = h .minDown;
+        ramps = h .ramps;
+        limits = v .1 .1 .0;
+        longest = w .0 .0;
+        startWindows = w .1 .0;
+        energyWindows = w .1 .1 .0;
+        cells = w .1 .1 .1 .0;
+      },
+      record { onCost = c .on; startCost = c .start; stopCost = c .stop; stateCosts = w .0 .1; cells = w .1 .1 .1 .1 },
+    ))
+    (λ r. let d = r .0 in let x = r .1 in (
+      record { side = d .side; zoneBits = d .zoneBits; on0 = d .on0; power0 = d .power0; minutes0 = d .minutes0; minUp = d .minUp; minDown = d .minDown; ramps = d .ramps },
+      (
+        record { on = x .onCost; start = x .startCost; stop = x .stopCost },
+        (d .limits, ((d .longest, x .stateCosts), (d .startWindows, (d .energyWindows, (d .cells, x .cells))))),
+      ),
+    ))
+    (head zones
+    ▸ costs
+    ▸ eight kW
+    ▸ apart (counted (countOf 3 0 mostStates) (minutes ▸ int 31 1000000000))
+    ▸ counted (countOf 3 0 mostWindows) (startWindow e last)
+    ▸ counted (countOf 3 0 mostWindows) (energyWindow last)
+    ▸ apart (list intervals (cell e)))
+
+-- "Per zone: shares ..; shortfall prices ..; per interval rru and rrd minima"
+abbrev pub zone : ℕ → ℕ → Layout (Zone × Six)
+zone e intervals = M.zone intervals
+
+-- what stands behind the edition: "mismatch price, overrun price 14 each (1..10,000 per kW·min). Per interval: d/2, 8 (1..180)"; zones; devices
+unfoldable pub content : ℕ → Largest → Layout Case
+content e l = held
+    (λ v. let b = v .1 .1 .1 in record {
+      system = record { halves = b .0; zones = b .1 .0 .0; devices = b .1 .1 .0 };
+      prices = record { mismatch = v .1 .0; overrun = v .1 .1 .0; zones = b .1 .0 .1; devices = b .1 .1 .1 };
+    })
+    (λ c. let s = c .system in let x = c .prices in (
+      record { devices = length (s .devices); intervals = length (s .halves); zones = length (s .zones) },
+      (x .mismatch, (x .overrun, (s .halves, ((s .zones, x .zones), (s .devices, x .devices))))),
+    ))
+    (counts e l then (λ n.
+    figure 14 1 10000 ▸ figure 14 1 10000 ▸
+    (list (n .intervals) (figure 8 1 180) then (λ halves.
+    apart (list (n .zones) (zone e (n .intervals)))
+    ▸ apart (list (n .devices) (device e (n .intervals) (n .zones) (lastEnd halves)))))))
+
+-- a case as its message states it, with the edition that its plans and completions follow
+pub record Stated : Type 0 where
+  pub edition : ℕ
+  pub case : Case
+
+unfoldable pub caseLayout : Largest → Layout Stated
+caseLayout l = held (λ v. record { edition = v .1 .0; case = v .1 .1 }) (λ r. (caseKind, (r .edition, r .case)))
+    (fixed caseKind ▸ (nat editionField then (λ e. content e l)))
+
+-- ---- Plan
+
+-- "on 1, online power 17, eight reserves 17 each"
+abbrev pub setting : ℕ → Layout Setting
+setting e = M.setting
+
+-- an interval's part of a plan: "per device"
+abbrev pub planned : ℕ → ℕ → Layout (List Setting)
+planned e devices = list devices (setting e)
+
+-- "kind 4 (2); edition 4; devices 5; intervals 6, equal to the case's; per interval, per device: .."
+unfoldable pub planLayout : ℕ → ℕ → ℕ → Layout Plan
+planLayout e devices intervals = held
+    (λ v. record { settings = v .1 .1 .1 .1 })
+    (λ p. (planKind, (e, (devices, (intervals, p .settings)))))
+    (fixed planKind ▸ fixed e ▸ nat (countOf (deviceBits e) devices devices) ▸ nat (countOf (intervalBits e) intervals intervals)
+    ▸ list intervals (planned e devices))
+
+-- ---- Completion
+
+-- "kind 4 (3); edition; devices; intervals; zones", the case's
+unfoldable pub completionFront : ℕ → Counts → Layout Counts
+completionFront e n = held
+    (λ v. record { devices = v .1 .1 .0; intervals = v .1 .1 .1 .0; zones = v .1 .1 .1 .1 })
+    (λ r. (completionKind, (e, (r .devices, (r .intervals, r .zones)))))
+    (fixed completionKind ▸ fixed e ▸ nat (countOf (deviceBits e) (n .devices) (n .devices)) ▸ nat (countOf (intervalBits e) (n .intervals) (n .intervals)) ▸ nat (countOf 3 (n .zones) (n .zones)))
+
+-- "per device started 1, stopped 1, startup state 3 (0 none), four block powers 17 (absent blocks 0)"
+abbrev pub deviceChoice : Layout DeviceChoice
+deviceChoice = M.deviceChoice
+
+-- an interval's part: "then per zone six shortfalls in W, in the order of their prices, 33 each; then mismatch 23"
+abbrev pub intervalChoice : ℕ → ℕ → ℕ → Layout IntervalChoice
+intervalChoice e devices zones = M.intervalChoice devices zones
+
+-- "Then each energy window's overrun 32, in case order; surplus 64 signed"
+unfoldable pub completionLayout : ℕ → Counts → ℕ → Layout Written
+completionLayout e n windows = held
+    (λ v. record { intervals = v .1 .0; overruns = v .1 .1 .0; surplus = v .1 .1 .1 })
+    (λ r. (n, (r .intervals, (r .overruns, r .surplus))))
+    (completionFront e n ▸ list (n .intervals) (intervalChoice e (n .devices) (n .zones)) ▸ list windows (any 32) ▸ int 64 (2 ^ 63))
+
+-- ---- reading
+
+-- a case, by a reader that takes counts up to these
+unfoldable pub statedIn : Largest → List ℕ → Whole Stated
+statedIn l s = readWhole (caseLayout l) s
+
+-- a plan, of its case's edition
+unfoldable pub plannedIn : ℕ → System → List ℕ → Whole Plan
+plannedIn e q s = readWhole (planLayout e (devices q) (intervals q)) s
