@@ -1,15 +1,21 @@
 -- One layout reads and writes as another, its values held by a function: how a message of an older edition is read by the newest layout.
 use mathlib.Core.Path.{_≡_, refl, sym, _∙_, ap, fun-ext}
-use mathlib.Core.Bool.{Bool}
+use mathlib.Core.Bool.{Bool, true, false}
 use mathlib.Core.List.{List, [], _∷_, _++_, map, append-nil}
-use Prim.Native.Nat.{ℕ, zero, suc, _<_}
+use Prim.Native.Nat.{ℕ, zero, suc, _+_, _*_, _≤_, _<_}
+use native.Mathlib.Omega.{arith}
+use lib.Dec.{leb}
+use borrow.Author.Tests.{le-leb}
 use lib.ListN.{length, length-map}
+use Rattle.bits.specs.Bits.{fieldAt, reach, readField}
+use Rattle.bits.specs.Pick.{pick}
+use Rattle.bits.specs.declared.Field.the-variants.{Value, Cut}
 use Rattle.layouts.specs.declared.Fault.{Fault}
 use Rattle.layouts.specs.declared.Place.{Place}
 use Rattle.layouts.specs.declared.Clash.{Clash}
 use Rattle.layouts.specs.declared.Clash.the-variants.{Clear, At}
 use Rattle.numbers.specs.Base.{gather}
-use Rattle.layouts.specs.Layout.{Layout, Field, Whole, passes, fails, nat, counted, _then_, _▸_, repeated, list, such, noted, held, readWhole, settle, tailFault, begin}
+use Rattle.layouts.specs.Layout.{Layout, Field, Whole, passes, fails, raw, advanced, nat, counted, _then_, _▸_, repeated, list, such, noted, held, readWhole, settle, tailFault, begin}
 use Rattle.layouts.specs.Since.{nothing, present, since, has-not}
 use Rattle.layouts.specs.Checked.{Checked, Outcome, stops, goes}
 
@@ -54,6 +60,52 @@ always {A} {X} l v u s p bad next = go (u .outcome s p)
     go : Outcome (λ a. a ≡ v) (λ X bad next. l .read {X = X} s p bad next) → l .read s p bad next ≡ l .read s p bad (λ _ q. next v q)
     go (stops x e) = e X bad next ∙ sym (e X bad _)
     go (goes a q k e) = e X bad next ∙ ap (λ (b : A). next b q) k ∙ sym (e X bad _)
+
+-- a field that holds v is read as if it could hold nothing else
+abbrev pub only : Field → ℕ → Field
+only f v = record { width = f .width; low = v; high = v; wrong = f .wrong }
+
+module _ {X : Type 0} (f : Field) (s : List ℕ) (p : Place) (bad : Fault → X) (next : ℕ → Place → X) where
+  pub holding : (v : ℕ) → f .low ≤ v → v ≤ f .high → fieldAt s (p .at) (f .width) ≡ v → nat f .read s p bad next ≡ nat (only f v) .read s p bad (λ _ q. next v q)
+  unfolding nat readField
+  holding v h k e = go (leb (p .at + f .width) (8 * reach s))
+    where
+      go : (b : Bool)
+          → raw (pick b (Value (fieldAt s (p .at) (f .width)) (record { at = p .at + f .width })) (Cut (p .at))) p bad
+          (λ v after. pick (leb (f .low) v) (pick (leb v (f .high)) (next v after) (bad (f .wrong (p .at)))) (bad (f .wrong (p .at))))
+          ≡ raw (pick b (Value (fieldAt s (p .at) (f .width)) (record { at = p .at + f .width })) (Cut (p .at))) p bad
+          (λ x after. pick (leb v x) (pick (leb x v) (next v after) (bad (f .wrong (p .at)))) (bad (f .wrong (p .at))))
+      go true = rw (e, le-leb (f .low) v h, le-leb v (f .high) k, le-leb v v (omega arith)) refl
+      go false = refl
+
+  -- and leads to the place behind its width
+  pub leads : nat f .read s p bad next ≡ nat f .read s p bad (λ v _. next v (advanced p (p .at + f .width)))
+  unfolding nat readField
+  leads = go (leb (p .at + f .width) (8 * reach s))
+    where
+      go : (b : Bool)
+          → raw (pick b (Value (fieldAt s (p .at) (f .width)) (record { at = p .at + f .width })) (Cut (p .at))) p bad
+          (λ v after. pick (leb (f .low) v) (pick (leb v (f .high)) (next v after) (bad (f .wrong (p .at)))) (bad (f .wrong (p .at))))
+          ≡ raw (pick b (Value (fieldAt s (p .at) (f .width)) (record { at = p .at + f .width })) (Cut (p .at))) p bad
+          (λ v after. pick (leb (f .low) v) (pick (leb v (f .high)) (next v (advanced p (p .at + f .width))) (bad (f .wrong (p .at)))) (bad (f .wrong (p .at))))
+      go true = refl
+      go false = refl
+
+-- a whole message that is read as another's
+pub whole-as : {A B : Type 0} (l : Layout B) (f : A → B) (m : Layout A) (P : A → Type 0) → Checked m P → (s : List ℕ)
+    → ((next : B → Place → Whole B) → l .read s begin fails next ≡ m .read s begin fails (λ a q. next (f a) q)) → readWhole l s ≡ mapWhole f (readWhole m s)
+unfolding readWhole settle
+whole-as {A} {B} l f m P v s u = u _ ∙ go (v .outcome s begin)
+  where
+    settled : (a : A) (t c : Clash) → settle (f a) t c ≡ mapWhole f (settle a t c)
+    settled a (At b) c = refl
+    settled a Clear (At b) = refl
+    settled a Clear Clear = refl
+
+    go : Outcome P (λ X bad next. m .read {X = X} s begin bad next)
+        → m .read s begin fails (λ a q. settle (f a) (tailFault s (q .at)) (q .clash)) ≡ mapWhole f (m .read s begin fails (λ a q. settle a (tailFault s (q .at)) (q .clash)))
+    go (stops x e) = e (Whole B) fails _ ∙ sym (ap (mapWhole f) (e (Whole A) fails _))
+    go (goes a q k e) = e (Whole B) fails _ ∙ settled a (tailFault s (q .at)) (q .clash) ∙ sym (ap (mapWhole f) (e (Whole A) fails _))
 
 module _ {A B : Type 0} {l : Layout B} {f : A → B} {m : Layout A} (u : As l f m) where
   -- behind a field of one value, on which the newer side goes by
@@ -136,15 +188,4 @@ module _ {A B : Type 0} {l : Layout B} {f : A → B} {m : Layout A} (u : As l f 
 
   -- a whole message
   pub as-whole : (P : A → Type 0) → Checked m P → (s : List ℕ) → readWhole l s ≡ mapWhole f (readWhole m s)
-  unfolding readWhole settle
-  as-whole P v s = u .reads s begin fails _ ∙ go (v .outcome s begin)
-    where
-      settled : (a : A) (t c : Clash) → settle (f a) t c ≡ mapWhole f (settle a t c)
-      settled a (At b) c = refl
-      settled a Clear (At b) = refl
-      settled a Clear Clear = refl
-
-      go : Outcome P (λ X bad next. m .read {X = X} s begin bad next)
-          → m .read s begin fails (λ a q. settle (f a) (tailFault s (q .at)) (q .clash)) ≡ mapWhole f (m .read s begin fails (λ a q. settle a (tailFault s (q .at)) (q .clash)))
-      go (stops x e) = e (Whole B) fails _ ∙ sym (ap (mapWhole f) (e (Whole A) fails _))
-      go (goes a q k e) = e (Whole B) fails _ ∙ settled a (tailFault s (q .at)) (q .clash) ∙ sym (ap (mapWhole f) (e (Whole A) fails _))
+  as-whole P v s = whole-as l f m P v s (λ next. u .reads s begin fails next)

@@ -3,15 +3,17 @@ use mathlib.Core.Path.{_≡_, refl, sym, _∙_, ap}
 use mathlib.Core.List.{List, _++_, append-assoc}
 use Prim.Native.Nat.{ℕ, _≤_, min}
 use native.Mathlib.Omega.{arith}
-use Rattle.layouts.specs.Layout.{Layout, nat, _then_, _▸_, held, fixed}
+use Rattle.layouts.specs.declared.Fault.{Fault}
+use Rattle.layouts.specs.declared.Place.{Place}
+use Rattle.layouts.specs.Layout.{Layout, begin, advanced, nat, _then_, _▸_, held, fixed}
 use Rattle.layouts.specs.Checked.{Checked, nat-checked, weaken}
-use Rattle.layouts.specs.As.{As, as-same, ahead, always}
+use Rattle.layouts.specs.As.{As, as-same, ahead, always, only, holding, leads}
 use Rattle.model.specs.Case.{Case, System, Plan}
 use Rattle.model.specs.Editions.{Largest, deviceLimit, intervalLimit, batch}
 use Rattle.model.specs.Messages as M
 use Rattle.model.specs.Messages.{edition1, Counts, Written}
 use Rattle.model.specs.Judgement.{readPlan, countsOf}
-use Rattle.model.specs.ByEdition.{Stated, counts, startWindow, device, content, caseLayout, editionField, planLayout, plannedIn, completionFront, completionLayout}
+use Rattle.model.specs.ByEdition.{Stated, counts, startWindow, device, content, caseLayout, caseKind, editionOf, editionField, planLayout, plannedIn, completionFront, completionLayout}
 
 -- a case with its edition beside it
 abbrev pub stated : ℕ → Case → Stated
@@ -35,27 +37,50 @@ completion-as n windows w = refl
 
 -- ---- case
 
-edition-checked : Checked (nat editionField) (λ e. e ≡ 1)
-edition-checked = weaken (nat editionField) _ _ (nat-checked editionField) (λ e ok. omega arith)
+-- what is read of a case's message whose edition is 1
+unfoldable pub first : Largest → Layout Case
+first l = held (λ v. v .1 .1) (λ c. (caseKind, (1, c))) (fixed caseKind ▸ fixed 1 ▸ content 1 l)
 
 regroup : (a b c d : List ℕ) → a ++ (b ++ (c ++ d)) ≡ (a ++ (b ++ c)) ++ d
 regroup a b c d = simp append-assoc
+
+edition-checked : Checked (nat editionField) (λ e. e ≡ 1)
+edition-checked = weaken (nat editionField) _ _ (nat-checked editionField) (λ e ok. omega arith)
 
 -- a reader that takes all that edition 1 allows takes no more
 module _ (l : Largest) (h : deviceLimit 1 ≤ l .devices) (k : intervalLimit 1 ≤ l .intervals) where
   content-as : As (content 1 l) (λ c. c) (content 1 batch)
   unfolding content counts
   content-as =
-      let d : min (l .devices) 16 ≡ 16 = omega arith in
-      let i : min (l .intervals) 48 ≡ 48 = omega arith in
+      let d : min (l .devices) (deviceLimit 1) ≡ deviceLimit 1 = omega arith in
+      let i : min (l .intervals) (intervalLimit 1) ≡ intervalLimit 1 = omega arith in
       rw (d, i) (as-same (content 1 batch))
 
-  pub case-as : As (caseLayout l) (stated 1) (M.caseLayout edition1)
-  unfolding caseLayout content counts device startWindow M.caseLayout M.counts M.device M.startWindow held _then_ nat
-  case-as = record {
-    reads = λ s p bad next. ahead (fixed 1) s p bad (λ _ q.
-        always (nat editionField) 1 edition-checked s q bad _ ∙ ahead (nat editionField) s q bad (λ _ r. content-as .reads s r bad (λ c z. next (stated 1 c) z)));
+  pub first-as : As (first l) (λ c. c) (M.caseLayout edition1)
+  unfolding first content counts device startWindow M.caseLayout M.counts M.device M.startWindow held _then_ nat
+  first-as = record {
+    reads = λ s p bad next. ahead (fixed 1) s p bad (λ _ q. ahead (fixed 1) s q bad (λ _ r. content-as .reads s r bad next));
     writes = λ c.
         ap (λ (bs : List ℕ). fixed 1 .write 1 ++ (fixed 1 .write 1 ++ bs)) (content-as .writes c)
         ∙ regroup (fixed 1 .write 1) (fixed 1 .write 1) (counts 1 batch .write (countsOf (c .system))) _;
   }
+
+  -- where 1 is the newest edition, every message is read so
+  pub case-as : As (caseLayout l) (stated 1) (M.caseLayout edition1)
+  unfolding caseLayout first held _then_
+  case-as = record {
+    reads = λ s p bad next.
+        ahead (fixed 1) s p bad (λ _ q. always (nat editionField) 1 edition-checked s q bad _)
+        ∙ first-as .reads s p bad (λ c z. next (stated 1 c) z);
+    writes = first-as .writes;
+  }
+
+  -- and whatever is the newest, every message whose edition is 1
+  pub edition1-reads : {X : Type 0} (s : List ℕ) → editionOf s ≡ 1 → (bad : Fault → X) (next : Stated → Place → X)
+      → caseLayout l .read s begin bad next ≡ M.caseLayout edition1 .read s begin bad (λ c q. next (stated 1 c) q)
+  unfolding caseLayout first held _then_
+  edition1-reads s e bad next =
+      leads (only editionField 1) s begin bad _
+      ∙ ahead (fixed 1) s begin bad (λ _ _. holding editionField s (advanced begin 4) bad _ 1 (omega arith) (omega arith) e)
+      ∙ sym (leads (only editionField 1) s begin bad _)
+      ∙ first-as .reads s begin bad (λ c z. next (stated 1 c) z)

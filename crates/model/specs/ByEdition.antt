@@ -2,6 +2,7 @@
 -- The content is the newest edition's: what an edition lacks takes no bits and has its neutral value (`since`). Parts that no edition has added to are those of `Messages`.
 use mathlib.Core.List.{List}
 use Prim.Native.Nat.{ℕ, _^_}
+use Rattle.bits.specs.Bits.{fieldAt}
 use Rattle.layouts.specs.declared.Fault.the-variants.{WrongKind}
 use Rattle.layouts.specs.Layout.{Field, Layout, Whole, nat, int, _then_, _▸_, list, held, counted, figure, any, countOf, fixed, readWhole}
 use lib.ListN.{length}
@@ -26,6 +27,10 @@ completionKind = 3
 -- "edition 4", of a case: 1 to the newest
 abbrev pub editionField : Field
 editionField = record { width = 4; low = 1; high = newest; wrong = WrongKind }
+
+-- the edition that a message names, behind its kind
+abbrev pub editionOf : List ℕ → ℕ
+editionOf s = fieldAt s 4 4
 
 -- "devices 5 (1..16); intervals 6 (1..48); zones 3 (0..4)", up to what the reader takes
 abbrev pub deviceCount : ℕ → Largest → Field

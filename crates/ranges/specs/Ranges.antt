@@ -13,7 +13,7 @@ use Rattle.model.specs.Messages as M
 use Rattle.model.specs.Messages.{edition1}
 use Rattle.model.specs.ByEdition as B
 use Rattle.model.specs.ByEdition.{Stated, statedIn, plannedIn}
-use Rattle.model.specs.AsBefore.{case-as, plan-as}
+use Rattle.model.specs.AsBefore.{first, first-as, plan-as}
 use Rattle.model.specs.Judgement.{readCase, readPlan}
 use Rattle.layouts.specs.As.{as-checked}
 use Rattle.layouts.specs.Checked.{Checked, nat-checked, int-checked, list-checked, such-checked, held-checked, then-checked, whole-checked, weaken}
@@ -145,7 +145,8 @@ ends-checked last = then-checked (any 16) _ _ (λ a b. b ≤ 65535) (figure-chec
 
 start-checked : (e last : ℕ) → Checked (B.startWindow e last) StartRange
 unfolding B.startWindow
-start-checked e last = held-checked _ _ _ _ _ (pair-checked _ _ _ _ (ends-checked last) (figure-checked (startsBits e) 0 (mostStarts e))) (λ v ok. record { from = ok .0 .0; until = ok .0 .1; most = ok .1 })
+start-checked e last = held-checked _ _ _ _ _ (pair-checked _ _ _ _ (ends-checked last) (figure-checked (startsBits e) 0 (mostStarts e)))
+    (λ v ok. record { from = ok .0 .0; until = ok .0 .1; most = ok .1 })
 
 energy-checked : (last : ℕ) → Checked (M.energyWindow last) EnergyRange
 unfolding M.energyWindow
@@ -301,9 +302,9 @@ module _ (l : Largest) (most : l .devices ≤ mostDevices) (long : l .intervals 
 
 -- and so is one of edition 1, as it was before there were others
 pub case-checked : Checked (M.caseLayout edition1) (Taken 1 batch)
-case-checked = as-checked (case-as batch (omega arith) (omega arith)) _ _ (λ x. x .case) (λ c. refl)
-    (λ x ok. let e : x .edition ≡ 1 = omega (arith, ok .edition .0, ok .edition .1) in rw e at (ok .case))
-    (stated-checked batch (omega arith) (omega arith))
+unfolding first
+case-checked = as-checked (first-as batch (omega arith) (omega arith)) _ _ (λ c. c) (λ c. refl) (λ c ok. ok)
+    (held-checked _ _ _ _ _ (pair-checked _ _ _ _ (nat-checked _) (pair-checked _ _ _ _ (nat-checked _) (content-checked batch (omega arith) (omega arith) 1))) (λ v ok. ok .1 .1))
 
 pub case-taken : (s : List ℕ) (c : Case) → readCase s ≡ passes c → Taken 1 batch c
 unfolding readCase

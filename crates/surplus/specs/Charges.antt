@@ -91,7 +91,8 @@ module _ {zone : ZoneRecord} {table plan forced : List ℕ} {t z : ℕ} {x : Lis
 
   pub six-small : SixSmall x (zone .prices)
   six-small = record {
-    amount = λ j l. rw (w .amounts) (six-get (λ n. n ≤ 6400000000) need (λ s. shortfall-bound (k .system) p (w .ready .decoded .range .system) (plan-range-of c table plan forced (w .ready)) (w .rules)
+    amount = λ j l. rw (w .amounts) (six-get (λ n. n ≤ 6400000000) need (λ s.
+        shortfall-bound (k .system) p (w .ready .decoded .range .system) (plan-range-of c table plan forced (w .ready)) (w .rules)
         (batch .devices) (Cells.few-devices c table plan forced (w .ready)) t z s
         (omega (arith, w .interval, Cells.intervals-of c table plan forced (w .ready))) (omega (arith, w .known, Cells.zones-of c table plan forced (w .ready)))) j l);
     price = six-price (zone .prices) (subst SixRange prices-are (six-at k (w .ready .decoded .range .prices) z));

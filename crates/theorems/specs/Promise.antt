@@ -25,13 +25,14 @@ use Rattle.layouts.specs.Numbers.{Tells, fails-tells}
 use Rattle.layouts.specs.Layout.{Layout, Field, nat, int, _then_, _▸_, list, held, readWhole, Whole, passes, fails, bytes, any}
 use Rattle.model.specs.Messages as M
 use Rattle.model.specs.Messages.{edition1, Counts, Written, caseLayout, planLayout}
-use Rattle.model.specs.Editions.{batch, deviceBits, intervalBits, mostDevices, mostIntervals, mostZones, mostWindows}
+use Rattle.model.specs.Editions.{newest, Largest, batch, deviceBits, intervalBits, mostDevices, mostIntervals, mostZones, mostWindows}
 use Rattle.model.specs.ByEdition as B
+use Rattle.model.specs.ByEdition.{Stated}
 use Rattle.model.specs.AsBefore.{completion-as}
 use Rattle.model.specs.Judgement.{Judged, judged, verdict, bufferAfter, withPlan, withCase, readCase, readPlan, judgement, written, countsOf, completionOf, energyWindows, ourSurplus, completionBytes}
 use Rattle.layouts.specs.Trip.{Fits, length-bits}
 use Rattle.theorems.specs.Back.{FitsDevice, FitsInterval, FitsSix, FitsWritten, Countable, completed-back, reads-back}
-use Rattle.ranges.specs.Ranges.{PricesRange, SixRange, DevicePriceRange, CellPriceRange, CaseRange, Taken, PlanRange, case-checked, plan-checked, case-taken, plan-range}
+use Rattle.ranges.specs.Ranges.{PricesRange, SixRange, DevicePriceRange, CellPriceRange, CaseRange, Taken, StatedRange, PlanRange, case-checked, plan-checked, case-taken, plan-range}
 use Rattle.theorems.specs.Sizes.{PriceRange, mostPrice, mostShortfallPrice, mostChange, mostBlocks, surplusLimit, fits, surplus-size, over-devices, device-at}
 use Rattle.numbers.specs.Every.{all-or}
 use Rattle.theorems.specs.Theorem.{Right, right-verdict, apart}
@@ -148,7 +149,8 @@ six-sized = let u = nat-sized _ Any in held-sized _ _ _ _ _ _
 device-sized : Sized M.deviceChoice FitsDevice deviceWidth
 unfolding M.deviceChoice
 device-sized = held-sized _ _ _ _ _ _
-    (pair-sized _ _ _ _ _ _ (nat-sized _ Any) (pair-sized _ _ _ _ _ _ (nat-sized _ Any) (pair-sized _ _ _ _ _ _ (nat-sized _ Any) (list-sized 4 mostBlocks _ (λ b. b ≤ 2 ^ 17 - 1) _ (nat-sized _ _)))))
+    (pair-sized _ _ _ _ _ _ (nat-sized _ Any) (pair-sized _ _ _ _ _ _ (nat-sized _ Any) (pair-sized _ _ _ _ _ _ (nat-sized _ Any)
+    (list-sized 4 mostBlocks _ (λ b. b ≤ 2 ^ 17 - 1) _ (nat-sized _ _)))))
     (λ b ok. (tt, (tt, (tt, (omega (arith, ok .four), ok .blocks)))))
 
 -- at most so many devices, intervals, zones and energy windows
@@ -195,12 +197,22 @@ module _ (c : Case) (p : Plan) (g : CaseRange c) (rp : PlanRange (c .system) p) 
   pub our-size : (e : ℕ) → length (completionIn e (c .system) .write our) ≤ completionWidth e
   unfolding energyWindows
   our-size e = completion-sized e (countsOf (c .system)) (g .system .devices) (g .system .intervals) (g .system .zones) (energyWindows (c .system))
-      (over-devices (c .system) p (g .system) rp ok mostDevices (g .system .devices) (λ i. length (device (c .system) i .energyWindows)) mostWindows (λ i m. device-at (c .system) p (g .system) rp ok i m .energies))
+      (over-devices (c .system) p (g .system) rp ok mostDevices (g .system .devices) (λ i. length (device (c .system) i .energyWindows)) mostWindows
+      (λ i m. device-at (c .system) p (g .system) rp ok i m .energies))
       .size our our-fits
 
   -- "exactly the completion's bytes": they read back as our completion with the surplus reported, in every edition whose fields hold the case's counts
   pub our-back : (e : ℕ) → Countable e (countsOf (c .system)) → readWhole (completionIn e (c .system)) (bytes (completionIn e (c .system) .write our)) ≡ passes our
   our-back e k = completed-back e (countsOf (c .system)) (energyWindows (c .system)) k our our-fits (let n = our-size e in omega arith)
+
+-- the counts of a case that a reader takes fit their fields
+taken-countable : (e : ℕ) (l : Largest) (c : Case) → e ≤ newest → Taken e l c → Countable e (countsOf (c .system))
+taken-countable e l c h g = record { edition = omega arith; devices = omega (arith, g .devices); intervals = omega (arith, g .intervals); zones = omega (arith, g .range .system .zones) }
+
+-- a completion of a case's edition reads back
+pub stated-back : (l : Largest) (x : Stated) (p : Plan) (g : StatedRange l x) (rp : PlanRange (x .case .system) p) (ok : EveryRule (x .case .system) p)
+    → let w = our (x .case) p (g .case .range) rp ok in readWhole (completionIn (x .edition) (x .case .system)) (bytes (completionIn (x .edition) (x .case .system) .write w)) ≡ passes w
+stated-back l x p g rp ok = our-back (x .case) p (g .case .range) rp ok (x .edition) (taken-countable (x .edition) l (x .case) (g .edition .1) (g .case))
 
 -- ---- the promises
 

@@ -248,7 +248,8 @@ module _ (q : System) (p : Plan) (rq : SystemRange q) (rp : PlanRange q p) (ok :
     overrun-bound i w d = go (eqb (energyWindow q i w .kind) 0)
       where
         limit : energyWindow q i w .energy ≤ mostEnergy
-        limit = all-or EnergyRange noEnergyWindow (record { kind = omega arith; from = omega arith; until = omega arith; energy = omega arith }) (device q i .energyWindows) (device-at i d .energy) w .energy
+        limit = all-or EnergyRange noEnergyWindow (record { kind = omega arith; from = omega arith; until = omega arith; energy = omega arith })
+            (device q i .energyWindows) (device-at i d .energy) w .energy
 
         go : (b : Bool) → maxZero (pick b (pos (C.energyIn q p i w) -ℤ pos (energyWindow q i w .energy)) (pos (energyWindow q i w .energy) -ℤ pos (C.energyIn q p i w))) ≤ mostOverrun m
         go true = omega (arith, max-sub (C.energyIn q p i w) (energyWindow q i w .energy), energy-bound i w d)
@@ -377,7 +378,8 @@ module _ (c : Case) (p : Plan) (rq : SystemRange (c .system)) (rp : PlanRange (c
   unfolding C.blockWorth whole ours range
   block-worth t i l m = bound-mul (d t) (C.bySide (consuming sys i) total) mostMinutes (mostBlocks * (mostPrice * mostPower)) (duration-bound sys p rq rp ok t)
       (side-bound (consuming sys i) total (mostBlocks * (mostPrice * mostPower)) (bound-sum term (mostPrice * mostPower) blocks
-      (all-upTo (λ k. natAbs (term k) ≤ mostPrice * mostPower) mostBlocks (λ k h. bound-mul (C.blockPrice c t i k) (our .block t i k) mostPrice mostPower (rc .block t i k) (block-bound c p rq rp ok t i k l m)))))
+      (all-upTo (λ k. natAbs (term k) ≤ mostPrice * mostPower) mostBlocks (λ k h.
+      bound-mul (C.blockPrice c t i k) (our .block t i k) mostPrice mostPower (rc .block t i k) (block-bound c p rq rp ok t i k l m)))))
     where
       term : ℕ → ℤ
       term k = C.blockPrice c t i k *ℤ our .block t i k
@@ -423,7 +425,8 @@ module _ (c : Case) (p : Plan) (rq : SystemRange (c .system)) (rp : PlanRange (c
   shortfall-cost : (t z : ℕ) → t < intervals sys → z < zones sys → natAbs (C.shortfallCost c p our t z) ≤ mostShortfallCost mostDevices
   unfolding C.shortfallCost whole ours
   shortfall-cost t z l m = bound-mul (d t) (sumℤ term C.shortfalls) mostMinutes (shortfallKinds * most) (duration-bound sys p rq rp ok t) (bound-sum term most C.shortfalls
-      (all {P = λ k. natAbs (term k) ≤ most} (λ k. bound-mul (pos (C.shortfallPrice (getD (c .prices .zones) z noSix) k)) (our .shortfall t z k) mostShortfallPrice (mostShortfall mostDevices) (rc .shortfall z k)
+      (all {P = λ k. natAbs (term k) ≤ most} (λ k.
+      bound-mul (pos (C.shortfallPrice (getD (c .prices .zones) z noSix) k)) (our .shortfall t z k) mostShortfallPrice (mostShortfall mostDevices) (rc .shortfall z k)
       (shortfall-bound sys p rq rp ok mostDevices (rq .devices) t z k l m)) C.shortfalls))
     where
       term : C.Shortfall → ℤ
