@@ -245,10 +245,34 @@ pub fn device_at(devices: &[DeviceRow], i: usize) -> Device
     let ramps = [r[7], r[8], r[9], r[10]];
     let startcost = money_of(r[12]);
     let stopcost = money_of(r[13]);
-    let limits = [Kw(r[14]), Kw(r[15]), Kw(r[16]), Kw(r[17]), Kw(r[18]), Kw(r[19]), Kw(r[20]), Kw(r[21])];
-    let states = [state_in(r, 0), state_in(r, 1), state_in(r, 2), state_in(r, 3)];
-    let starts = [start_in(r, 0), start_in(r, 1), start_in(r, 2), start_in(r, 3)];
-    let energies = [energy_in(r, 0), energy_in(r, 1), energy_in(r, 2), energy_in(r, 3)];
+    let limits = [
+        Kw(r[14]),
+        Kw(r[15]),
+        Kw(r[16]),
+        Kw(r[17]),
+        Kw(r[18]),
+        Kw(r[19]),
+        Kw(r[20]),
+        Kw(r[21]),
+    ];
+    let states = [
+        state_in(r, 0),
+        state_in(r, 1),
+        state_in(r, 2),
+        state_in(r, 3),
+    ];
+    let starts = [
+        start_in(r, 0),
+        start_in(r, 1),
+        start_in(r, 2),
+        start_in(r, 3),
+    ];
+    let energies = [
+        energy_in(r, 0),
+        energy_in(r, 1),
+        energy_in(r, 2),
+        energy_in(r, 3),
+    ];
     let nstates = r[STATES] as usize;
     let nstarts = r[STARTS] as usize;
     let nenergies = r[ENERGIES] as usize;

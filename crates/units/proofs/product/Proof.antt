@@ -1,4 +1,5 @@
 -- A product of two figures below 2^32 is below 2^64.
+use mathlib.Core.Path.{refl}
 use native.Mathlib.Omega.{arith}
 use borrow.Author.Needs.{needs}
 use Rattle.units.proofs.Products.{product-below}

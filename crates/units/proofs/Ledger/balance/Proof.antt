@@ -1,5 +1,5 @@
--- `Ledger::balance` meets its contract. Assumes nothing.
-use Prim.Native.Nat.{ℕ, _^_, _<_}
+-- Two amounts below 2^63 differ by less than 2^63.
+use Prim.Native.Nat.{ℕ, _^_, _-_, _<_}
 use mathlib.Core.Path.{_≡_}
 use native.Mathlib.Omega.{arith}
 use borrow.Author.Needs.{needs}
@@ -8,7 +8,8 @@ use lib.IntN.{pos, _-ℤ_, natAbs}
 use mir.Syntax.{w64}
 use mir.Val.{toZ}
 use mir.ValLaws.{toZ-ofZ}
-use Rattle.numbers.specs.Bounds.{bound-sub, fits64}
+use Rattle.numbers.specs.Z.{whole, n-, n~}
+use Rattle.numbers.specs.Bounds.{le-abs, fits64}
 use Rattle.units.proofs.Ledger.balance.Statement.{statement}
 use Rattle.units.proofs.Ledger.balance.Tie as tie
 
@@ -17,7 +18,9 @@ module _ (a b : ℕ) (h : a < 2 ^ 63) (k : b < 2 ^ 63) where
   as-is = simp (lt-ltb a (2 ^ 63) (omega arith), lt-ltb b (2 ^ 63) (omega arith))
 
   small : natAbs (pos a -ℤ pos b) < 9223372036854775808
-  small = omega (arith, bound-sub (pos a) (pos b) a b (omega arith) (omega arith))
+  small =
+      let l = n- (pos a) (pos b) in
+      omega (arith, le-abs (pos a -ℤ pos b) (2 ^ 63 - 1) (omega (whole, l, n~ (pos (2 ^ 63 - 1)))) (omega (whole, l)))
 
 sub-result : tie.Need-sub-result
 sub-result c = let p = c .before .before .pre in rw (as-is _ _ (p .0) (p .1)) (fits64 _ (small _ _ (p .0) (p .1)))
