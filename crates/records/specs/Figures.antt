@@ -4,6 +4,8 @@ use Prim.Native.Nat.{ℕ, _+_, _-_, _*_}
 use lib.Dec.{eqb}
 use lib.ListN.{getD}
 use Rattle.bits.specs.Pick.{pick}
+use Rattle.units.specs.declared.Kw.{Kw}
+use Rattle.units.specs.declared.Grains.{Grains}
 use Rattle.units.specs.Units.{kw, kwMin, grains}
 use Rattle.records.specs.declared.Reserves.{Reserves}
 use Rattle.records.specs.declared.ReservePrices.{ReservePrices}
@@ -74,11 +76,27 @@ stateOf r k = let a = statesFrom + 1 + 2 * k in record { longest = at r a; cost 
 abbrev pub startOf : List ℕ → ℕ → StartWindow
 startOf r k = let a = startsFrom + 1 + 3 * k in record { from = at r a; until = at r (a + 1); most = at r (a + 2) }
 
-abbrev pub energyOf : List ℕ → ℕ → EnergyWindow
-energyOf r k = let a = energiesFrom + 1 + 4 * k in record { kind = at r a; from = at r (a + 1); until = at r (a + 2); energy = kwMin (at r (a + 3)) }
+abbrev pub windowOf : (kind from until energy : ℕ) → EnergyWindow
+windowOf kind from until energy = record { kind = kind; from = from; until = until; energy = kwMin energy }
 
-abbrev pub deviceOf : List ℕ → Device
-deviceOf r = record {
+abbrev pub energyOf : List ℕ → ℕ → EnergyWindow
+energyOf r k = let a = energiesFrom + 1 + 4 * k in windowOf (at r a) (at r (a + 1)) (at r (a + 2)) (at r (a + 3))
+
+abbrev pub statesOf : List ℕ → List State
+statesOf r = stateOf r 0 ∷ stateOf r 1 ∷ stateOf r 2 ∷ stateOf r 3 ∷ []
+
+abbrev pub startsOf : List ℕ → List StartWindow
+startsOf r = startOf r 0 ∷ startOf r 1 ∷ startOf r 2 ∷ startOf r 3 ∷ []
+
+abbrev pub energiesOf : List ℕ → List EnergyWindow
+energiesOf r = energyOf r 0 ∷ energyOf r 1 ∷ energyOf r 2 ∷ energyOf r 3 ∷ []
+
+abbrev pub limitsOf : List ℕ → List Kw
+limitsOf r = kw (at r 14) ∷ kw (at r 15) ∷ kw (at r 16) ∷ kw (at r 17) ∷ kw (at r 18) ∷ kw (at r 19) ∷ kw (at r 20) ∷ kw (at r 21) ∷ []
+
+-- a device from its row; its costs, limits and counted lists given
+abbrev pub deviceWith : List ℕ → (startcost stopcost : Grains) → List Kw → ℕ → List State → ℕ → List StartWindow → ℕ → List EnergyWindow → Device
+deviceWith r startcost stopcost limits nstates states nstarts starts nenergies energies = record {
   side = at r 0;
   zonebits = at r 1;
   on0 = at r 2;
@@ -88,16 +106,19 @@ deviceOf r = record {
   mindown = at r 6;
   ramps = at r 7 ∷ at r 8 ∷ at r 9 ∷ at r 10 ∷ [];
   oncost = at r 11;
-  startcost = grains (at r 12);
-  stopcost = grains (at r 13);
-  limits = kw (at r 14) ∷ kw (at r 15) ∷ kw (at r 16) ∷ kw (at r 17) ∷ kw (at r 18) ∷ kw (at r 19) ∷ kw (at r 20) ∷ kw (at r 21) ∷ [];
-  nstates = at r statesFrom;
-  states = stateOf r 0 ∷ stateOf r 1 ∷ stateOf r 2 ∷ stateOf r 3 ∷ [];
-  nstarts = at r startsFrom;
-  starts = startOf r 0 ∷ startOf r 1 ∷ startOf r 2 ∷ startOf r 3 ∷ [];
-  nenergies = at r energiesFrom;
-  energies = energyOf r 0 ∷ energyOf r 1 ∷ energyOf r 2 ∷ energyOf r 3 ∷ [];
+  startcost = startcost;
+  stopcost = stopcost;
+  limits = limits;
+  nstates = nstates;
+  states = states;
+  nstarts = nstarts;
+  starts = starts;
+  nenergies = nenergies;
+  energies = energies;
 }
+
+abbrev pub deviceOf : List ℕ → Device
+deviceOf r = deviceWith r (grains (at r 12)) (grains (at r 13)) (limitsOf r) (at r statesFrom) (statesOf r) (at r startsFrom) (startsOf r) (at r energiesFrom) (energiesOf r)
 
 abbrev pub zoneOf : List ℕ → Zone
 zoneOf r = record { rgu = at r 0; rgd = at r 1; scr = at r 2; nsc = at r 3; prices = at r 4 ∷ at r 5 ∷ at r 6 ∷ at r 7 ∷ at r 8 ∷ at r 9 ∷ [] }

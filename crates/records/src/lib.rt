@@ -7,7 +7,8 @@ ghost use mathlib.Core.Path.{_≡_};
 ghost use mathlib.Core.List.{[]};
 ghost use Prim.Native.Nat.{_<_, _≤_};
 ghost use lib.ListN.{getD, length};
-ghost use Rattle.records.specs.Figures.{cellOf, settingOf, deviceOf, stateOf, startOf, energyOf, zoneOf, minimaOf, pminAt, onAt, onlineAt, onBefore, sideAt, zonebitsAt};
+ghost use Rattle.units.specs.Units.{grains};
+ghost use Rattle.records.specs.Figures.{deviceWith, windowOf, statesOf, startsOf, energiesOf, limitsOf, cellOf, settingOf, deviceOf, stateOf, startOf, energyOf, zoneOf, minimaOf, pminAt, onAt, onlineAt, onBefore, sideAt, zonebitsAt};
 
 // A device in one interval: status, pmin, pmax, count of blocks, four caps, four prices kept from −10,000, the prices of the eight.
 pub type CellRow = [u32; 20];
@@ -138,15 +139,15 @@ pub struct Front {
 }
 
 fn money_of(x: u32) -> Grains
-    ensures { λ r. ⌜ r .0 ≡ x ⌝ }
+    ensures { λ r. ⌜ r ≡ grains x ⌝ }
 {
     Grains(x as u64)
 }
 
-fn energy_of(x: u32) -> KwMin
-    ensures { λ r. ⌜ r .0 ≡ x ⌝ }
+fn counted(x: u32) -> usize
+    ensures { λ r. ⌜ r ≡ x ⌝ }
 {
-    KwMin(x as u64)
+    x as usize
 }
 
 pub fn cell_at(cells: &[CellRow], k: usize) -> Cell
@@ -209,6 +210,16 @@ fn state_in(r: DeviceRow, k: usize) -> State
     }
 }
 
+fn states_in(r: DeviceRow) -> [State; 4]
+    ensures { λ l. ⌜ l ≡ statesOf r ⌝ }
+{
+    let a = state_in(r, 0);
+    let b = state_in(r, 1);
+    let c = state_in(r, 2);
+    let d = state_in(r, 3);
+    [a, b, c, d]
+}
+
 // Start window k.
 fn start_in(r: DeviceRow, k: usize) -> StartWindow
     requires { ⌜ k < 4 ⌝ }
@@ -222,30 +233,50 @@ fn start_in(r: DeviceRow, k: usize) -> StartWindow
     }
 }
 
+fn starts_in(r: DeviceRow) -> [StartWindow; 4]
+    ensures { λ l. ⌜ l ≡ startsOf r ⌝ }
+{
+    let a = start_in(r, 0);
+    let b = start_in(r, 1);
+    let c = start_in(r, 2);
+    let d = start_in(r, 3);
+    [a, b, c, d]
+}
+
+fn energy_window(kind: u32, from: u32, until: u32, energy: u32) -> EnergyWindow
+    ensures { λ w. ⌜ w ≡ windowOf kind from until energy ⌝ }
+{
+    EnergyWindow {
+        kind,
+        from,
+        until,
+        energy: KwMin(energy as u64),
+    }
+}
+
 // Energy window k.
 fn energy_in(r: DeviceRow, k: usize) -> EnergyWindow
     requires { ⌜ k < 4 ⌝ }
     ensures { λ w. ⌜ w ≡ energyOf r k ⌝ }
 {
     let a = ENERGIES + 1 + 4 * k;
-    let energy = energy_of(r[a + 3]);
-    EnergyWindow {
-        kind: r[a],
-        from: r[a + 1],
-        until: r[a + 2],
-        energy,
-    }
+    energy_window(r[a], r[a + 1], r[a + 2], r[a + 3])
 }
 
-pub fn device_at(devices: &[DeviceRow], i: usize) -> Device
-    requires { ⌜ i < length (now devices) ⌝ }
-    ensures { λ r. ⌜ r ≡ deviceOf (getD (now (devices .entry)) i []) ⌝ }
+fn energies_in(r: DeviceRow) -> [EnergyWindow; 4]
+    ensures { λ l. ⌜ l ≡ energiesOf r ⌝ }
 {
-    let r = devices[i];
-    let ramps = [r[7], r[8], r[9], r[10]];
-    let startcost = money_of(r[12]);
-    let stopcost = money_of(r[13]);
-    let limits = [
+    let a = energy_in(r, 0);
+    let b = energy_in(r, 1);
+    let c = energy_in(r, 2);
+    let d = energy_in(r, 3);
+    [a, b, c, d]
+}
+
+fn limits_in(r: DeviceRow) -> [Kw; 8]
+    ensures { λ l. ⌜ l ≡ limitsOf r ⌝ }
+{
+    [
         Kw(r[14]),
         Kw(r[15]),
         Kw(r[16]),
@@ -254,28 +285,24 @@ pub fn device_at(devices: &[DeviceRow], i: usize) -> Device
         Kw(r[19]),
         Kw(r[20]),
         Kw(r[21]),
-    ];
-    let states = [
-        state_in(r, 0),
-        state_in(r, 1),
-        state_in(r, 2),
-        state_in(r, 3),
-    ];
-    let starts = [
-        start_in(r, 0),
-        start_in(r, 1),
-        start_in(r, 2),
-        start_in(r, 3),
-    ];
-    let energies = [
-        energy_in(r, 0),
-        energy_in(r, 1),
-        energy_in(r, 2),
-        energy_in(r, 3),
-    ];
-    let nstates = r[STATES] as usize;
-    let nstarts = r[STARTS] as usize;
-    let nenergies = r[ENERGIES] as usize;
+    ]
+}
+
+// A device from its row; its costs, limits and counted lists given.
+fn device_with(
+    r: DeviceRow,
+    startcost: Grains,
+    stopcost: Grains,
+    limits: [Kw; 8],
+    nstates: usize,
+    states: [State; 4],
+    nstarts: usize,
+    starts: [StartWindow; 4],
+    nenergies: usize,
+    energies: [EnergyWindow; 4],
+) -> Device
+    ensures { λ d. ⌜ d ≡ deviceWith r startcost stopcost limits nstates states nstarts starts nenergies energies ⌝ }
+{
     Device {
         side: r[0],
         zonebits: r[1],
@@ -284,7 +311,7 @@ pub fn device_at(devices: &[DeviceRow], i: usize) -> Device
         minutes0: r[4],
         minup: r[5],
         mindown: r[6],
-        ramps,
+        ramps: [r[7], r[8], r[9], r[10]],
         oncost: r[11],
         startcost,
         stopcost,
@@ -296,6 +323,34 @@ pub fn device_at(devices: &[DeviceRow], i: usize) -> Device
         nenergies,
         energies,
     }
+}
+
+pub fn device_at(devices: &[DeviceRow], i: usize) -> Device
+    requires { ⌜ i < length (now devices) ⌝ }
+    ensures { λ r. ⌜ r ≡ deviceOf (getD (now (devices .entry)) i []) ⌝ }
+{
+    let r = devices[i];
+    let startcost = money_of(r[12]);
+    let stopcost = money_of(r[13]);
+    let limits = limits_in(r);
+    let nstates = counted(r[STATES]);
+    let states = states_in(r);
+    let nstarts = counted(r[STARTS]);
+    let starts = starts_in(r);
+    let nenergies = counted(r[ENERGIES]);
+    let energies = energies_in(r);
+    device_with(
+        r,
+        startcost,
+        stopcost,
+        limits,
+        nstates,
+        states,
+        nstarts,
+        starts,
+        nenergies,
+        energies,
+    )
 }
 
 // One figure where only that is read.
