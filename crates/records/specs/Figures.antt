@@ -1,9 +1,11 @@
 -- The figures of a row, by name: the one place in the proofs that knows where a figure stands.
+use mathlib.Core.Bool.{Bool}
 use mathlib.Core.List.{List, [], _∷_}
-use Prim.Native.Nat.{ℕ, _+_, _-_, _*_}
-use lib.Dec.{eqb}
+use Prim.Native.Nat.{ℕ, _+_, _-_, _*_, _/_, _%_, _^_}
+use lib.Dec.{eqb, ltb}
 use lib.ListN.{getD}
 use Rattle.bits.specs.Pick.{pick}
+use Rattle.model.specs.Base.{bit}
 use Rattle.units.specs.declared.Kw.{Kw}
 use Rattle.units.specs.declared.Grains.{Grains}
 use Rattle.units.specs.Units.{kw, kwMin, grains}
@@ -146,3 +148,18 @@ zonebitsAt devices i = deviceOf (getD devices i []) .zonebits
 -- u of the interval before; "before interval 1 the initial state stands"
 abbrev pub onBefore : ℕ → List (List ℕ) → ℕ → ℕ
 onBefore on0 settings t = pick (eqb t 0) on0 (onAt settings (t - 1))
+
+-- su and sd, in a device's part of the settings
+abbrev pub startedAt : ℕ → List (List ℕ) → ℕ → ℕ
+startedAt on0 settings t = bit (ltb (onBefore on0 settings t) (onAt settings t))
+
+abbrev pub stoppedAt : ℕ → List (List ℕ) → ℕ → ℕ
+stoppedAt on0 settings t = bit (ltb (onAt settings t) (onBefore on0 settings t))
+
+-- "Previous p in interval 1 is initial power", in a device's part of the powers
+abbrev pub previousAt : ℕ → List ℕ → ℕ → ℕ
+previousAt power0 powers t = pick (eqb t 0) power0 (at powers (t - 1))
+
+-- "zone bits 4, zone 1 first"
+abbrev pub inZone : ℕ → ℕ → Bool
+inZone bits z = eqb (bits / 2 ^ (3 - z) % 2) 1

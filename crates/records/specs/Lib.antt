@@ -1,4 +1,5 @@
 pub mod Figures
 pub mod Parts
+pub mod Sums
 pub mod Views
 pub mod Viewed

@@ -63,8 +63,11 @@ startIn w = record { from = w .from; until = w .until; most = w .most }
 abbrev pub energyIn : EnergyWindow → M.EnergyWindow
 energyIn w = record { kind = w .kind; from = w .from; until = w .until; energy = w .energy .0 }
 
+abbrev pub sharesIn : List ℕ → M.Shares
+sharesIn r = record { rgu = zoneOf r .rgu; rgd = zoneOf r .rgd; scr = zoneOf r .scr; nsc = zoneOf r .nsc }
+
 unfoldable pub zoneIn : List ℕ → List (List ℕ) → M.Zone
-zoneIn r minima = record { shares = record { rgu = zoneOf r .rgu; rgd = zoneOf r .rgd; scr = zoneOf r .scr; nsc = zoneOf r .nsc }; minima = map minimaIn minima }
+zoneIn r minima = record { shares = sharesIn r; minima = map minimaIn minima }
 
 abbrev pub sixIn : List ℕ → M.Six
 sixIn l = record { rgu = getD l 0 0; rgd = getD l 1 0; scr = getD l 2 0; nsc = getD l 3 0; rru = getD l 4 0; rrd = getD l 5 0 }
@@ -141,6 +144,12 @@ pub record Padded (r : List ℕ) : Type 0 where
   pub few : cellOf r .blocks ≤ 4
   pub absent : (k : ℕ) → cellOf r .blocks ≤ k → k < 4 → getD (cellOf r .caps) k (record { 0 = 0 }) .0 ≡ 0
 
+-- a device's lists hold at most four
+pub record Counted (d : Device) : Type 0 where
+  pub few-states : d .nstates ≤ 4
+  pub few-starts : d .nstarts ≤ 4
+  pub few-energies : d .nenergies ≤ 4
+
 -- a decoded case: a cell for each device and interval, minima for each zone and interval, figures within their ranges
 pub record CaseRows (front : Front) (halves : List ℕ) (zones minima devices cells : List (List ℕ)) : Type 0 where
   pub few-devices : length devices ≤ mostDevices
@@ -150,6 +159,7 @@ pub record CaseRows (front : Front) (halves : List ℕ) (zones minima devices ce
   pub minima-full : length minima ≡ length zones * length halves
   pub range : CaseRange (caseIn front halves zones minima devices cells)
   pub padded : (k : ℕ) → k < length cells → Padded (getD cells k [])
+  pub counted : (i : ℕ) → i < length devices → Counted (deviceOf (getD devices i []))
 
 -- a plan for n devices and m intervals
 pub record PlanRows (n m : ℕ) (settings : List (List ℕ)) : Type 0 where
