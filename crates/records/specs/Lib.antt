@@ -3,3 +3,4 @@ pub mod Parts
 pub mod Sums
 pub mod Views
 pub mod Viewed
+pub mod Ranged

@@ -6,9 +6,11 @@ use units::KwMin;
 ghost use mathlib.Core.Path.{_≡_};
 ghost use mathlib.Core.List.{[]};
 ghost use Prim.Native.Nat.{_<_, _≤_};
+ghost use lib.Dec.{ltb};
 ghost use lib.ListN.{getD, length};
+ghost use Rattle.model.specs.Base.{bit};
 ghost use Rattle.units.specs.Units.{grains};
-ghost use Rattle.records.specs.Figures.{deviceWith, windowOf, statesOf, startsOf, energiesOf, limitsOf, cellOf, settingOf, deviceOf, stateOf, startOf, energyOf, zoneOf, minimaOf, pminAt, onAt, onlineAt, onBefore, sideAt, zonebitsAt};
+ghost use Rattle.records.specs.Figures.{deviceWith, windowOf, statesOf, startsOf, energiesOf, limitsOf, cellOf, settingOf, deviceOf, stateOf, startOf, energyOf, zoneOf, minimaOf, pminAt, onAt, onlineAt, onBefore, startedAt, stoppedAt, sideAt, zonebitsAt};
 
 // A device in one interval: status, pmin, pmax, count of blocks, four caps, four prices kept from −10,000, the prices of the eight.
 pub type CellRow = [u32; 20];
@@ -396,6 +398,33 @@ pub fn on_before(on0: u32, settings: &[SettingRow], t: usize) -> u32
     ensures { λ r. ⌜ r ≡ onBefore on0 (now (settings .entry)) t ⌝ }
 {
     if t == 0 { on0 } else { on_at(settings, t - 1) }
+}
+
+// 1 where the second is above the first.
+fn rises(a: u32, b: u32) -> u32
+    ensures { λ r. ⌜ r ≡ bit (ltb a b) ⌝ }
+{
+    if a < b { 1 } else { 0 }
+}
+
+// "su = 1 where u rises"
+pub fn started_at(on0: u32, settings: &[SettingRow], t: usize) -> u32
+    requires { ⌜ t < length (now settings) ⌝ }
+    ensures { λ r. ⌜ r ≡ startedAt on0 (now (settings .entry)) t ⌝ }
+{
+    let before = on_before(on0, settings, t);
+    let on = on_at(settings, t);
+    rises(before, on)
+}
+
+// "sd = 1 where it falls"
+pub fn stopped_at(on0: u32, settings: &[SettingRow], t: usize) -> u32
+    requires { ⌜ t < length (now settings) ⌝ }
+    ensures { λ r. ⌜ r ≡ stoppedAt on0 (now (settings .entry)) t ⌝ }
+{
+    let before = on_before(on0, settings, t);
+    let on = on_at(settings, t);
+    rises(on, before)
 }
 
 pub fn zone_at(zones: &[ZoneRow], z: usize) -> Zone
