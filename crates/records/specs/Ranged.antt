@@ -29,7 +29,8 @@ use Rattle.records.specs.declared.Front.{Front}
 use Rattle.records.specs.Figures.{cellOf, settingOf, deviceOf, zoneOf, minimaOf, previousAt}
 use Rattle.records.specs.Parts.{part, part-inside, place-inside, part-at, part-long, table-small}
 use Rattle.records.specs.Sums.{sum-more}
-use Rattle.records.specs.Views.{less, priceOffset, costOffset, limitsIn, cellIn, cellPricesIn, settingIn, sharesIn, minimaIn, zoneIn, sixIn, deviceIn, devicePricesIn, systemIn, pricesIn, caseIn, planIn, mostPower, lastMinute, Padded, Counted, CaseRows, PlanRows, ForcedRows, Ready}
+use Rattle.records.specs.Views.{less, priceOffset, costOffset, limitsIn, cellIn, cellPricesIn, settingIn, sharesIn, minimaIn, sixIn, deviceIn, devicePricesIn, systemIn, pricesIn, caseIn, planIn}
+use Rattle.records.specs.Views.{mostPower, Padded, CaseRows, PlanRows, Ready}
 use Rattle.records.specs.Viewed as W
 use Rattle.records.specs.Viewed.{getD-any, noState}
 
@@ -140,7 +141,8 @@ module _ {front : Front} {halves : List ℕ} {zones minima devices cells : List 
         f : State → ℤ
         f s = less costOffset (s .cost)
 
-        cost : All (λ z. natAbs z ≤ 1000000000) (map f (take (d i .nstates) (d i .states))) → d i .nstates ≤ 4 → (j : ℕ) → j < d i .nstates → natAbs (f (getD (d i .states) j noState)) ≤ 1000000000
+        cost : All (λ z. natAbs z ≤ 1000000000) (map f (take (d i .nstates) (d i .states))) → d i .nstates ≤ 4 → (j : ℕ) → j < d i .nstates
+            → natAbs (f (getD (d i .states) j noState)) ≤ 1000000000
         cost h few j b = rw (W.first-at f noState (d i .nstates) (d i .states) j b) at
             (all-at (λ z. natAbs z ≤ 1000000000) (f noState) (map f (take (d i .nstates) (d i .states))) h j (omega (arith, W.firsts-long f noState (d i .nstates) (d i .states) few)))
 
@@ -160,6 +162,9 @@ module _ {front : Front} {halves : List ℕ} {zones minima devices cells : List 
 
       pub padded-at : Padded row
       padded-at = subst Padded (sym (part-at [] m i cells t h)) (known .padded (i * m + t) (omega (arith, place-inside m i n t l h, known .cells-full)))
+
+      prices-long : length (map (less priceOffset) (take (cellOf row .blocks) (cellOf row .prices))) ≡ cellOf row .blocks
+      prices-long = W.firsts-long (less priceOffset) 0 (cellOf row .blocks) (cellOf row .prices) (padded-at .few)
 
       -- the cap of block j, 0 where there is no block
       pub cap-at : (j : ℕ) → j < 4 → getD (cellOf row .caps) j (kw 0) .0 ≡ F.cap q t i j
@@ -190,7 +195,7 @@ module _ {front : Front} {halves : List ℕ} {zones minima devices cells : List 
               let y : j < cellOf row .blocks = omega arith in
               inr (sym (
               ap (λ (c : M.CellPrices). getD (c .blocks) j (pos 0)) (W.cell-prices-are front halves zones minima devices cells i l t)
-              ∙ getD-any (map (less priceOffset) (take (cellOf row .blocks) (cellOf row .prices))) j (pos 0) (less priceOffset 0) (omega (arith, W.firsts-long (less priceOffset) 0 (cellOf row .blocks) (cellOf row .prices) (padded-at .few)))
+              ∙ getD-any (map (less priceOffset) (take (cellOf row .blocks) (cellOf row .prices))) j (pos 0) (less priceOffset 0) (omega (arith, prices-long))
               ∙ W.first-at (less priceOffset) 0 (cellOf row .blocks) (cellOf row .prices) j y
               ))
 
@@ -198,7 +203,7 @@ module _ {front : Front} {halves : List ℕ} {zones minima devices cells : List 
       price-small j b = kept priceOffset (getD (cellOf row .prices) j 0)
           (rw (W.first-at (less priceOffset) 0 (cellOf row .blocks) (cellOf row .prices) j b) at
           (all-at (λ z. natAbs z ≤ 10000) (less priceOffset 0) (map (less priceOffset) (take (cellOf row .blocks) (cellOf row .prices))) (cell-price-range .blocks) j
-          (omega (arith, W.firsts-long (less priceOffset) 0 (cellOf row .blocks) (cellOf row .prices) (padded-at .few)))))
+          (omega (arith, prices-long))))
 
   -- ---- zones
 
@@ -229,7 +234,8 @@ pub record Room (a m : ℕ) (cells settings : List (List ℕ)) : Type 0 where
   pub in-settings : a + m ≤ length settings
   pub small : a + m ≤ 6144
 
-module _ {front : Front} {halves : List ℕ} {zones minima devices cells settings : List (List ℕ)} (known : CaseRows front halves zones minima devices cells) (chosen : PlanRows (length devices) (length halves) settings) where
+module _ {front : Front} {halves : List ℕ} {zones minima devices cells settings : List (List ℕ)}
+    (known : CaseRows front halves zones minima devices cells) (chosen : PlanRows (length devices) (length halves) settings) where
   pub room : (i a : ℕ) → i < length devices → a ≡ i * length halves → Room a (length halves) cells settings
   room i a l e = record {
     in-cells = omega (arith, part-inside (length halves) i (length devices) l, known .cells-full);
@@ -239,7 +245,8 @@ module _ {front : Front} {halves : List ℕ} {zones minima devices cells setting
 
 -- ---- the forced figures
 
-module _ {front : Front} {halves : List ℕ} {zones minima devices cells settings : List (List ℕ)} {starts powers : List ℕ} (ready : Ready front halves zones minima devices cells settings starts powers) where
+module _ {front : Front} {halves : List ℕ} {zones minima devices cells settings : List (List ℕ)} {starts powers : List ℕ}
+    (ready : Ready front halves zones minima devices cells settings starts powers) where
   abbrev system : System
   system = systemIn halves zones minima devices cells
 
@@ -267,7 +274,8 @@ module _ {front : Front} {halves : List ℕ} {zones minima devices cells setting
     power-at t h = part-at 0 (length halves) i powers t h ∙ ready .forced-rows .power-is t i h l
 
     pub power-small : (t : ℕ) → t < length halves → getD (part (length halves) i powers) t 0 ≤ mostPower
-    power-small t h = rw (part-at 0 (length halves) i powers t h) (ready .forced-rows .small (i * length halves + t) (omega (arith, place-inside (length halves) i (length devices) t l h, ready .forced-rows .powers-full)))
+    power-small t h = rw (part-at 0 (length halves) i powers t h)
+        (ready .forced-rows .small (i * length halves + t) (omega (arith, place-inside (length halves) i (length devices) t l h, ready .forced-rows .powers-full)))
 
     pub previous-at : (t : ℕ) → t < length halves → previousAt (deviceOf (getD devices i []) .power0 .0) (part (length halves) i powers) t ≡ F.previous system plan t i
     unfolding F.previous deviceIn

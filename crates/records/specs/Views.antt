@@ -135,9 +135,9 @@ mostIntervals = 96
 abbrev pub lastMinute : ℕ
 lastMinute = 34560
 
--- a power of a plan before any rule holds: its online power, and a trajectory for each interval
+-- a power of a plan before any rule holds: its online power, and at most one trajectory for each interval, of 100,000 each
 abbrev pub mostPower : ℕ
-mostPower = 20000000
+mostPower = 10000000
 
 -- absent blocks have cap 0
 pub record Padded (r : List ℕ) : Type 0 where

@@ -73,8 +73,18 @@ device-with-requires c κs = search needs
 
 returns : tie.Need-returns
 returns c =
+    let start : _ = c .before .before .before .before .before .before .before .before .before .before .before in
     c .device-with .ensures
-    ∙ whole (getD (c .before .before .before .before .before .before .before .before .before .before .before .args .devices .now) (c .before .before .before .before .before .before .before .before .before .before .before .args .i) []) (c .before .before .before .before .before .before .before .before .before .money-of .ensures) (c .before .before .before .before .before .before .before .before .money-of2 .ensures) (c .before .before .before .before .before .before .before .limits-in .ensures) (c .before .before .before .before .before .before .counted .ensures) (c .before .before .before .before .before .states-in .ensures) (c .before .before .before .before .counted2 .ensures) (c .before .before .before .starts-in .ensures) (c .before .before .counted3 .ensures) (c .before .energies-in .ensures)
+    ∙ whole (getD (start .args .devices .now) (start .args .i) [])
+    (c .before .before .before .before .before .before .before .before .before .money-of .ensures)
+    (c .before .before .before .before .before .before .before .before .money-of2 .ensures)
+    (c .before .before .before .before .before .before .before .limits-in .ensures)
+    (c .before .before .before .before .before .before .counted .ensures)
+    (c .before .before .before .before .before .states-in .ensures)
+    (c .before .before .before .before .counted2 .ensures)
+    (c .before .before .before .starts-in .ensures)
+    (c .before .before .counted3 .ensures)
+    (c .before .energies-in .ensures)
 
 pub device-at-spec : {M : Type 1} → statement M
 device-at-spec =
