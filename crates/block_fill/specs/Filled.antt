@@ -63,7 +63,8 @@ module _ (o p : ℕ) (caps : List Kw) (prices : List ℕ) (k : ℕ) where
 
   ranked-turned : (j : ℕ) → gate (ahead true (getD prices j 0) (getD prices k 0) (ltb j k)) (capOf caps j) ≡ gate (first (turned (priceOf o prices)) j k) (capOf caps j)
   ranked-turned j =
-      rw (neg-lower (priceOf o prices j) (priceOf o prices k), neg-lower (priceOf o prices k) (priceOf o prices j), kept-lower o (getD prices j 0) (getD prices k 0), kept-lower o (getD prices k 0) (getD prices j 0)) refl
+      rw (neg-lower (priceOf o prices j) (priceOf o prices k), neg-lower (priceOf o prices k) (priceOf o prices j)) (
+      rw (kept-lower o (getD prices j 0) (getD prices k 0), kept-lower o (getD prices k 0) (getD prices j 0)) refl)
 
   pub block-is-filling : (b : Bool) → blockOf b p caps prices k ≡ filling b (priceOf o prices) (capOf caps) p k
   unfolding blockOf filling cheapest dearest F.fill F.before
