@@ -1,27 +1,25 @@
 -- A device in an interval of a decoded case and plan, by its records and its part of the settings.
-use mathlib.Core.Path.{_≡_, refl, sym, ap, subst, _∙_}
-use mathlib.Core.Logic.{_⊎_, inl, inr}
+use mathlib.Core.Path.{_≡_, sym, ap, subst, _∙_}
+use mathlib.Core.Logic.{_⊎_}
 use mathlib.Core.List.{List, []}
-use Prim.Native.Nat.{ℕ, suc, _+_, _*_, _≤_, _<_}
+use Prim.Native.Nat.{ℕ, suc, _≤_, _<_}
 use native.Mathlib.Omega.{arith}
 use lib.Dec.{eqb}
 use lib.ListN.{length, getD}
-use lib.IntN.{pos}
 use Rattle.model.specs.Case as M
 use Rattle.model.specs.Case.{System, Plan, Case}
 use Rattle.model.specs.Forced as F
 use Rattle.model.specs.Completion as C
-use Rattle.model.specs.Ranges.{DeviceRange}
-use Rattle.model.specs.Sizes.{all-at}
 use Rattle.records.specs.declared.Front.{Front}
 use Rattle.records.specs.declared.Cell.{Cell}
 use Rattle.records.specs.declared.Device.{Device}
 use Rattle.records.specs.Figures.{cellOf, deviceOf, onAt, startedAt, stoppedAt}
-use Rattle.records.specs.Parts.{part, part-at, part-long, place-inside}
+use Rattle.records.specs.Parts.{part, part-long}
 use Rattle.records.specs.Sums.{sum-last}
-use Rattle.records.specs.Views.{less, priceOffset, numberOf, cellIn, cellPricesIn, settingIn, deviceIn, devicePricesIn, systemIn, caseIn, planIn, Padded, Counted, Ready}
+use Rattle.records.specs.Views.{less, priceOffset, numberOf, settingIn, deviceIn, devicePricesIn, systemIn, caseIn, planIn, Ready}
 use Rattle.records.specs.Viewed as Viewed
-use Rattle.choices.specs.Rows.{cap-of, price-of}
+use Rattle.records.specs.Ranged as Ranged
+use Rattle.records.specs.Ranged.{DeviceSized}
 
 -- device i in interval t
 pub record CellOf (d : Device) (cell : Cell) (settings : List (List ℕ)) (starts : List ℕ) (p t : ℕ) : Type 0 where
@@ -38,9 +36,9 @@ pub record CellOf (d : Device) (cell : Cell) (settings : List (List ℕ)) (start
   pub interval : t < length halves
   pub known : i < length devices
   pub device-is : d ≡ deviceOf (getD devices i [])
-  pub cell-is : cell ≡ cellOf (getD cells (i * length halves + t) [])
+  pub cell-is : cell ≡ cellOf (getD (part (length halves) i cells) t [])
   pub settings-are : settings ≡ part (length halves) i table
-  pub power-is : p ≡ getD powers (i * length halves + t) 0
+  pub power-is : p ≡ getD (part (length halves) i powers) t 0
 
 module _ {d : Device} {cell : Cell} {settings : List (List ℕ)} {starts : List ℕ} {p t : ℕ} (w : CellOf d cell settings starts p t) where
   abbrev pub systemOf : System
@@ -52,10 +50,7 @@ module _ {d : Device} {cell : Cell} {settings : List (List ℕ)} {starts : List 
   abbrev pub planOf : Plan
   planOf = planIn (length (w .devices)) (length (w .halves)) (w .table)
 
-  -- its row and its part of the cells
-  abbrev row : List ℕ
-  row = getD (w .cells) (w .i * length (w .halves) + t) []
-
+  -- its part of the cells
   abbrev pub own : List (List ℕ)
   own = part (length (w .halves)) (w .i) (w .cells)
 
@@ -76,11 +71,8 @@ module _ {d : Device} {cell : Cell} {settings : List (List ℕ)} {starts : List 
   pub prices-of : C.devicePrices caseOf (w .i) ≡ devicePricesIn d own
   prices-of = Viewed.device-prices-are (w .front) (w .halves) (w .zones) (w .minima) (w .devices) (w .cells) (w .i) (w .known) ∙ ap (λ (x : Device). devicePricesIn x own) (sym (w .device-is))
 
-  pub device-range : DeviceRange (F.intervals systemOf) (F.device systemOf (w .i))
-  device-range = all-at (DeviceRange (F.intervals systemOf)) M.noDevice (systemOf .devices) (w .ready .case-rows .range .system .eachDevice) (w .i) in-devices
-
-  pub counted : Counted d
-  counted = subst Counted (sym (w .device-is)) (w .ready .case-rows .counted (w .i) (w .known))
+  pub sized : DeviceSized d
+  sized = subst DeviceSized (sym (w .device-is)) (Ranged.device-sized (w .ready .case-rows) (w .i) (w .known))
 
   pub side-is : eqb (d .side) 1 ≡ F.consuming systemOf (w .i)
   unfolding deviceIn
@@ -114,31 +106,12 @@ module _ {d : Device} {cell : Cell} {settings : List (List ℕ)} {starts : List 
   start-next k = sum-last (F.duration systemOf) k
 
   pub power-of : p ≡ F.power systemOf planOf t (w .i)
-  power-of = w .power-is ∙ w .ready .forced-rows .power-is t (w .i) (w .interval) (w .known)
+  power-of = w .power-is ∙ Ranged.power-at (w .ready) (w .i) (w .known) t (w .interval)
 
   -- ---- its cell
 
-  pub cell-of : F.cell systemOf t (w .i) ≡ cellIn row
-  cell-of =
-      Viewed.cell-is (w .halves) (w .zones) (w .minima) (w .devices) (w .cells) (w .i) (w .known) t
-      ∙ ap cellIn (part-at [] (length (w .halves)) (w .i) (w .cells) t (w .interval))
-
-  pub cell-prices-of : C.cellPrices caseOf t (w .i) ≡ cellPricesIn row
-  cell-prices-of =
-      Viewed.cell-prices-are (w .front) (w .halves) (w .zones) (w .minima) (w .devices) (w .cells) (w .i) (w .known) t
-      ∙ ap cellPricesIn (part-at [] (length (w .halves)) (w .i) (w .cells) t (w .interval))
-
-  row-padded : Padded row
-  row-padded = w .ready .case-rows .padded (w .i * length (w .halves) + t)
-      (omega (arith, place-inside (length (w .halves)) (w .i) (length (w .devices)) t (w .known) (w .interval), w .ready .case-rows .cells-full))
-
   pub cap-at : (k : ℕ) → k < 4 → numberOf (cell .caps) k ≡ F.cap systemOf t (w .i) k
-  cap-at k h = ap (λ (x : Cell). numberOf (x .caps) k) (w .cell-is) ∙ cap-of row row-padded k h ∙ sym (ap (λ (x : M.Cell). getD (x .caps) k 0) cell-of)
+  cap-at k h = ap (λ (x : Cell). numberOf (x .caps) k) (w .cell-is) ∙ Ranged.cap-at (w .ready .case-rows) (w .i) (w .known) t (w .interval) k h
 
   pub price-at : (k : ℕ) → k < 4 → (F.cap systemOf t (w .i) k ≡ 0) ⊎ (less priceOffset (getD (cell .prices) k 0) ≡ C.blockPrice caseOf t (w .i) k)
-  price-at k h = go (price-of row row-padded k h)
-    where
-      go : (getD (cellIn row .caps) k 0 ≡ 0) ⊎ (less priceOffset (getD (cellOf row .prices) k 0) ≡ getD (cellPricesIn row .blocks) k (pos 0))
-          → (F.cap systemOf t (w .i) k ≡ 0) ⊎ (less priceOffset (getD (cell .prices) k 0) ≡ C.blockPrice caseOf t (w .i) k)
-      go (inl z) = inl (ap (λ (x : M.Cell). getD (x .caps) k 0) cell-of ∙ z)
-      go (inr e) = inr (ap (λ (x : Cell). less priceOffset (getD (x .prices) k 0)) (w .cell-is) ∙ e ∙ sym (ap (λ (x : M.CellPrices). getD (x .blocks) k (pos 0)) cell-prices-of))
+  price-at k h = rw (w .cell-is) (Ranged.price-at (w .ready .case-rows) (w .i) (w .known) t (w .interval) k h)

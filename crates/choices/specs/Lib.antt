@@ -1,4 +1,3 @@
-pub mod Rows
 pub mod Cells
 pub mod States
 pub mod Rests

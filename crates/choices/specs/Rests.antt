@@ -1,5 +1,5 @@
 -- Downtime over a device's settings, back from the interval before a start.
-use mathlib.Core.Path.{_≡_, refl, sym, ap, ap₂, subst, _∙_}
+use mathlib.Core.Path.{_≡_, refl, sym, ap, ap₂, _∙_}
 use mathlib.Core.Bool.{Bool, true, false}
 use mathlib.Core.List.{List, []}
 use mathlib.Core.Option.{Option, none, some}
@@ -105,14 +105,10 @@ module _ {d : Device} {cell : Cell} {settings : List (List ℕ)} {starts : List 
   pub downtime-is : offSince d settings starts t t ≡ downtime q plan t (w .i)
   downtime-is = off-is t (omega arith) ∙ sym (downtime-since q plan t (w .i) (lastOn q plan t (w .i)) refl)
 
-  rest-small : d .minutes0 ≤ mostRest
-  unfolding deviceIn
-  rest-small = subst (λ (x : M.Device). x .minutes0 ≤ mostRest) (Cells.device-of w) (Cells.device-range w .head .minutes0)
-
   pub looks : Looks d settings starts t
   looks = record {
     inside = omega (arith, w .interval, Cells.settings-long w);
     timed = omega (arith, Cells.settings-long w, w .ready .forced-rows .starts-full);
     early = w .ready .forced-rows .early t (omega (arith, w .interval));
-    rested = rest-small;
+    rested = Cells.sized w .minutes0;
   }

@@ -4,14 +4,13 @@ use records::Device;
 use records::SettingRow;
 use records::State;
 use records::on_at;
-use records::on_before;
+use records::started_at;
+use records::stopped_at;
 use units::Kw;
 ghost use mathlib.Core.Path.{_≡_};
 ghost use Prim.Native.Nat.{_≤_, _-_};
-ghost use lib.Dec.{ltb, eqb};
+ghost use lib.Dec.{eqb};
 ghost use Rattle.bits.specs.Pick.{pick};
-ghost use Rattle.model.specs.Base.{bit};
-ghost use Rattle.records.specs.Views.{Counted};
 ghost use Rattle.choices.specs.Cells.{CellOf};
 ghost use Rattle.choices.specs.States.{chosen, stateOf};
 ghost use Rattle.choices.specs.Rests.{initial, offSince, Looks};
@@ -43,7 +42,7 @@ fn with_state(b: Chosen, s: State, n: u32, downtime: u32) -> Chosen
 
 // The lowest-numbered cheapest state that lasts the downtime, and none unless it costs below 0.
 fn best_state(d: Device, downtime: u32) -> u32
-    requires { ⌜ Counted d ⌝ }
+    requires { ⌜ d .nstates ≤ 4 ⌝ }
     ensures { λ r. ⌜ r ≡ stateOf d downtime ⌝ }
 {
     let mut b = Chosen {
@@ -92,7 +91,7 @@ fn downtime(d: Device, settings: &[SettingRow], starts: &[u32], t: usize) -> u32
 
 // The startup state at a start, elsewhere none.
 fn state_at(d: Device, settings: &[SettingRow], starts: &[u32], t: usize, started: u32) -> u32
-    requires { ⌜ Counted d × Looks d (now settings) (now starts) t ⌝ }
+    requires { ⌜ (d .nstates ≤ 4) × Looks d (now settings) (now starts) t ⌝ }
     ensures { λ r. ⌜ r ≡ pick (eqb started 1) (stateOf d (offSince d (now (settings .entry)) (now (starts .entry)) t t)) 0 ⌝ }
 {
     if started == 1 {
@@ -100,13 +99,6 @@ fn state_at(d: Device, settings: &[SettingRow], starts: &[u32], t: usize, starte
     } else {
         0
     }
-}
-
-// 1 where u rises from the one to the other.
-fn rises(before: u32, after: u32) -> u32
-    ensures { λ r. ⌜ r ≡ bit (ltb before after) ⌝ }
-{
-    if before < after { 1 } else { 0 }
 }
 
 // Our choices for one device in one interval; state 0 is none.
@@ -129,10 +121,8 @@ pub fn choose(
     requires { ⌜ CellOf d cell (now settings) (now starts) (p .0) t ⌝ }
     ensures { λ r. ⌜ ChoiceOf d cell (now (settings .entry)) (now (starts .entry)) (p .0) t r ⌝ }
 {
-    let before = on_before(d.on0, settings, t);
-    let on = on_at(settings, t);
-    let started = rises(before, on);
-    let stopped = rises(on, before);
+    let started = started_at(d.on0, settings, t);
+    let stopped = stopped_at(d.on0, settings, t);
     let state = state_at(d, settings, starts, t, started);
     let caps = cell.caps;
     let prices = cell.prices;
