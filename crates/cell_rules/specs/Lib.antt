@@ -1,3 +1,4 @@
 pub mod Word
 pub mod Sign
 pub mod Tests
+pub mod Held

@@ -86,17 +86,14 @@ module _ (d : Device) (c : Cell) (s : Setting) (w : Moment) where
       (18, leb (forced s w + pick (consumes d) (s .reserves .rrdoff .0) (offUps s)) (c .pmax .0 * (1 - s .on))) ∷
       (19, leb (w .power .0) (roomOf (c .caps))) ∷ []
 
-  -- rules 7 to 19
-  unfoldable pub amountTests : List (ℕ × Bool)
-  amountTests = onTests ++ (offTests ++ powerTests)
-
   unfoldable pub tests : List (ℕ × Bool)
-  tests = stateTests ++ (rampTests ++ amountTests)
+  tests = stateTests ++ (rampTests ++ (onTests ++ (offTests ++ powerTests)))
 
   pub tests-word : failingWord tests ≡ failingWord stateTests + failingWord rampTests + failingWord onTests + failingWord offTests + failingWord powerTests
-  unfolding tests amountTests
+  unfolding tests
   tests-word =
-      omega (arith,
+      omega (
+        arith,
         word-append stateTests (rampTests ++ (onTests ++ (offTests ++ powerTests))),
         word-append rampTests (onTests ++ (offTests ++ powerTests)),
         word-append onTests (offTests ++ powerTests),
@@ -104,7 +101,7 @@ module _ (d : Device) (c : Cell) (s : Setting) (w : Moment) where
       )
 
   pub tests-rise : T (rising 0 32 tests)
-  unfolding tests stateTests rampTests amountTests onTests offTests powerTests rising
+  unfolding tests stateTests rampTests onTests offTests powerTests rising
   tests-rise = tt
 
 -- the sizes that the code relies on

@@ -1,16 +1,19 @@
 // Rules 1 to 19 of one device in one interval, from its records: the word of those that fail, and a quick answer where none does.
 ghost use mathlib.Core.Path.{_≡_};
-ghost use mathlib.Core.Bool.{_&&_};
+ghost use mathlib.Core.Bool.{true, _&&_};
+ghost use mathlib.Core.List.{[]};
 ghost use Prim.Native.Nat.{_+_, _-_, _*_, _^_, _<_, _≤_};
 ghost use lib.Dec.{leb, eqb, ltb};
 ghost use lib.IntN.{pos, _-ℤ_};
 ghost use lib.Signed.{leZ};
 ghost use Rattle.bits.specs.Pick.{pick};
 ghost use Rattle.model.specs.Base.{implies};
+ghost use Rattle.model.specs.Breaches.{failing};
 ghost use Rattle.records.specs.Views.{mostPower, lastMinute};
 ghost use Rattle.cell_rules.specs.Sign.{mayRise, mayFall};
 ghost use Rattle.cell_rules.specs.Word.{bitUnless, failingWord};
-ghost use Rattle.cell_rules.specs.Tests.{limit, cap, roomOf, Sized, Small, stateTests, rampTests, onTests, offTests, powerTests, tests};
+ghost use Rattle.cell_rules.specs.Tests.{limit, cap, roomOf, Sized, Small, stateTests, rampTests, onTests, offTests, powerTests, tests, ups, downs, offUps};
+ghost use Rattle.cell_rules.specs.Held.{OnLimits, OffLimits};
 use records::Cell;
 use records::Device;
 use records::Setting;
@@ -274,4 +277,173 @@ pub fn failing_rules(d: Device, c: Cell, s: Setting, w: Moment) -> u32
         + on_rules(d, c, s, w)
         + off_rules(d, c, s, w)
         + power_rules(d, c, s, w)
+}
+
+// Quick answers: true where each rule of a group holds, and false says nothing. Rules 1 to 4.
+fn state_held(d: Device, c: Cell, s: Setting, w: Moment) -> bool
+    requires { ⌜ Sized c s w × Small d ⌝ }
+    ensures { λ r. ⌜ (r ≡ true → failing (stateTests d c s w) ≡ []) ⌝ }
+{
+    if !status_kept(c.status, s.on) {
+        return false;
+    }
+    if !initial_kept(d, w.start, s.on) {
+        return false;
+    }
+    if !w.rested {
+        return false;
+    }
+    w.ran
+}
+
+// Rules 5 and 6.
+fn ramps_held(d: Device, c: Cell, s: Setting, w: Moment) -> bool
+    requires { ⌜ Sized c s w × Small d ⌝ }
+    ensures { λ r. ⌜ (r ≡ true → failing (rampTests d c s w) ≡ []) ⌝ }
+{
+    if !rise_kept(
+        w.power,
+        w.previous,
+        w.minutes,
+        d.ramps[0],
+        d.ramps[2],
+        s.on,
+        w.started,
+    ) {
+        return false;
+    }
+    fall_kept(w.power, w.previous, w.minutes, d.ramps[1], d.ramps[3], s.on)
+}
+
+// A limit of the device.
+fn within(d: Device, k: usize, x: Kw) -> bool
+    requires { ⌜ k < 8 ⌝ }
+    ensures { λ r. ⌜ r ≡ leb (x .0) (limit d k) ⌝ }
+{
+    let limit = d.limits[k];
+    x.0 <= limit.0
+}
+
+// Rules 7 to 15 of a device that is on.
+fn on_limits_held(d: Device, c: Cell, s: Setting, w: Moment) -> bool
+    requires { ⌜ Sized c s w × (s .on ≡ 1) ⌝ }
+    ensures { λ r. ⌜ (r ≡ true → OnLimits d c s w) ⌝ }
+{
+    let e = s.reserves;
+    let two = e.rgu.0 + e.scr.0;
+    let ups = two + e.rruon.0;
+    let downs = e.rgd.0 + e.rrdon.0;
+    if 0 < e.nsc.0 + e.rruoff.0 + e.rrdoff.0 {
+        return false;
+    }
+    if !within(d, 0, e.rgu) {
+        return false;
+    }
+    if !within(d, 1, e.rgd) {
+        return false;
+    }
+    if !within(d, 2, Kw(two)) {
+        return false;
+    }
+    if !within(d, 4, Kw(ups)) {
+        return false;
+    }
+    within(d, 6, Kw(downs))
+}
+
+// The same of a device that is off.
+fn off_limits_held(d: Device, c: Cell, s: Setting, w: Moment) -> bool
+    requires { ⌜ Sized c s w × (s .on ≡ 0) ⌝ }
+    ensures { λ r. ⌜ (r ≡ true → OffLimits d c s w) ⌝ }
+{
+    let e = s.reserves;
+    let ups = e.rgu.0 + e.scr.0 + e.rruon.0;
+    let downs = e.rgd.0 + e.rrdon.0;
+    let standing = Kw(e.nsc.0 + e.rruoff.0);
+    let forbidden = by_side(d.side, standing, e.rrdoff);
+    if 0 < ups + downs + forbidden.0 {
+        return false;
+    }
+    if !within(d, 3, e.nsc) {
+        return false;
+    }
+    if !within(d, 5, standing) {
+        return false;
+    }
+    within(d, 7, e.rrdoff)
+}
+
+// Rules 16 to 19 of a device that is on and holds no reserves of the other state.
+fn on_powers_held(d: Device, c: Cell, s: Setting, w: Moment) -> bool
+    requires { ⌜ Sized c s w × (s .on ≡ 1) × (offUps s + s .reserves .rrdoff .0 ≤ 0) ⌝ }
+    ensures { λ r. ⌜ (r ≡ true → failing (powerTests d c s w) ≡ []) ⌝ }
+{
+    let e = s.reserves;
+    let ups = Kw(e.rgu.0 + e.scr.0 + e.rruon.0);
+    let downs = Kw(e.rgd.0 + e.rrdon.0);
+    let raising = by_side(d.side, downs, ups);
+    let lowering = by_side(d.side, ups, downs);
+    let roof = s.online.0 + raising.0;
+    let floor = c.pmin.0 + lowering.0;
+    if c.pmax.0 < roof {
+        return false;
+    }
+    if s.online.0 < floor {
+        return false;
+    }
+    if s.online.0 < w.power.0 {
+        return false;
+    }
+    let caps = c.caps;
+    room_kept(w.power, caps)
+}
+
+// The same of a device that is off.
+fn off_powers_held(d: Device, c: Cell, s: Setting, w: Moment) -> bool
+    requires { ⌜ Sized c s w × (s .on ≡ 0) × (ups s + downs s ≤ 0) ⌝ }
+    ensures { λ r. ⌜ (r ≡ true → failing (powerTests d c s w) ≡ []) ⌝ }
+{
+    let e = s.reserves;
+    let standing = Kw(e.nsc.0 + e.rruoff.0);
+    let offline = by_side(d.side, e.rrdoff, standing);
+    let roof = w.power.0 + offline.0;
+    if 0 < s.online.0 {
+        return false;
+    }
+    if c.pmax.0 < roof {
+        return false;
+    }
+    let caps = c.caps;
+    room_kept(w.power, caps)
+}
+
+// Rules 7 to 19, by whether the device is on.
+fn amounts_held(d: Device, c: Cell, s: Setting, w: Moment) -> bool
+    requires { ⌜ Sized c s w ⌝ }
+    ensures { λ r. ⌜ (r ≡ true → (failing (onTests d c s w) ≡ []) × (failing (offTests d c s w) ≡ []) × (failing (powerTests d c s w) ≡ [])) ⌝ }
+{
+    if s.on == 1 {
+        if !on_limits_held(d, c, s, w) {
+            return false;
+        }
+        return on_powers_held(d, c, s, w);
+    }
+    if !off_limits_held(d, c, s, w) {
+        return false;
+    }
+    off_powers_held(d, c, s, w)
+}
+
+// Whether no rule of one device in one interval fails, in one go: true where each holds, and false says nothing.
+pub fn held(d: Device, c: Cell, s: Setting, w: Moment) -> bool
+    requires { ⌜ Sized c s w × Small d ⌝ }
+    ensures { λ r. ⌜ (r ≡ true → failing (tests d c s w) ≡ []) ⌝ }
+{
+    if !state_held(d, c, s, w) {
+        return false;
+    }
+    if !ramps_held(d, c, s, w) {
+        return false;
+    }
+    amounts_held(d, c, s, w)
 }
