@@ -11,12 +11,12 @@ use lib.Signed.{leZ}
 use Rattle.bits.specs.Pick.{pick}
 use Rattle.model.specs.Breaches.{failing}
 use Rattle.records.specs.declared.Cell.{Cell}
-use Rattle.records.specs.declared.Device.{Device}
 use Rattle.records.specs.declared.Setting.{Setting}
+use Rattle.cell_rules.specs.declared.Bounds.{Bounds}
 use Rattle.cell_rules.specs.declared.Moment.{Moment}
 use Rattle.cell_rules.specs.Sign.{moved-r}
 use Rattle.cell_rules.specs.Word.{no-test, test-holds, all-hold}
-use Rattle.cell_rules.specs.Tests.{limit, consumes, ups, downs, offUps, forced, roomOf, stateTests, rampTests, onTests, offTests, powerTests, tests}
+use Rattle.cell_rules.specs.Tests.{consumes, ups, downs, offUps, forced, roomOf, stateTests, rampTests, onTests, offTests, powerTests, tests}
 
 pub no-way : {A : Type 0} → false ≡ true → A
 no-way e = absurd (let z : _≡_ {A = ℕ} 0 1 = cc in omega (arith, z))
@@ -48,7 +48,7 @@ floor-on p on online low e h = moved-r (p * on) online low ∙ le-leb (p * on + 
 floor-off : (p on online low : ℕ) → on ≡ 0 → low ≡ 0 → leZ (pos (p * on)) (pos online -ℤ pos low) ≡ true
 floor-off p on online low e z = moved-r (p * on) online low ∙ le-leb (p * on + low) online (rw e (omega arith))
 
-module _ (d : Device) (c : Cell) (s : Setting) (w : Moment) where
+module _ (d : Bounds) (c : Cell) (s : Setting) (w : Moment) where
   -- rules 7 to 15 hold, and the reserves of the other state are none
   pub record OnLimits : Type 0 where
     pub while-on : failing (onTests d c s w) ≡ []
@@ -61,38 +61,38 @@ module _ (d : Device) (c : Cell) (s : Setting) (w : Moment) where
     pub none : ups s + downs s ≤ 0
 
   pub on-limits : s .on ≡ 1 → offUps s + s .reserves .rrdoff .0 ≤ 0
-      → s .reserves .rgu .0 ≤ limit d 0 → s .reserves .rgd .0 ≤ limit d 1 → s .reserves .rgu .0 + s .reserves .scr .0 ≤ limit d 2
-      → ups s ≤ limit d 4 → downs s ≤ limit d 6 → OnLimits
+      → s .reserves .rgu .0 ≤ d .limits .rgu .0 → s .reserves .rgd .0 ≤ d .limits .rgd .0 → s .reserves .rgu .0 + s .reserves .scr .0 ≤ d .limits .scr .0
+      → ups s ≤ d .limits .rruon .0 → downs s ≤ d .limits .rrdon .0 → OnLimits
   unfolding onTests offTests
   on-limits on z a b e f g = record {
     while-on =
-        test-holds 7 _ (kept-on (s .reserves .rgu .0) (limit d 0) (s .on) on a)
-        (test-holds 8 _ (kept-on (s .reserves .rgd .0) (limit d 1) (s .on) on b)
-        (test-holds 9 _ (kept-on (s .reserves .rgu .0 + s .reserves .scr .0) (limit d 2) (s .on) on e)
-        (test-holds 10 _ (kept-on (ups s) (limit d 4) (s .on) on f)
-        (test-holds 11 _ (kept-on (downs s) (limit d 6) (s .on) on g) no-test))));
+        test-holds 7 _ (kept-on (s .reserves .rgu .0) (d .limits .rgu .0) (s .on) on a)
+        (test-holds 8 _ (kept-on (s .reserves .rgd .0) (d .limits .rgd .0) (s .on) on b)
+        (test-holds 9 _ (kept-on (s .reserves .rgu .0 + s .reserves .scr .0) (d .limits .scr .0) (s .on) on e)
+        (test-holds 10 _ (kept-on (ups s) (d .limits .rruon .0) (s .on) on f)
+        (test-holds 11 _ (kept-on (downs s) (d .limits .rrdon .0) (s .on) on g) no-test))));
     while-off =
-        test-holds 12 _ (none (s .reserves .nsc .0) (limit d 3 * (1 - s .on)) (omega arith))
-        (test-holds 13 _ (none (offUps s) (limit d 5 * (1 - s .on)) (omega arith))
-        (test-holds 14 _ (none (s .reserves .rrdoff .0) (limit d 7 * (1 - s .on)) (omega arith))
+        test-holds 12 _ (none (s .reserves .nsc .0) (d .limits .nsc .0 * (1 - s .on)) (omega arith))
+        (test-holds 13 _ (none (offUps s) (d .limits .rruoff .0 * (1 - s .on)) (omega arith))
+        (test-holds 14 _ (none (s .reserves .rrdoff .0) (d .limits .rrdoff .0 * (1 - s .on)) (omega arith))
         (test-holds 15 _ (eq-eqb _ 0 (none-by-side (consumes d) (offUps s) (s .reserves .rrdoff .0) (omega arith) (omega arith))) no-test)));
     none = z;
   }
 
   pub off-limits : s .on ≡ 0 → ups s + downs s + pick (consumes d) (offUps s) (s .reserves .rrdoff .0) ≤ 0
-      → s .reserves .nsc .0 ≤ limit d 3 → offUps s ≤ limit d 5 → s .reserves .rrdoff .0 ≤ limit d 7 → OffLimits
+      → s .reserves .nsc .0 ≤ d .limits .nsc .0 → offUps s ≤ d .limits .rruoff .0 → s .reserves .rrdoff .0 ≤ d .limits .rrdoff .0 → OffLimits
   unfolding onTests offTests
   off-limits off z a b e = record {
     while-on =
-        test-holds 7 _ (none (s .reserves .rgu .0) (limit d 0 * s .on) (omega arith))
-        (test-holds 8 _ (none (s .reserves .rgd .0) (limit d 1 * s .on) (omega arith))
-        (test-holds 9 _ (none (s .reserves .rgu .0 + s .reserves .scr .0) (limit d 2 * s .on) (omega arith))
-        (test-holds 10 _ (none (ups s) (limit d 4 * s .on) (omega arith))
-        (test-holds 11 _ (none (downs s) (limit d 6 * s .on) (omega arith)) no-test))));
+        test-holds 7 _ (none (s .reserves .rgu .0) (d .limits .rgu .0 * s .on) (omega arith))
+        (test-holds 8 _ (none (s .reserves .rgd .0) (d .limits .rgd .0 * s .on) (omega arith))
+        (test-holds 9 _ (none (s .reserves .rgu .0 + s .reserves .scr .0) (d .limits .scr .0 * s .on) (omega arith))
+        (test-holds 10 _ (none (ups s) (d .limits .rruon .0 * s .on) (omega arith))
+        (test-holds 11 _ (none (downs s) (d .limits .rrdon .0 * s .on) (omega arith)) no-test))));
     while-off =
-        test-holds 12 _ (kept-off (s .reserves .nsc .0) (limit d 3) (s .on) off a)
-        (test-holds 13 _ (kept-off (offUps s) (limit d 5) (s .on) off b)
-        (test-holds 14 _ (kept-off (s .reserves .rrdoff .0) (limit d 7) (s .on) off e)
+        test-holds 12 _ (kept-off (s .reserves .nsc .0) (d .limits .nsc .0) (s .on) off a)
+        (test-holds 13 _ (kept-off (offUps s) (d .limits .rruoff .0) (s .on) off b)
+        (test-holds 14 _ (kept-off (s .reserves .rrdoff .0) (d .limits .rrdoff .0) (s .on) off e)
         (test-holds 15 _ (eq-eqb (pick (consumes d) (offUps s) (s .reserves .rrdoff .0)) 0 (omega arith)) no-test)));
     none = omega arith;
   }

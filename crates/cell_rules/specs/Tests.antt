@@ -15,18 +15,40 @@ use Rattle.units.specs.declared.Kw.{Kw}
 use Rattle.records.specs.Views.{mostPower, lastMinute}
 use Rattle.records.specs.declared.Cell.{Cell}
 use Rattle.records.specs.declared.Device.{Device}
+use Rattle.records.specs.declared.Reserves.{Reserves}
 use Rattle.records.specs.declared.Setting.{Setting}
+use Rattle.cell_rules.specs.declared.Bounds.{Bounds}
 use Rattle.cell_rules.specs.declared.Moment.{Moment}
 use Rattle.cell_rules.specs.Sign.{mayRise, mayFall}
 use Rattle.cell_rules.specs.Word.{failingWord, word-append, rising}
 
-abbrev pub limit : Device → ℕ → ℕ
-limit d k = getD (d .limits) k (kw 0) .0
+abbrev pub limitsOf : List Kw → Reserves
+limitsOf l = record {
+  rgu = getD l 0 (kw 0);
+  rgd = getD l 1 (kw 0);
+  scr = getD l 2 (kw 0);
+  nsc = getD l 3 (kw 0);
+  rruon = getD l 4 (kw 0);
+  rruoff = getD l 5 (kw 0);
+  rrdon = getD l 6 (kw 0);
+  rrdoff = getD l 7 (kw 0);
+}
 
-abbrev pub ramp : Device → ℕ → ℕ
-ramp d k = getD (d .ramps) k 0
+abbrev pub boundsOf : Device → Bounds
+boundsOf d = record {
+  side = d .side;
+  on0 = d .on0;
+  minutes0 = d .minutes0;
+  minup = d .minup;
+  mindown = d .mindown;
+  up = getD (d .ramps) 0 0;
+  down = getD (d .ramps) 1 0;
+  starting = getD (d .ramps) 2 0;
+  stopping = getD (d .ramps) 3 0;
+  limits = limitsOf (d .limits);
+}
 
-abbrev pub consumes : Device → Bool
+abbrev pub consumes : Bounds → Bool
 consumes d = eqb (d .side) 1
 
 -- the sum of the blocks' caps
@@ -51,7 +73,7 @@ module _ (s : Setting) where
 abbrev pub forced : Setting → Moment → ℕ
 forced s w = w .power .0 - s .online .0
 
-module _ (d : Device) (c : Cell) (s : Setting) (w : Moment) where
+module _ (d : Bounds) (c : Cell) (s : Setting) (w : Moment) where
   unfoldable pub stateTests : List (ℕ × Bool)
   stateTests =
       (1, implies (eqb (c .status) 1) (eqb (s .on) 1) && implies (eqb (c .status) 2) (eqb (s .on) 0)) ∷
@@ -61,22 +83,22 @@ module _ (d : Device) (c : Cell) (s : Setting) (w : Moment) where
 
   unfoldable pub rampTests : List (ℕ × Bool)
   rampTests =
-      (5, leZ (pos (w .power .0) -ℤ pos (w .previous .0)) (mayRise (w .minutes) (ramp d 0) (ramp d 2) (s .on) (w .started))) ∷
-      (6, leZ (pos (w .previous .0) -ℤ pos (w .power .0)) (mayFall (w .minutes) (ramp d 1) (ramp d 3) (s .on))) ∷ []
+      (5, leZ (pos (w .power .0) -ℤ pos (w .previous .0)) (mayRise (w .minutes) (d .up) (d .starting) (s .on) (w .started))) ∷
+      (6, leZ (pos (w .previous .0) -ℤ pos (w .power .0)) (mayFall (w .minutes) (d .down) (d .stopping) (s .on))) ∷ []
 
   unfoldable pub onTests : List (ℕ × Bool)
   onTests =
-      (7, leb (s .reserves .rgu .0) (limit d 0 * s .on)) ∷
-      (8, leb (s .reserves .rgd .0) (limit d 1 * s .on)) ∷
-      (9, leb (s .reserves .rgu .0 + s .reserves .scr .0) (limit d 2 * s .on)) ∷
-      (10, leb (ups s) (limit d 4 * s .on)) ∷
-      (11, leb (downs s) (limit d 6 * s .on)) ∷ []
+      (7, leb (s .reserves .rgu .0) (d .limits .rgu .0 * s .on)) ∷
+      (8, leb (s .reserves .rgd .0) (d .limits .rgd .0 * s .on)) ∷
+      (9, leb (s .reserves .rgu .0 + s .reserves .scr .0) (d .limits .scr .0 * s .on)) ∷
+      (10, leb (ups s) (d .limits .rruon .0 * s .on)) ∷
+      (11, leb (downs s) (d .limits .rrdon .0 * s .on)) ∷ []
 
   unfoldable pub offTests : List (ℕ × Bool)
   offTests =
-      (12, leb (s .reserves .nsc .0) (limit d 3 * (1 - s .on))) ∷
-      (13, leb (offUps s) (limit d 5 * (1 - s .on))) ∷
-      (14, leb (s .reserves .rrdoff .0) (limit d 7 * (1 - s .on))) ∷
+      (12, leb (s .reserves .nsc .0) (d .limits .nsc .0 * (1 - s .on))) ∷
+      (13, leb (offUps s) (d .limits .rruoff .0 * (1 - s .on))) ∷
+      (14, leb (s .reserves .rrdoff .0) (d .limits .rrdoff .0 * (1 - s .on))) ∷
       (15, eqb (pick (consumes d) (offUps s) (s .reserves .rrdoff .0)) 0) ∷ []
 
   unfoldable pub powerTests : List (ℕ × Bool)
@@ -127,9 +149,9 @@ pub record Sized (c : Cell) (s : Setting) (w : Moment) : Type 0 where
   pub minutes : w .minutes ≤ 360
   pub start : w .start ≤ lastMinute
 
-pub record Small (d : Device) : Type 0 where
-  pub up : ramp d 0 ≤ 100000
-  pub down : ramp d 1 ≤ 100000
-  pub starting : ramp d 2 ≤ 100000
-  pub stopping : ramp d 3 ≤ 100000
+pub record Small (d : Bounds) : Type 0 where
+  pub up : d .up ≤ 100000
+  pub down : d .down ≤ 100000
+  pub starting : d .starting ≤ 100000
+  pub stopping : d .stopping ≤ 100000
   pub minutes0 : d .minutes0 ≤ 60000

@@ -12,12 +12,62 @@ ghost use Rattle.model.specs.Breaches.{failing};
 ghost use Rattle.records.specs.Views.{mostPower, lastMinute};
 ghost use Rattle.cell_rules.specs.Sign.{mayRise, mayFall};
 ghost use Rattle.cell_rules.specs.Word.{bitUnless, failingWord};
-ghost use Rattle.cell_rules.specs.Tests.{limit, cap, roomOf, Sized, Small, stateTests, rampTests, onTests, offTests, powerTests, tests, ups, downs, offUps};
+ghost use Rattle.cell_rules.specs.Tests.{limitsOf, boundsOf, cap, roomOf, Sized, Small, stateTests, rampTests, onTests, offTests, powerTests, tests, ups, downs, offUps};
 ghost use Rattle.cell_rules.specs.Held.{OnLimits, OffLimits};
 use records::Cell;
 use records::Device;
+use records::Reserves;
 use records::Setting;
 use units::Kw;
+
+// What the rules of a device's intervals read of it; the ramps are in kW/min.
+pub struct Bounds {
+    pub side: u32,
+    pub on0: u32,
+    pub minutes0: u32,
+    pub minup: u32,
+    pub mindown: u32,
+    pub up: u32,
+    pub down: u32,
+    pub starting: u32,
+    pub stopping: u32,
+    pub limits: Reserves,
+}
+
+// The limits of a device, by the names of the eight.
+fn limits_of(l: [Kw; 8]) -> Reserves
+    ensures { λ r. ⌜ r ≡ limitsOf l ⌝ }
+{
+    Reserves {
+        rgu: l[0],
+        rgd: l[1],
+        scr: l[2],
+        nsc: l[3],
+        rruon: l[4],
+        rruoff: l[5],
+        rrdon: l[6],
+        rrdoff: l[7],
+    }
+}
+
+pub fn bounds_of(d: Device) -> Bounds
+    ensures { λ r. ⌜ r ≡ boundsOf d ⌝ }
+{
+    let l = d.limits;
+    let limits = limits_of(l);
+    Bounds {
+        side: d.side,
+        on0: d.on0,
+        minutes0: d.minutes0,
+        minup: d.minup,
+        mindown: d.mindown,
+        up: d.ramps[0],
+        down: d.ramps[1],
+        starting: d.ramps[2],
+        stopping: d.ramps[3],
+        limits,
+    }
+}
 
 // What the clock and the other intervals say of a device in one interval: su; whether rules 3 and 4 hold; S and d; p and previous p.
 pub struct Moment {
@@ -63,7 +113,7 @@ fn state_kept(so: u32, least: u32, on: u32, on0: u32) -> bool
     if so < least { on == on0 } else { true }
 }
 
-fn initial_kept(d: Device, start: u32, on: u32) -> bool
+fn initial_kept(d: Bounds, start: u32, on: u32) -> bool
     requires { ⌜ (start ≤ lastMinute) × (d .minutes0 ≤ 60000) ⌝ }
     ensures { λ r. ⌜ r ≡ implies (ltb (start + d .minutes0) (pick (eqb (d .on0) 1) (d .minup) (d .mindown))) (eqb on (d .on0)) ⌝ }
 {
@@ -107,21 +157,12 @@ fn fall_kept(power: Kw, previous: Kw, minutes: u32, down: u32, stopping: u32, on
     }
 }
 
-// At most a limit while on (or off).
+// Rules 7 to 14: at most a limit while on (or off).
 fn at_most(x: Kw, limit: Kw, on: u32) -> bool
     requires { ⌜ on ≤ 1 ⌝ }
     ensures { λ r. ⌜ r ≡ leb (x .0) (limit .0 * on) ⌝ }
 {
     if on == 0 { x.0 == 0 } else { x.0 <= limit.0 }
-}
-
-// Rules 7 to 14: at most the device's limit k while on (or off).
-fn limit_kept(d: Device, k: usize, x: Kw, on: u32) -> bool
-    requires { ⌜ (k < 8) × (on ≤ 1) ⌝ }
-    ensures { λ r. ⌜ r ≡ leb (x .0) (limit d k * on) ⌝ }
-{
-    let limit = d.limits[k];
-    at_most(x, limit, on)
 }
 
 // The one for a consuming device, the other for a producing one.
@@ -192,7 +233,7 @@ fn room_kept(power: Kw, caps: [Kw; 4]) -> bool
 }
 
 // Rules 1 to 4.
-fn state_rules(d: Device, c: Cell, s: Setting, w: Moment) -> u32
+fn state_rules(d: Bounds, c: Cell, s: Setting, w: Moment) -> u32
     requires { ⌜ Sized c s w × Small d ⌝ }
     ensures { λ r. ⌜ (r ≡ failingWord (stateTests d c s w)) × (r < 2 ^ 20) ⌝ }
 {
@@ -202,7 +243,7 @@ fn state_rules(d: Device, c: Cell, s: Setting, w: Moment) -> u32
 }
 
 // Rules 5 and 6.
-fn ramp_rules(d: Device, c: Cell, s: Setting, w: Moment) -> u32
+fn ramp_rules(d: Bounds, c: Cell, s: Setting, w: Moment) -> u32
     requires { ⌜ Sized c s w × Small d ⌝ }
     ensures { λ r. ⌜ (r ≡ failingWord (rampTests d c s w)) × (r < 2 ^ 20) ⌝ }
 {
@@ -210,17 +251,17 @@ fn ramp_rules(d: Device, c: Cell, s: Setting, w: Moment) -> u32
         w.power,
         w.previous,
         w.minutes,
-        d.ramps[0],
-        d.ramps[2],
+        d.up,
+        d.starting,
         s.on,
         w.started,
     );
-    let fall = fall_kept(w.power, w.previous, w.minutes, d.ramps[1], d.ramps[3], s.on);
+    let fall = fall_kept(w.power, w.previous, w.minutes, d.down, d.stopping, s.on);
     bit_unless(rise, 5) + bit_unless(fall, 6)
 }
 
 // Rules 7 to 11.
-fn on_rules(d: Device, c: Cell, s: Setting, w: Moment) -> u32
+fn on_rules(d: Bounds, c: Cell, s: Setting, w: Moment) -> u32
     requires { ⌜ Sized c s w ⌝ }
     ensures { λ r. ⌜ (r ≡ failingWord (onTests d c s w)) × (r < 2 ^ 20) ⌝ }
 {
@@ -228,29 +269,29 @@ fn on_rules(d: Device, c: Cell, s: Setting, w: Moment) -> u32
     let two = e.rgu.0 + e.scr.0;
     let ups = two + e.rruon.0;
     let downs = e.rgd.0 + e.rrdon.0;
-    bit_unless(limit_kept(d, 0, e.rgu, s.on), 7)
-        + bit_unless(limit_kept(d, 1, e.rgd, s.on), 8)
-        + bit_unless(limit_kept(d, 2, Kw(two), s.on), 9)
-        + bit_unless(limit_kept(d, 4, Kw(ups), s.on), 10)
-        + bit_unless(limit_kept(d, 6, Kw(downs), s.on), 11)
+    bit_unless(at_most(e.rgu, d.limits.rgu, s.on), 7)
+        + bit_unless(at_most(e.rgd, d.limits.rgd, s.on), 8)
+        + bit_unless(at_most(Kw(two), d.limits.scr, s.on), 9)
+        + bit_unless(at_most(Kw(ups), d.limits.rruon, s.on), 10)
+        + bit_unless(at_most(Kw(downs), d.limits.rrdon, s.on), 11)
 }
 
 // Rules 12 to 15.
-fn off_rules(d: Device, c: Cell, s: Setting, w: Moment) -> u32
+fn off_rules(d: Bounds, c: Cell, s: Setting, w: Moment) -> u32
     requires { ⌜ Sized c s w ⌝ }
     ensures { λ r. ⌜ (r ≡ failingWord (offTests d c s w)) × (r < 2 ^ 20) ⌝ }
 {
     let e = s.reserves;
     let off = 1 - s.on;
     let ups = Kw(e.nsc.0 + e.rruoff.0);
-    bit_unless(limit_kept(d, 3, e.nsc, off), 12)
-        + bit_unless(limit_kept(d, 5, ups, off), 13)
-        + bit_unless(limit_kept(d, 7, e.rrdoff, off), 14)
+    bit_unless(at_most(e.nsc, d.limits.nsc, off), 12)
+        + bit_unless(at_most(ups, d.limits.rruoff, off), 13)
+        + bit_unless(at_most(e.rrdoff, d.limits.rrdoff, off), 14)
         + bit_unless(none_held(d.side, ups, e.rrdoff), 15)
 }
 
 // Rules 16 to 19.
-fn power_rules(d: Device, c: Cell, s: Setting, w: Moment) -> u32
+fn power_rules(d: Bounds, c: Cell, s: Setting, w: Moment) -> u32
     requires { ⌜ Sized c s w ⌝ }
     ensures { λ r. ⌜ (r ≡ failingWord (powerTests d c s w)) × (r < 2 ^ 20) ⌝ }
 {
@@ -268,7 +309,7 @@ fn power_rules(d: Device, c: Cell, s: Setting, w: Moment) -> u32
 }
 
 // The rules of one device in one interval that fail: bit n for rule n.
-pub fn failing_rules(d: Device, c: Cell, s: Setting, w: Moment) -> u32
+pub fn failing_rules(d: Bounds, c: Cell, s: Setting, w: Moment) -> u32
     requires { ⌜ Sized c s w × Small d ⌝ }
     ensures { λ r. ⌜ r ≡ failingWord (tests d c s w) ⌝ }
 {
@@ -280,7 +321,7 @@ pub fn failing_rules(d: Device, c: Cell, s: Setting, w: Moment) -> u32
 }
 
 // Quick answers: true where each rule of a group holds, and false says nothing. Rules 1 to 4.
-fn state_held(d: Device, c: Cell, s: Setting, w: Moment) -> bool
+fn state_held(d: Bounds, c: Cell, s: Setting, w: Moment) -> bool
     requires { ⌜ Sized c s w × Small d ⌝ }
     ensures { λ r. ⌜ (r ≡ true → failing (stateTests d c s w) ≡ []) ⌝ }
 {
@@ -297,7 +338,7 @@ fn state_held(d: Device, c: Cell, s: Setting, w: Moment) -> bool
 }
 
 // Rules 5 and 6.
-fn ramps_held(d: Device, c: Cell, s: Setting, w: Moment) -> bool
+fn ramps_held(d: Bounds, c: Cell, s: Setting, w: Moment) -> bool
     requires { ⌜ Sized c s w × Small d ⌝ }
     ensures { λ r. ⌜ (r ≡ true → failing (rampTests d c s w) ≡ []) ⌝ }
 {
@@ -305,27 +346,18 @@ fn ramps_held(d: Device, c: Cell, s: Setting, w: Moment) -> bool
         w.power,
         w.previous,
         w.minutes,
-        d.ramps[0],
-        d.ramps[2],
+        d.up,
+        d.starting,
         s.on,
         w.started,
     ) {
         return false;
     }
-    fall_kept(w.power, w.previous, w.minutes, d.ramps[1], d.ramps[3], s.on)
-}
-
-// A limit of the device.
-fn within(d: Device, k: usize, x: Kw) -> bool
-    requires { ⌜ k < 8 ⌝ }
-    ensures { λ r. ⌜ r ≡ leb (x .0) (limit d k) ⌝ }
-{
-    let limit = d.limits[k];
-    x.0 <= limit.0
+    fall_kept(w.power, w.previous, w.minutes, d.down, d.stopping, s.on)
 }
 
 // Rules 7 to 15 of a device that is on.
-fn on_limits_held(d: Device, c: Cell, s: Setting, w: Moment) -> bool
+fn on_limits_held(d: Bounds, c: Cell, s: Setting, w: Moment) -> bool
     requires { ⌜ Sized c s w × (s .on ≡ 1) ⌝ }
     ensures { λ r. ⌜ (r ≡ true → OnLimits d c s w) ⌝ }
 {
@@ -336,23 +368,23 @@ fn on_limits_held(d: Device, c: Cell, s: Setting, w: Moment) -> bool
     if 0 < e.nsc.0 + e.rruoff.0 + e.rrdoff.0 {
         return false;
     }
-    if !within(d, 0, e.rgu) {
+    if !e.rgu.at_most(d.limits.rgu) {
         return false;
     }
-    if !within(d, 1, e.rgd) {
+    if !e.rgd.at_most(d.limits.rgd) {
         return false;
     }
-    if !within(d, 2, Kw(two)) {
+    if !Kw(two).at_most(d.limits.scr) {
         return false;
     }
-    if !within(d, 4, Kw(ups)) {
+    if !Kw(ups).at_most(d.limits.rruon) {
         return false;
     }
-    within(d, 6, Kw(downs))
+    Kw(downs).at_most(d.limits.rrdon)
 }
 
 // The same of a device that is off.
-fn off_limits_held(d: Device, c: Cell, s: Setting, w: Moment) -> bool
+fn off_limits_held(d: Bounds, c: Cell, s: Setting, w: Moment) -> bool
     requires { ⌜ Sized c s w × (s .on ≡ 0) ⌝ }
     ensures { λ r. ⌜ (r ≡ true → OffLimits d c s w) ⌝ }
 {
@@ -364,17 +396,17 @@ fn off_limits_held(d: Device, c: Cell, s: Setting, w: Moment) -> bool
     if 0 < ups + downs + forbidden.0 {
         return false;
     }
-    if !within(d, 3, e.nsc) {
+    if !e.nsc.at_most(d.limits.nsc) {
         return false;
     }
-    if !within(d, 5, standing) {
+    if !standing.at_most(d.limits.rruoff) {
         return false;
     }
-    within(d, 7, e.rrdoff)
+    e.rrdoff.at_most(d.limits.rrdoff)
 }
 
 // Rules 16 to 19 of a device that is on and holds no reserves of the other state.
-fn on_powers_held(d: Device, c: Cell, s: Setting, w: Moment) -> bool
+fn on_powers_held(d: Bounds, c: Cell, s: Setting, w: Moment) -> bool
     requires { ⌜ Sized c s w × (s .on ≡ 1) × (offUps s + s .reserves .rrdoff .0 ≤ 0) ⌝ }
     ensures { λ r. ⌜ (r ≡ true → failing (powerTests d c s w) ≡ []) ⌝ }
 {
@@ -399,7 +431,7 @@ fn on_powers_held(d: Device, c: Cell, s: Setting, w: Moment) -> bool
 }
 
 // The same of a device that is off.
-fn off_powers_held(d: Device, c: Cell, s: Setting, w: Moment) -> bool
+fn off_powers_held(d: Bounds, c: Cell, s: Setting, w: Moment) -> bool
     requires { ⌜ Sized c s w × (s .on ≡ 0) × (ups s + downs s ≤ 0) ⌝ }
     ensures { λ r. ⌜ (r ≡ true → failing (powerTests d c s w) ≡ []) ⌝ }
 {
@@ -418,7 +450,7 @@ fn off_powers_held(d: Device, c: Cell, s: Setting, w: Moment) -> bool
 }
 
 // Rules 7 to 19, by whether the device is on.
-fn amounts_held(d: Device, c: Cell, s: Setting, w: Moment) -> bool
+fn amounts_held(d: Bounds, c: Cell, s: Setting, w: Moment) -> bool
     requires { ⌜ Sized c s w ⌝ }
     ensures { λ r. ⌜ (r ≡ true → (failing (onTests d c s w) ≡ []) × (failing (offTests d c s w) ≡ []) × (failing (powerTests d c s w) ≡ [])) ⌝ }
 {
@@ -435,7 +467,7 @@ fn amounts_held(d: Device, c: Cell, s: Setting, w: Moment) -> bool
 }
 
 // Whether no rule of one device in one interval fails, in one go: true where each holds, and false says nothing.
-pub fn held(d: Device, c: Cell, s: Setting, w: Moment) -> bool
+pub fn held(d: Bounds, c: Cell, s: Setting, w: Moment) -> bool
     requires { ⌜ Sized c s w × Small d ⌝ }
     ensures { λ r. ⌜ (r ≡ true → failing (tests d c s w) ≡ []) ⌝ }
 {

@@ -12,14 +12,14 @@ sub-off c = search needs
 add-result : tie.Need-add-result
 add-result c = search needs
 
-limit-kept-requires : tie.Need-limit-kept-requires
-limit-kept-requires c κs = search needs
+at-most-requires : tie.Need-at-most-requires
+at-most-requires c κs = search needs
 
 bit-unless-requires : tie.Need-bit-unless-requires
 bit-unless-requires c κs = search needs
 
-limit-kept-requires-2 : tie.Need-limit-kept-requires-2
-limit-kept-requires-2 c κs = search needs
+at-most-requires-2 : tie.Need-at-most-requires-2
+at-most-requires-2 c κs = search needs
 
 bit-unless-requires-2 : tie.Need-bit-unless-requires-2
 bit-unless-requires-2 c κs = search needs
@@ -27,8 +27,8 @@ bit-unless-requires-2 c κs = search needs
 add-result-2 : tie.Need-add-result-2
 add-result-2 c = search needs
 
-limit-kept-requires-3 : tie.Need-limit-kept-requires-3
-limit-kept-requires-3 c κs = search needs
+at-most-requires-3 : tie.Need-at-most-requires-3
+at-most-requires-3 c κs = search needs
 
 bit-unless-requires-3 : tie.Need-bit-unless-requires-3
 bit-unless-requires-3 c κs = search needs
@@ -47,7 +47,7 @@ add-result-4 c = search needs
 
 returns : tie.Need-returns
 unfolding failingWord offTests
-returns c = (omega (arith, marked 12 (c .before .before .before .before .before .before .bit-unless .ensures .0) (c .before .before .before .before .before .before .before .limit-kept .ensures), marked 13 (c .before .before .before .before .bit-unless2 .ensures .0) (c .before .before .before .before .before .limit-kept2 .ensures), marked 14 (c .before .before .bit-unless3 .ensures .0) (c .before .before .before .limit-kept3 .ensures), marked 15 (c .bit-unless4 .ensures .0) (c .before .none-held .ensures)), search needs)
+returns c = (omega (arith, marked 12 (c .before .before .before .before .before .before .bit-unless .ensures .0) (c .before .before .before .before .before .before .before .at-most .ensures), marked 13 (c .before .before .before .before .bit-unless2 .ensures .0) (c .before .before .before .before .before .at-most2 .ensures), marked 14 (c .before .before .bit-unless3 .ensures .0) (c .before .before .before .at-most3 .ensures), marked 15 (c .bit-unless4 .ensures .0) (c .before .none-held .ensures)), search needs)
 
 pub off-rules-spec : {M : Type 1} → statement M
-off-rules-spec = tie.close (tie.spec sub-off add-result limit-kept-requires bit-unless-requires limit-kept-requires-2 bit-unless-requires-2 add-result-2 limit-kept-requires-3 bit-unless-requires-3 add-result-3 none-held-requires bit-unless-requires-4 add-result-4 returns)
+off-rules-spec = tie.close (tie.spec sub-off add-result at-most-requires bit-unless-requires at-most-requires-2 bit-unless-requires-2 add-result-2 at-most-requires-3 bit-unless-requires-3 add-result-3 none-held-requires bit-unless-requires-4 add-result-4 returns)

@@ -24,41 +24,41 @@ add-if1-2 c = search needs
 returns : tie.Need-returns
 returns c = λ e. no-way e
 
-within-requires : tie.Need-within-requires
-within-requires c κs = search needs
+at-most-requires : tie.Need-at-most-requires
+at-most-requires c κs = search needs
 
 returns-2 : tie.Need-returns-2
 returns-2 c = λ e. no-way e
 
-within-requires-2 : tie.Need-within-requires-2
-within-requires-2 c κs = search needs
+at-most-requires-2 : tie.Need-at-most-requires-2
+at-most-requires-2 c κs = search needs
 
 returns-3 : tie.Need-returns-3
 returns-3 c = λ e. no-way e
 
-within-requires-3 : tie.Need-within-requires-3
-within-requires-3 c κs = search needs
+at-most-requires-3 : tie.Need-at-most-requires-3
+at-most-requires-3 c κs = search needs
 
 returns-4 : tie.Need-returns-4
 returns-4 c = λ e. no-way e
 
-within-requires-4 : tie.Need-within-requires-4
-within-requires-4 c κs = search needs
+at-most-requires-4 : tie.Need-at-most-requires-4
+at-most-requires-4 c κs = search needs
 
 returns-5 : tie.Need-returns-5
 returns-5 c = λ e. no-way e
 
-within-requires-5 : tie.Need-within-requires-5
-within-requires-5 c κs = search needs
+at-most-requires-5 : tie.Need-at-most-requires-5
+at-most-requires-5 c κs = search needs
 
 returns-6 : tie.Need-returns-6
 returns-6 c = λ e. let a : _ = c .before .before .before .before .before .before .before .before .before .before .before .before .before .before .before .before .args in
     on-limits (a .d) (a .c) (a .s) (a .w) (c .before .before .before .before .before .before .before .before .before .before .before .before .before .before .before .before .pre .1) (omega arith)
-    (leb-true _ _ (passed (c .before .before .before .before .before .before .before .before .within .ensures) (c .before .before .before .before .before .before .before .if2 .left)))
-    (leb-true _ _ (passed (c .before .before .before .before .before .before .within2 .ensures) (c .before .before .before .before .before .if3 .left)))
-    (leb-true _ _ (passed (c .before .before .before .before .within3 .ensures) (c .before .before .before .if4 .left)))
-    (leb-true _ _ (passed (c .before .before .within4 .ensures) (c .before .if5 .left)))
-    (leb-true _ _ (passed-last (c .within5 .ensures) e))
+    (leb-true _ _ (passed (c .before .before .before .before .before .before .before .before .at-most .ensures) (c .before .before .before .before .before .before .before .if2 .left)))
+    (leb-true _ _ (passed (c .before .before .before .before .before .before .at-most2 .ensures) (c .before .before .before .before .before .if3 .left)))
+    (leb-true _ _ (passed (c .before .before .before .before .at-most3 .ensures) (c .before .before .before .if4 .left)))
+    (leb-true _ _ (passed (c .before .before .at-most4 .ensures) (c .before .if5 .left)))
+    (leb-true _ _ (passed-last (c .at-most5 .ensures) e))
 
 pub on-limits-held-spec : {M : Type 1} → statement M
-on-limits-held-spec = tie.close (tie.spec add-two add-ups add-downs add-if1 add-if1-2 returns within-requires returns-2 within-requires-2 returns-3 within-requires-3 returns-4 within-requires-4 returns-5 within-requires-5 returns-6)
+on-limits-held-spec = tie.close (tie.spec add-two add-ups add-downs add-if1 add-if1-2 returns at-most-requires returns-2 at-most-requires-2 returns-3 at-most-requires-3 returns-4 at-most-requires-4 returns-5 at-most-requires-5 returns-6)

@@ -15,14 +15,14 @@ add-ups c = search needs
 add-downs : tie.Need-add-downs
 add-downs c = search needs
 
-limit-kept-requires : tie.Need-limit-kept-requires
-limit-kept-requires c κs = search needs
+at-most-requires : tie.Need-at-most-requires
+at-most-requires c κs = search needs
 
 bit-unless-requires : tie.Need-bit-unless-requires
 bit-unless-requires c κs = search needs
 
-limit-kept-requires-2 : tie.Need-limit-kept-requires-2
-limit-kept-requires-2 c κs = search needs
+at-most-requires-2 : tie.Need-at-most-requires-2
+at-most-requires-2 c κs = search needs
 
 bit-unless-requires-2 : tie.Need-bit-unless-requires-2
 bit-unless-requires-2 c κs = search needs
@@ -30,8 +30,8 @@ bit-unless-requires-2 c κs = search needs
 add-result : tie.Need-add-result
 add-result c = search needs
 
-limit-kept-requires-3 : tie.Need-limit-kept-requires-3
-limit-kept-requires-3 c κs = search needs
+at-most-requires-3 : tie.Need-at-most-requires-3
+at-most-requires-3 c κs = search needs
 
 bit-unless-requires-3 : tie.Need-bit-unless-requires-3
 bit-unless-requires-3 c κs = search needs
@@ -39,8 +39,8 @@ bit-unless-requires-3 c κs = search needs
 add-result-2 : tie.Need-add-result-2
 add-result-2 c = search needs
 
-limit-kept-requires-4 : tie.Need-limit-kept-requires-4
-limit-kept-requires-4 c κs = search needs
+at-most-requires-4 : tie.Need-at-most-requires-4
+at-most-requires-4 c κs = search needs
 
 bit-unless-requires-4 : tie.Need-bit-unless-requires-4
 bit-unless-requires-4 c κs = search needs
@@ -48,8 +48,8 @@ bit-unless-requires-4 c κs = search needs
 add-result-3 : tie.Need-add-result-3
 add-result-3 c = search needs
 
-limit-kept-requires-5 : tie.Need-limit-kept-requires-5
-limit-kept-requires-5 c κs = search needs
+at-most-requires-5 : tie.Need-at-most-requires-5
+at-most-requires-5 c κs = search needs
 
 bit-unless-requires-5 : tie.Need-bit-unless-requires-5
 bit-unless-requires-5 c κs = search needs
@@ -59,7 +59,7 @@ add-result-4 c = search needs
 
 returns : tie.Need-returns
 unfolding failingWord onTests
-returns c = (omega (arith, marked 7 (c .before .before .before .before .before .before .before .before .bit-unless .ensures .0) (c .before .before .before .before .before .before .before .before .before .limit-kept .ensures), marked 8 (c .before .before .before .before .before .before .bit-unless2 .ensures .0) (c .before .before .before .before .before .before .before .limit-kept2 .ensures), marked 9 (c .before .before .before .before .bit-unless3 .ensures .0) (c .before .before .before .before .before .limit-kept3 .ensures), marked 10 (c .before .before .bit-unless4 .ensures .0) (c .before .before .before .limit-kept4 .ensures), marked 11 (c .bit-unless5 .ensures .0) (c .before .limit-kept5 .ensures)), search needs)
+returns c = (omega (arith, marked 7 (c .before .before .before .before .before .before .before .before .bit-unless .ensures .0) (c .before .before .before .before .before .before .before .before .before .at-most .ensures), marked 8 (c .before .before .before .before .before .before .bit-unless2 .ensures .0) (c .before .before .before .before .before .before .before .at-most2 .ensures), marked 9 (c .before .before .before .before .bit-unless3 .ensures .0) (c .before .before .before .before .before .at-most3 .ensures), marked 10 (c .before .before .bit-unless4 .ensures .0) (c .before .before .before .at-most4 .ensures), marked 11 (c .bit-unless5 .ensures .0) (c .before .at-most5 .ensures)), search needs)
 
 pub on-rules-spec : {M : Type 1} → statement M
-on-rules-spec = tie.close (tie.spec add-two add-ups add-downs limit-kept-requires bit-unless-requires limit-kept-requires-2 bit-unless-requires-2 add-result limit-kept-requires-3 bit-unless-requires-3 add-result-2 limit-kept-requires-4 bit-unless-requires-4 add-result-3 limit-kept-requires-5 bit-unless-requires-5 add-result-4 returns)
+on-rules-spec = tie.close (tie.spec add-two add-ups add-downs at-most-requires bit-unless-requires at-most-requires-2 bit-unless-requires-2 add-result at-most-requires-3 bit-unless-requires-3 add-result-2 at-most-requires-4 bit-unless-requires-4 add-result-3 at-most-requires-5 bit-unless-requires-5 add-result-4 returns)

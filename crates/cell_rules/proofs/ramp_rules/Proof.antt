@@ -6,20 +6,8 @@ use borrow.Author.Needs.{needs}
 use Rattle.cell_rules.proofs.ramp_rules.Statement.{statement}
 use Rattle.cell_rules.proofs.ramp_rules.Tie as tie
 
-element-copy-out-rise-kept : tie.Need-element-copy-out-rise-kept
-element-copy-out-rise-kept c = search needs
-
-element-copy-out-rise-kept-2 : tie.Need-element-copy-out-rise-kept-2
-element-copy-out-rise-kept-2 c = search needs
-
 rise-kept-requires : tie.Need-rise-kept-requires
 rise-kept-requires c κs = search needs
-
-element-copy-out-fall-kept : tie.Need-element-copy-out-fall-kept
-element-copy-out-fall-kept c = search needs
-
-element-copy-out-fall-kept-2 : tie.Need-element-copy-out-fall-kept-2
-element-copy-out-fall-kept-2 c = search needs
 
 fall-kept-requires : tie.Need-fall-kept-requires
 fall-kept-requires c κs = search needs
@@ -35,7 +23,7 @@ add-result c = search needs
 
 returns : tie.Need-returns
 unfolding failingWord rampTests
-returns c = (omega (arith, marked 5 (c .before .bit-unless .ensures .0) (c .before .before .before .before .before .rise-kept .ensures), marked 6 (c .bit-unless2 .ensures .0) (c .before .before .fall-kept .ensures)), search needs)
+returns c = (omega (arith, marked 5 (c .before .bit-unless .ensures .0) (c .before .before .before .rise-kept .ensures), marked 6 (c .bit-unless2 .ensures .0) (c .before .before .fall-kept .ensures)), search needs)
 
 pub ramp-rules-spec : {M : Type 1} → statement M
-ramp-rules-spec = tie.close (tie.spec element-copy-out-rise-kept element-copy-out-rise-kept-2 rise-kept-requires element-copy-out-fall-kept element-copy-out-fall-kept-2 fall-kept-requires bit-unless-requires bit-unless-requires-2 add-result returns)
+ramp-rules-spec = tie.close (tie.spec rise-kept-requires fall-kept-requires bit-unless-requires bit-unless-requires-2 add-result returns)
