@@ -43,6 +43,12 @@ fn above(a: u64, b: u64) -> u64
     if b <= a { a - b } else { 0 }
 }
 
+fn apart_in_32(a: u32, b: u32) -> u32
+    ensures { λ r. ⌜ r ≡ (a - b) + (b - a) ⌝ }
+{
+    if b <= a { a - b } else { b - a }
+}
+
 fn above_in_32(a: u32, b: u32) -> u32
     ensures { λ r. ⌜ r ≡ a - b ⌝ }
 {
@@ -69,6 +75,13 @@ impl Kw {
         ensures { λ r. ⌜ r .0 ≡ self .0 - other .0 ⌝ }
     {
         Kw(above_in_32(self.0, other.0))
+    }
+
+    // How far it is from another.
+    pub fn apart(self, other: Kw) -> Kw
+        ensures { λ r. ⌜ r .0 ≡ (self .0 - other .0) + (other .0 - self .0) ⌝ }
+    {
+        Kw(apart_in_32(self.0, other.0))
     }
 
     pub fn least(self, other: Kw) -> Kw
