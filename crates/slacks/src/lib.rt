@@ -20,7 +20,9 @@ ghost use Rattle.units.specs.Units.{watts};
 ghost use Rattle.records.specs.Figures.{inZone};
 ghost use Rattle.records.specs.Views.{mostPower, lastMinute, eightIn};
 ghost use Rattle.slacks.specs.Sides.{Powered, withSide, sidesTo, mismatchOf};
-ghost use Rattle.slacks.specs.Sums.{SumsOf, withMember, Stood, DeviceAdded, Zoned, SumsSo};
+ghost use Rattle.slacks.specs.Needs.{Thousandths, requiredOf, needsOf, zoneNeeds};
+ghost use Rattle.slacks.specs.Energies.{minutesOf, Running, energyTo, overOf};
+ghost use Rattle.slacks.specs.Sums.{sumsTo, SumsOf, withMember, Stood, DeviceAdded, Zoned, SumsSo};
 
 // The powers of the consuming and the producing devices.
 pub struct Sides {
@@ -172,4 +174,101 @@ fn zone_sums(
         i += 1;
     }
     s
+}
+
+// What a zone requires against its load and its largest unit: rgu; rgd; scr, which includes rgu; nsc, which includes both.
+fn required(zone: Zone, load: Kw, unit: Kw) -> [Watts; 4]
+    requires { ⌜ Thousandths zone × (load .0 ≤ 64 * mostPower) × (unit .0 ≤ mostPower) ⌝ }
+    ensures { λ r. ⌜ r ≡ requiredOf zone (load .0) (unit .0) ⌝ }
+{
+    let up = load.share(zone.rgu);
+    let down = load.share(zone.rgd);
+    let spinning = up.plus(unit.share(zone.scr));
+    let standing = spinning.plus(unit.share(zone.nsc));
+    [up, down, spinning, standing]
+}
+
+// What is required above what is held.
+fn short_of(required: Watts, held: Kw) -> Watts
+    ensures { λ r. ⌜ r .0 ≡ required .0 - 1000 * held .0 ⌝ }
+{
+    required.less(held.in_watts())
+}
+
+// The six needs: "rgu+scr required − 1000·(rgu+scr); rgu+scr+nsc likewise".
+fn zone_needs(required: [Watts; 4], s: ZoneSums, least: Minima) -> [Watts; 6]
+    requires { ⌜ SumsOf 64 s ⌝ }
+    ensures { λ r. ⌜ r ≡ needsOf required s least ⌝ }
+{
+    let spinning = s.rgu.plus(s.scr);
+    let standing = spinning.plus(s.nsc);
+    let a = short_of(required[0], s.rgu);
+    let b = short_of(required[1], s.rgd);
+    let c = short_of(required[2], spinning);
+    let d = short_of(required[3], standing);
+    let e = short_of(least.rru.in_watts(), s.rru);
+    let f = short_of(least.rrd.in_watts(), s.rrd);
+    [a, b, c, d, e, f]
+}
+
+// The shortfalls of zone z in interval t of m, each at its need, in the order of their prices.
+pub fn shortfalls(
+    zone: Zone,
+    least: Minima,
+    devices: &[DeviceRow],
+    settings: &[SettingRow],
+    powers: &[u32],
+    m: usize,
+    t: usize,
+    z: usize,
+) -> [Watts; 6]
+    requires { ⌜ Thousandths zone × Zoned (length (now devices)) m t (now settings) (now powers) × (z < 4) ⌝ }
+    ensures { λ r. ⌜ r ≡ zoneNeeds zone least (sumsTo (now (devices .entry)) (now (settings .entry)) (now (powers .entry)) m t z (length (now (devices .entry)))) ⌝ }
+{
+    let s = zone_sums(devices, settings, powers, m, t, z);
+    let needed = required(zone, s.load, s.unit);
+    zone_needs(needed, s, least)
+}
+
+// The minutes of an interval that count in a window: "window start < M ≤ window end".
+fn minutes_in(w: EnergyWindow, start: u32, half: u32) -> u32
+    requires { ⌜ (start ≤ lastMinute) × (half ≤ 180) ⌝ }
+    ensures { λ r. ⌜ (r ≡ minutesOf w start half) × (r ≤ 360) ⌝ }
+{
+    let middle = start + half;
+    if w.from < middle {
+        if middle <= w.until {
+            return 2 * half;
+        }
+    }
+    0
+}
+
+// A device's energy in a window, over its part of the powers.
+fn energy_in(w: EnergyWindow, halves: &[u32], starts: &[u32], powers: &[u32]) -> KwMin
+    requires { ⌜ Running (now halves) (now starts) (now powers) ⌝ }
+    ensures { λ r. ⌜ r .0 ≡ energyTo w (now (halves .entry)) (now (starts .entry)) (now (powers .entry)) (length (now (halves .entry))) ⌝ }
+{
+    let mut energy = KwMin(0);
+    let mut t = 0;
+    while t < halves.len() {
+        let minutes = minutes_in(w, starts[t], halves[t]);
+        energy = energy.plus(Kw(powers[t]).over(minutes));
+        t += 1;
+    }
+    energy
+}
+
+// A window's overrun: "above a maximum or below a minimum", at its need, over a device's part of the powers.
+pub fn overrun(w: EnergyWindow, halves: &[u32], starts: &[u32], powers: &[u32]) -> KwMin
+    requires { ⌜ Running (now halves) (now starts) (now powers) ⌝ }
+    ensures { λ r. ⌜ r .0 ≡ overOf w (energyTo w (now (halves .entry)) (now (starts .entry)) (now (powers .entry)) (length (now (halves .entry)))) ⌝ }
+{
+    let energy = energy_in(w, halves, starts, powers);
+    let limit = w.energy;
+    if w.kind == 0 {
+        energy.less(limit)
+    } else {
+        limit.less(energy)
+    }
 }

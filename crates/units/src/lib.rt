@@ -109,6 +109,13 @@ impl Kw {
         KwMin(product(self.0, minutes))
     }
 
+    // The same power.
+    pub fn in_watts(self) -> Watts
+        ensures { λ r. ⌜ r .0 ≡ 1000 * self .0 ⌝ }
+    {
+        Watts(product(1000, self.0))
+    }
+
     // Some thousandths of it.
     pub fn share(self, thousandths: u32) -> Watts
         ensures { λ r. ⌜ r .0 ≡ thousandths * self .0 ⌝ }
