@@ -1,20 +1,18 @@
 -- Our choices for one device in one interval, from its records and its settings.
 use mathlib.Core.Path.{_≡_, refl, sym, ap, ap₂, _∙_}
-use mathlib.Core.Logic.{_⊎_, inl, inr}
 use mathlib.Core.Bool.{Bool}
 use mathlib.Core.List.{List, map}
-use Prim.Native.Nat.{ℕ, zero, suc, _+_, _≤_, _<_}
+use Prim.Native.Nat.{ℕ, zero, suc, _≤_}
 use native.Mathlib.Omega.{arith}
 use lib.Dec.{leb, eqb}
-use lib.ListN.{getD, length}
+use lib.ListN.{length}
 use lib.IntN.{ℤ, pos}
 use Rattle.numbers.specs.State.{best}
 use Rattle.bits.specs.Pick.{pick}
 use Rattle.model.specs.Base.{range}
-use Rattle.model.specs.Case.{System, Plan, Case}
 use Rattle.model.specs.Forced.{device, consuming, cap, su, power, downtime}
 use Rattle.model.specs.Rules.{blocks}
-use Rattle.model.specs.Completion.{stateCost, blockPrice, devicePrices}
+use Rattle.model.specs.Completion.{stateCost, blockPrice}
 use Rattle.model.specs.Ours.{filling, lasts, bestState, ours}
 use Rattle.model.specs.Tests.{all-range}
 use Rattle.units.specs.declared.Kw.{Kw}
@@ -22,7 +20,7 @@ use Rattle.units.specs.Units.{kw}
 use Rattle.records.specs.declared.Cell.{Cell}
 use Rattle.records.specs.declared.Device.{Device}
 use Rattle.records.specs.Figures.{startedAt, stoppedAt}
-use Rattle.records.specs.Views.{less, priceOffset}
+use Rattle.records.specs.Views.{priceOffset}
 use Rattle.records.specs.Viewed as Viewed
 use Rattle.block_fill.specs.Filled.{Filled, priceOf, capOf, Alike, filling-same, filling-caps, four-same}
 use Rattle.choices.specs.declared.Choice.{Choice}

@@ -2,3 +2,4 @@ pub mod Cells
 pub mod States
 pub mod Rests
 pub mod Choices
+pub mod Here

@@ -1,5 +1,5 @@
 -- What shortfalls, mismatches and overruns cost.
-use mathlib.Core.Path.{_≡_, sym, ap, ap₂, subst, _∙_}
+use mathlib.Core.Path.{_≡_, sym, ap, ap₂, _∙_}
 use mathlib.Core.List.{List, [], map}
 use Prim.Native.Nat.{ℕ, zero, suc, _+_, _*_, _≤_, _<_}
 use native.Mathlib.Omega.{arith}
@@ -10,7 +10,7 @@ use Rattle.numbers.specs.Laws.{maxZero}
 use Rattle.units.specs.declared.Watts.{Watts}
 use Rattle.units.specs.declared.Ledger.{Ledger}
 use Rattle.units.specs.Units.{watts, Ledgered}
-use Rattle.model.specs.Case.{System, Plan, Case, Six, noSix}
+use Rattle.model.specs.Case.{System, Plan, Case, Six}
 use Rattle.model.specs.Forced as F
 use Rattle.model.specs.Completion.{Shortfall, shortfalls, shortfallNeed, mismatchNeed, overrunNeed, shortfallCost, mismatchCost}
 use Rattle.model.specs.Completion as C

@@ -39,6 +39,10 @@ module _ (f : ℕ → ℤ) where
   pub entries-next : (n b : ℕ) {l m r : Ledger} → Entered l m (sumℤ f (upTo n)) (n * b) → Entered m r (f n) b → Entered l r (sumℤ f (upTo (n + 1))) ((n + 1) * b)
   entries-next n b h k = entered-as (entered-then h k) (sym (sum-last n)) (omega arith)
 
+  -- all of a loop's entries
+  pub entries-done : (k n b : ℕ) {l r : Ledger} → k ≤ n → n ≤ k → Entered l r (sumℤ f (upTo k)) (k * b) → Entered l r (sumℤ f (upTo n)) (n * b)
+  entries-done k n b h i e = let s : k ≡ n = omega arith in rw s at e
+
 -- ---- the day
 
 module _ (c : Case) (p : Plan) where

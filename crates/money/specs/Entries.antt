@@ -1,13 +1,13 @@
 -- Entries in a ledger: what an entry adds to the balance, and how far credit and debit grow.
 use mathlib.Core.Path.{_≡_, ap, _∙_}
-use Prim.Native.Nat.{ℕ, _+_, _^_, _≤_, _<_}
+use Prim.Native.Nat.{ℕ, _+_, _≤_, _<_}
 use native.Mathlib.Omega.{arith}
 use lib.IntN.{ℤ, pos, negℤ, _+ℤ_}
 use Rattle.numbers.specs.Z.{at, nat, _⊕_, _⊝_, neg, by≡}
 use Rattle.numbers.specs.Laws as L
 use Rattle.units.specs.Units.{balanceOf, Ledgered}
 use Rattle.units.specs.declared.Ledger.{Ledger}
-use Rattle.money.specs.Bounds.{roomMost}
+use Rattle.money.specs.Bounds.{roomMost, dayMost, day-fits}
 
 -- from l to r: z more in balance, and at most n more in credit and in debit
 pub record Entered (l r : Ledger) (z : ℤ) (n : ℕ) : Type 0 where
@@ -22,6 +22,25 @@ pub record Room (n : ℕ) (l : Ledger) : Type 0 where
 
 pub room-after : (n k m : ℕ) {l r : Ledger} {z : ℤ} → Room n l → Entered l r z k → n + k ≤ m → Room m r
 room-after n k m h e le = record { credit = omega (arith, h .credit, e .credit); debit = omega (arith, h .debit, e .debit) }
+
+-- entries of at most n more fit
+pub record Spare (n : ℕ) (l : Ledger) : Type 0 where
+  pub credit : l .credit .0 + n < roomMost
+  pub debit : l .debit .0 + n < roomMost
+
+-- an empty ledger has room for a day
+pub spare-none : {l : Ledger} → Ledgered l 0 0 → Spare dayMost l
+spare-none e = record { credit = omega (arith, e .credits, day-fits); debit = omega (arith, e .debits, day-fits) }
+
+-- after entries of at most k, those of at most m more fit where k + m did
+pub spare-after : (n k m : ℕ) {l r : Ledger} {z : ℤ} → Spare n l → Entered l r z k → k + m ≤ n → Spare m r
+spare-after n k m s e h = record { credit = omega (arith, s .credit, e .credit); debit = omega (arith, s .debit, e .debit) }
+
+pub spare-less : (n m : ℕ) {l : Ledger} → Spare n l → m ≤ n → Spare m l
+spare-less n m s h = record { credit = omega (arith, s .credit); debit = omega (arith, s .debit) }
+
+pub spare-room : (n : ℕ) {l : Ledger} → Spare n l → Room 0 l
+spare-room n s = record { credit = omega (arith, s .credit); debit = omega (arith, s .debit) }
 
 pub entered-none : (l : Ledger) → Entered l l (pos 0) 0
 entered-none l = record { balance = by≡ (at (balanceOf l)) (at (balanceOf l) ⊕ nat 0) (omega arith); credit = omega arith; debit = omega arith }

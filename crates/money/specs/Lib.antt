@@ -8,3 +8,4 @@ pub mod Ruled
 pub mod Terms
 pub mod Charges
 pub mod Day
+pub mod Here

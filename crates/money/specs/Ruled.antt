@@ -2,7 +2,7 @@
 use mathlib.Core.Path.{_≡_, refl, sym, ap, subst, _∙_}
 use mathlib.Core.Logic.{_⊎_, inl, inr}
 use mathlib.Core.Bool.{Bool, true, false}
-use mathlib.Core.List.{List, [], _∷_, map}
+use mathlib.Core.List.{List, [], map}
 use Prim.Native.Nat.{ℕ, zero, suc, _+_, _-_, _*_, _≤_, _<_}
 use native.Mathlib.Omega.{arith}
 use lib.Dec.{T, ltb, eqb}
@@ -15,30 +15,28 @@ use Rattle.bits.specs.Pick.{pick}
 use Rattle.units.specs.declared.Kw.{Kw}
 use Rattle.units.specs.Units.{kw}
 use Rattle.model.specs.Base.{range}
-use Rattle.model.specs.Case as M
 use Rattle.model.specs.Case.{System, Plan, Case}
-use Rattle.model.specs.Forced.{intervals, devices, device, consuming, cap, u, uBefore, su, sd, power, duration}
+use Rattle.model.specs.Forced.{devices, device, consuming, cap, u, uBefore, su, sd, power, duration}
 use Rattle.model.specs.Rules.{blocks, EveryRule}
 use Rattle.model.specs.Completion.{cellPrices, blockPrice, stateCost}
 use Rattle.model.specs.Ours.{ours, bestState, lasts}
 use Rattle.model.specs.Best.{filling-cap}
 use Rattle.model.specs.Tests.{all-range}
-use Rattle.model.specs.Ranges.{CellRange, CellPriceRange, SettingRange}
-use Rattle.model.specs.Sizes.{all-or, all-getD, power-bound, bit-le}
+use Rattle.model.specs.Ranges.{CellPriceRange, SettingRange}
+use Rattle.model.specs.Sizes.{all-or, power-bound, bit-le}
 use Rattle.records.specs.declared.Cell.{Cell}
 use Rattle.records.specs.declared.Device.{Device}
 use Rattle.records.specs.declared.Setting.{Setting}
-use Rattle.records.specs.Figures.{cellOf, settingOf}
+use Rattle.records.specs.Figures.{settingOf}
 use Rattle.records.specs.Parts.{part}
-use Rattle.records.specs.Views.{less, priceOffset, costOffset, numberOf, cellIn, cellPricesIn, settingIn}
+use Rattle.records.specs.Views.{less, priceOffset, numberOf, cellPricesIn, settingIn}
 use Rattle.records.specs.Viewed as Viewed
-use Rattle.records.specs.Viewed.{noState}
 use Rattle.records.specs.Ranged as Ranged
 use Rattle.choices.specs.declared.Choice.{Choice}
 use Rattle.choices.specs.Cells as Cells
 use Rattle.choices.specs.Cells.{CellOf, systemOf, planOf, caseOf}
 use Rattle.choices.specs.Choices.{ChoiceOf, states-are}
-use Rattle.money.specs.Bounds.{powerMost, minutesMost, priceMost, keptMost, costMost}
+use Rattle.money.specs.Bounds.{powerMost, minutesMost, priceMost}
 use Rattle.money.specs.Worth.{Priced, FourPriced}
 use Rattle.money.specs.Costs.{CostsBelow, StateBelow, AmountsBelow, PricesBelow}
 use Rattle.money.specs.Unbroken.{plan-range, system-range}

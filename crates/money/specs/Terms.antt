@@ -2,8 +2,8 @@
 use mathlib.Core.Path.{_≡_, refl, sym, ap, ap₂, _∙_}
 use mathlib.Core.Logic.{_⊎_, inl, inr}
 use mathlib.Core.Bool.{Bool, true, false}
-use mathlib.Core.List.{List, []}
-use Prim.Native.Nat.{ℕ, _+_, _*_, _≤_, _<_}
+use mathlib.Core.List.{[]}
+use Prim.Native.Nat.{ℕ, _+_, _*_, _<_}
 use native.Mathlib.Omega.{arith}
 use native.Mathlib.Nat.{mul-zero}
 use lib.Dec.{eqb}
@@ -16,16 +16,14 @@ use Rattle.units.specs.declared.Ledger.{Ledger}
 use Rattle.model.specs.Base.{range}
 use Rattle.model.specs.Case as M
 use Rattle.model.specs.Case.{System, Plan, Case}
-use Rattle.model.specs.Forced.{consuming, duration, power, cap, setting}
+use Rattle.model.specs.Forced.{consuming, power, cap, setting}
 use Rattle.model.specs.Rules.{blocks}
-use Rattle.model.specs.Completion.{Completion, bySide, devicePrices, cellPrices, blockPrice, reserveCost, blockWorth, onCost, changeCost, reservesCost}
+use Rattle.model.specs.Completion.{Completion, bySide, cellPrices, blockPrice, reserveCost, blockWorth, onCost, changeCost, reservesCost}
 use Rattle.model.specs.Ours.{ours, whole, bestState}
 use Rattle.records.specs.declared.Cell.{Cell}
 use Rattle.records.specs.declared.Device.{Device}
 use Rattle.records.specs.declared.Setting.{Setting}
-use Rattle.records.specs.declared.Reserves.{Reserves}
-use Rattle.records.specs.declared.ReservePrices.{ReservePrices}
-use Rattle.records.specs.Views.{less, priceOffset, numberOf, eightIn, eightPricesIn, settingIn, devicePricesIn}
+use Rattle.records.specs.Views.{less, priceOffset, eightIn, eightPricesIn, settingIn, devicePricesIn}
 use Rattle.records.specs.Viewed as Viewed
 use Rattle.block_fill.specs.Filled.{filling-total}
 use Rattle.choices.specs.declared.Choice.{Choice}

@@ -1,11 +1,10 @@
 -- A decoded case and a plan that breaks no rule.
-use mathlib.Core.Path.{_≡_, sym, _∙_}
+use mathlib.Core.Path.{sym, _∙_}
 use mathlib.Core.List.{List, [], _∷_, _++_}
 use Prim.Native.Nat.{ℕ, zero, suc, _≤_, _<_}
 use native.Mathlib.Omega.{arith}
 use lib.ListN.{length}
 use Rattle.numbers.specs.Sum.{All}
-use Rattle.model.specs.Case.{System, Plan, Case}
 use Rattle.model.specs.Forced as F
 use Rattle.model.specs.Rules.{EveryRule}
 use Rattle.model.specs.Ranges.{SystemRange, PlanRange, SettingRange}

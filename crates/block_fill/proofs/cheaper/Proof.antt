@@ -1,6 +1,5 @@
 -- Which of two blocks goes first, by the tests on the way.
 use borrow.Author.Tests.{lt-ltb, le-ltb}
-use borrow.Author.Needs.{needs}
 use Rattle.block_fill.proofs.cheaper.Statement.{statement}
 use Rattle.block_fill.proofs.cheaper.Tie as tie
 

@@ -1,6 +1,6 @@
 -- The invariant: no interval from k to t is on. The measure is k.
 use Prim.Native.Nat.{_≤_}
-use mathlib.Core.Path.{refl, sym, _∙_}
+use mathlib.Core.Path.{sym, _∙_}
 use native.Mathlib.Omega.{arith}
 use Rattle.choices.specs.Rests.{Off, off-next, off-found, off-none}
 use borrow.Author.Needs.{needs}

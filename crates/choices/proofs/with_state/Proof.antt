@@ -1,6 +1,5 @@
 -- By the two tests.
 use borrow.Author.Tests.{lt-ltb, le-ltb, le-leb, lt-leb}
-use borrow.Author.Needs.{needs}
 use Rattle.choices.proofs.with_state.Statement.{statement}
 use Rattle.choices.proofs.with_state.Tie as tie
 

@@ -3,7 +3,6 @@ use mathlib.Core.Logic.{inr}
 use native.Mathlib.Omega.{arith}
 use borrow.Author.Tests.{eq-eqb, ne-eqb}
 use Rattle.money.specs.Worth.{valueOf, trade-consuming, trade-producing}
-use borrow.Author.Needs.{needs}
 use Rattle.money.proofs.blocks_money.Statement.{statement}
 use Rattle.money.proofs.blocks_money.Tie as tie
 

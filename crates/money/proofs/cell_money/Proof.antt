@@ -5,7 +5,6 @@ use Rattle.money.specs.Bounds.{tradeMost, onMost, changeMost}
 use Rattle.money.specs.Entries.{room-after}
 use Rattle.money.specs.Ruled as R
 use Rattle.money.specs.Terms.{cell-entered}
-use borrow.Author.Needs.{needs}
 use Rattle.money.proofs.cell_money.Statement.{statement}
 use Rattle.money.proofs.cell_money.Tie as tie
 

@@ -4,7 +4,6 @@ use native.Mathlib.Omega.{arith}
 use Prim.Native.Nat.{_*_}
 use Rattle.money.specs.Bounds.{valueMost}
 use Rattle.money.specs.Worth.{four-added}
-use borrow.Author.Needs.{needs}
 use Rattle.money.proofs.first_four.Statement.{statement}
 use Rattle.money.proofs.first_four.Tie as tie
 

@@ -1,7 +1,6 @@
 -- Below 2^44 kW·min at a price below 2^20.
 use native.Mathlib.Omega.{arith}
 use Rattle.money.specs.Charges.{overrun-price, overrun-energy, overrun-cost, overrun-entered}
-use borrow.Author.Needs.{needs}
 use Rattle.money.proofs.overrun_money.Statement.{statement}
 use Rattle.money.proofs.overrun_money.Tie as tie
 

@@ -3,7 +3,6 @@ use native.Mathlib.Omega.{arith}
 use Rattle.money.specs.Bounds.{reservesMost}
 use Rattle.money.specs.Entries.{spent-as}
 use Rattle.money.specs.Costs.{eight-cost}
-use borrow.Author.Needs.{needs}
 use Rattle.money.proofs.reserves_money.Statement.{statement}
 use Rattle.money.proofs.reserves_money.Tie as tie
 

@@ -1,5 +1,4 @@
 -- Below 2^36 W at a price below 2^14 over fewer than 2^14 minutes.
-use native.Mathlib.Omega.{arith}
 use Rattle.money.specs.Charges.{short-small}
 use borrow.Author.Needs.{needs}
 use Rattle.money.proofs.short_cost.Statement.{statement}

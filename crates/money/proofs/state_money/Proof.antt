@@ -1,5 +1,4 @@
 -- The offset earned and the kept cost spent.
-use mathlib.Core.Path.{_∙_}
 use native.Mathlib.Omega.{arith}
 use Rattle.money.specs.Costs.{cost-known, no-state, state-cost}
 use borrow.Author.Needs.{needs}

@@ -1,7 +1,6 @@
 -- The six, spent at once, for whatever zone the record is of.
 use native.Mathlib.Omega.{arith}
 use Rattle.money.specs.Charges.{zone-minutes, six-small, zone-entered}
-use borrow.Author.Needs.{needs}
 use Rattle.money.proofs.zone_money.Statement.{statement}
 use Rattle.money.proofs.zone_money.Tie as tie
 
