@@ -9,13 +9,17 @@ ghost use Rattle.units.specs.Units.{kw};
 ghost use Rattle.model.specs.Base.{implies};
 ghost use Rattle.model.specs.Breaches.{failing};
 ghost use Rattle.records.specs.Figures.{previousAt};
+ghost use Rattle.records.specs.Views.{mostIntervals};
 ghost use Rattle.cell_rules.specs.Word.{failingWord};
 ghost use Rattle.device_rules.specs.Apart.{Rising, changedAt, apartAt};
 ghost use Rattle.device_rules.specs.Moments.{momentAt, testsAt, Fits};
+ghost use Rattle.device_rules.specs.Whole.{AllFit, HeldTo};
+ghost use Rattle.device_rules.specs.Windows.{countedStart, startsAt};
 use cell_rules::Bounds;
 use cell_rules::Moment;
 use records::CellRow;
 use records::SettingRow;
+use records::StartWindow;
 use records::cell_at;
 use records::setting_at;
 use records::started_at;
@@ -159,4 +163,56 @@ pub fn held_at(
     let c = cell_at(cells, t);
     let s = setting_at(settings, t);
     cell_rules::held(d, c, s, w)
+}
+
+// Whether no rule of a device's intervals fails: true where each holds, and false says nothing.
+pub fn held_all(
+    d: Bounds,
+    power0: Kw,
+    halves: &[u32],
+    cells: &[CellRow],
+    settings: &[SettingRow],
+    starts: &[u32],
+    powers: &[u32],
+) -> bool
+    requires { ⌜ AllFit d (power0 .0) (now halves) (now cells) (now settings) (now starts) (now powers) ⌝ }
+    ensures { λ r. ⌜ (r ≡ true → HeldTo d (power0 .0) (now (halves .entry)) (now (cells .entry)) (now (settings .entry)) (now (starts .entry)) (now (powers .entry)) (length (now (halves .entry)))) ⌝ }
+{
+    let mut t = 0;
+    while t < halves.len() {
+        if !held_at(d, power0, halves, cells, settings, starts, powers, t) {
+            return false;
+        }
+        t += 1;
+    }
+    true
+}
+
+// A start with window start ≤ S < window end.
+fn counted_start(w: StartWindow, on0: u32, settings: &[SettingRow], starts: &[u32], t: usize) -> u32
+    requires { ⌜ (t < length (now settings)) × (t < length (now starts)) ⌝ }
+    ensures { λ r. ⌜ (r ≡ countedStart w on0 (now (settings .entry)) (now (starts .entry)) t) × (r ≤ 1) ⌝ }
+{
+    let start = starts[t];
+    if start < w.from {
+        return 0;
+    }
+    if w.until <= start {
+        return 0;
+    }
+    started_at(on0, settings, t)
+}
+
+// Rule 20: the starts in a window.
+pub fn starts_in(w: StartWindow, on0: u32, settings: &[SettingRow], starts: &[u32]) -> u32
+    requires { ⌜ (length (now settings) ≤ mostIntervals) × (length (now settings) ≤ length (now starts)) ⌝ }
+    ensures { λ r. ⌜ r ≡ startsAt w on0 (now (settings .entry)) (now (starts .entry)) ⌝ }
+{
+    let mut sum = 0;
+    let mut t = 0;
+    while t < settings.len() {
+        sum += counted_start(w, on0, settings, starts, t);
+        t += 1;
+    }
+    sum
 }
