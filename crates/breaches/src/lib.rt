@@ -289,15 +289,8 @@ fn device_held(
     let b = bounds_of(d);
     let e = a + halves.len();
     let own = &settings[a..e];
-    if !held_all(
-        b,
-        d.power0,
-        halves,
-        &cells[a..e],
-        own,
-        starts,
-        &powers[a..e],
-    ) {
+    let own_powers = &powers[a..e];
+    if !held_all(b, d.power0, halves, &cells[a..e], own, starts, own_powers) {
         return false;
     }
     let r = device_windows(d, own, starts, i);
@@ -346,6 +339,48 @@ pub fn no_breach(
     true
 }
 
+// Interval by interval, device by device; then the windows by device.
+fn exact_breach(
+    front: Front,
+    halves: &[u32],
+    zones: &[ZoneRow],
+    minima: &[MinimaRow],
+    devices: &[DeviceRow],
+    cells: &[CellRow],
+    settings: &[SettingRow],
+    starts: &[u32],
+    powers: &[u32],
+) -> Check
+    requires { ⌜ Ready front (now halves) (now zones) (now minima) (now devices) (now cells) (now settings) (now starts) (now powers) ⌝ }
+    ensures { λ r. ⌜ r ≡ first (breaches (systemIn (now (halves .entry)) (now (zones .entry)) (now (minima .entry)) (now (devices .entry)) (now (cells .entry))) (planIn (length (now (devices .entry))) (length (now (halves .entry))) (now (settings .entry)))) ⌝ }
+{
+    let r = day_rules(
+        front,
+        halves,
+        zones,
+        minima,
+        devices,
+        cells,
+        settings,
+        starts,
+        powers,
+    );
+    let Check::Held = r else {
+        return r;
+    };
+    window_rules(
+        front,
+        halves,
+        zones,
+        minima,
+        devices,
+        cells,
+        settings,
+        starts,
+        powers,
+    )
+}
+
 // The first broken rule: "Checked by interval, then device, then number. Rule 20 comes after all intervals, by device, then window."
 pub fn first_breach(
     front: Front,
@@ -374,21 +409,7 @@ pub fn first_breach(
     ) {
         return Check::Held;
     }
-    let r = day_rules(
-        front,
-        halves,
-        zones,
-        minima,
-        devices,
-        cells,
-        settings,
-        starts,
-        powers,
-    );
-    let Check::Held = r else {
-        return r;
-    };
-    window_rules(
+    exact_breach(
         front,
         halves,
         zones,

@@ -1,19 +1,16 @@
-// Rules 1 to 19 of one device in one interval, from its records: the word of those that fail, and a quick answer where none does.
+// Rules 1 to 19 of one device in one interval, from its records: the word of those that fail.
 ghost use mathlib.Core.Path.{_≡_};
-ghost use mathlib.Core.Bool.{true, _&&_};
-ghost use mathlib.Core.List.{[]};
+ghost use mathlib.Core.Bool.{_&&_};
 ghost use Prim.Native.Nat.{_+_, _-_, _*_, _^_, _<_, _≤_};
 ghost use lib.Dec.{leb, eqb, ltb};
 ghost use lib.IntN.{pos, _-ℤ_};
 ghost use lib.Signed.{leZ};
 ghost use Rattle.bits.specs.Pick.{pick};
 ghost use Rattle.model.specs.Base.{implies};
-ghost use Rattle.model.specs.Breaches.{failing};
 ghost use Rattle.records.specs.Views.{mostPower, lastMinute};
 ghost use Rattle.cell_rules.specs.Sign.{mayRise, mayFall};
 ghost use Rattle.cell_rules.specs.Word.{bitUnless, failingWord};
-ghost use Rattle.cell_rules.specs.Tests.{limitsOf, boundsOf, cap, roomOf, Sized, Small, stateTests, rampTests, onTests, offTests, powerTests, tests, ups, downs, offUps};
-ghost use Rattle.cell_rules.specs.Held.{OnLimits, OffLimits};
+ghost use Rattle.cell_rules.specs.Tests.{limitsOf, boundsOf, cap, roomOf, Sized, Small, stateTests, rampTests, onTests, offTests, powerTests, tests};
 use records::Cell;
 use records::Device;
 use records::Reserves;
@@ -89,7 +86,7 @@ fn bit_unless(kept: bool, rule: u32) -> u32
 }
 
 // Rule 1.
-fn status_kept(status: u32, on: u32) -> bool
+pub fn status_kept(status: u32, on: u32) -> bool
     ensures { λ r. ⌜ r ≡ (implies (eqb status 1) (eqb on 1) && implies (eqb status 2) (eqb on 0)) ⌝ }
 {
     if status == 1 {
@@ -113,7 +110,7 @@ fn state_kept(so: u32, least: u32, on: u32, on0: u32) -> bool
     if so < least { on == on0 } else { true }
 }
 
-fn initial_kept(d: Bounds, start: u32, on: u32) -> bool
+pub fn initial_kept(d: Bounds, start: u32, on: u32) -> bool
     requires { ⌜ (start ≤ lastMinute) × (d .minutes0 ≤ 60000) ⌝ }
     ensures { λ r. ⌜ r ≡ implies (ltb (start + d .minutes0) (pick (eqb (d .on0) 1) (d .minup) (d .mindown))) (eqb on (d .on0)) ⌝ }
 {
@@ -122,7 +119,7 @@ fn initial_kept(d: Bounds, start: u32, on: u32) -> bool
 }
 
 // Rule 5.
-fn rise_kept(
+pub fn rise_kept(
     power: Kw,
     previous: Kw,
     minutes: u32,
@@ -146,7 +143,7 @@ fn rise_kept(
 }
 
 // Rule 6.
-fn fall_kept(power: Kw, previous: Kw, minutes: u32, down: u32, stopping: u32, on: u32) -> bool
+pub fn fall_kept(power: Kw, previous: Kw, minutes: u32, down: u32, stopping: u32, on: u32) -> bool
     requires { ⌜ (power .0 ≤ mostPower) × (minutes ≤ 360) × (down ≤ 100000) × (stopping ≤ 100000) × (on ≤ 1) ⌝ }
     ensures { λ r. ⌜ r ≡ leZ (pos (previous .0) -ℤ pos (power .0)) (mayFall minutes down stopping on) ⌝ }
 {
@@ -166,7 +163,7 @@ fn at_most(x: Kw, limit: Kw, on: u32) -> bool
 }
 
 // The one for a consuming device, the other for a producing one.
-fn by_side(side: u32, consuming: Kw, producing: Kw) -> Kw
+pub fn by_side(side: u32, consuming: Kw, producing: Kw) -> Kw
     requires { ⌜ (consuming .0 ≤ 300000) × (producing .0 ≤ 300000) ⌝ }
     ensures { λ r. ⌜ (r .0 ≡ pick (eqb side 1) (consuming .0) (producing .0)) × (r .0 ≤ 300000) ⌝ }
 {
@@ -224,7 +221,7 @@ fn room_of(caps: [Kw; 4]) -> Kw
 }
 
 // Rule 19.
-fn room_kept(power: Kw, caps: [Kw; 4]) -> bool
+pub fn room_kept(power: Kw, caps: [Kw; 4]) -> bool
     requires { ⌜ (cap caps 0 ≤ 100000) × (cap caps 1 ≤ 100000) × (cap caps 2 ≤ 100000) × (cap caps 3 ≤ 100000) ⌝ }
     ensures { λ r. ⌜ r ≡ leb (power .0) (roomOf caps) ⌝ }
 {
@@ -318,164 +315,4 @@ pub fn failing_rules(d: Bounds, c: Cell, s: Setting, w: Moment) -> u32
         + on_rules(d, c, s, w)
         + off_rules(d, c, s, w)
         + power_rules(d, c, s, w)
-}
-
-// Quick answers: true where each rule of a group holds, and false says nothing. Rules 1 to 4.
-fn state_held(d: Bounds, c: Cell, s: Setting, w: Moment) -> bool
-    requires { ⌜ Sized c s w × Small d ⌝ }
-    ensures { λ r. ⌜ (r ≡ true → failing (stateTests d c s w) ≡ []) ⌝ }
-{
-    if !status_kept(c.status, s.on) {
-        return false;
-    }
-    if !initial_kept(d, w.start, s.on) {
-        return false;
-    }
-    if !w.rested {
-        return false;
-    }
-    w.ran
-}
-
-// Rules 5 and 6.
-fn ramps_held(d: Bounds, c: Cell, s: Setting, w: Moment) -> bool
-    requires { ⌜ Sized c s w × Small d ⌝ }
-    ensures { λ r. ⌜ (r ≡ true → failing (rampTests d c s w) ≡ []) ⌝ }
-{
-    if !rise_kept(
-        w.power,
-        w.previous,
-        w.minutes,
-        d.up,
-        d.starting,
-        s.on,
-        w.started,
-    ) {
-        return false;
-    }
-    fall_kept(w.power, w.previous, w.minutes, d.down, d.stopping, s.on)
-}
-
-// Rules 7 to 15 of a device that is on.
-fn on_limits_held(d: Bounds, c: Cell, s: Setting, w: Moment) -> bool
-    requires { ⌜ Sized c s w × (s .on ≡ 1) ⌝ }
-    ensures { λ r. ⌜ (r ≡ true → OnLimits d c s w) ⌝ }
-{
-    let e = s.reserves;
-    let two = e.rgu.0 + e.scr.0;
-    let ups = two + e.rruon.0;
-    let downs = e.rgd.0 + e.rrdon.0;
-    if 0 < e.nsc.0 + e.rruoff.0 + e.rrdoff.0 {
-        return false;
-    }
-    if !e.rgu.at_most(d.limits.rgu) {
-        return false;
-    }
-    if !e.rgd.at_most(d.limits.rgd) {
-        return false;
-    }
-    if !Kw(two).at_most(d.limits.scr) {
-        return false;
-    }
-    if !Kw(ups).at_most(d.limits.rruon) {
-        return false;
-    }
-    Kw(downs).at_most(d.limits.rrdon)
-}
-
-// The same of a device that is off.
-fn off_limits_held(d: Bounds, c: Cell, s: Setting, w: Moment) -> bool
-    requires { ⌜ Sized c s w × (s .on ≡ 0) ⌝ }
-    ensures { λ r. ⌜ (r ≡ true → OffLimits d c s w) ⌝ }
-{
-    let e = s.reserves;
-    let ups = e.rgu.0 + e.scr.0 + e.rruon.0;
-    let downs = e.rgd.0 + e.rrdon.0;
-    let standing = Kw(e.nsc.0 + e.rruoff.0);
-    let forbidden = by_side(d.side, standing, e.rrdoff);
-    if 0 < ups + downs + forbidden.0 {
-        return false;
-    }
-    if !e.nsc.at_most(d.limits.nsc) {
-        return false;
-    }
-    if !standing.at_most(d.limits.rruoff) {
-        return false;
-    }
-    e.rrdoff.at_most(d.limits.rrdoff)
-}
-
-// Rules 16 to 19 of a device that is on and holds no reserves of the other state.
-fn on_powers_held(d: Bounds, c: Cell, s: Setting, w: Moment) -> bool
-    requires { ⌜ Sized c s w × (s .on ≡ 1) × (offUps s + s .reserves .rrdoff .0 ≤ 0) ⌝ }
-    ensures { λ r. ⌜ (r ≡ true → failing (powerTests d c s w) ≡ []) ⌝ }
-{
-    let e = s.reserves;
-    let ups = Kw(e.rgu.0 + e.scr.0 + e.rruon.0);
-    let downs = Kw(e.rgd.0 + e.rrdon.0);
-    let raising = by_side(d.side, downs, ups);
-    let lowering = by_side(d.side, ups, downs);
-    let roof = s.online.0 + raising.0;
-    let floor = c.pmin.0 + lowering.0;
-    if c.pmax.0 < roof {
-        return false;
-    }
-    if s.online.0 < floor {
-        return false;
-    }
-    if s.online.0 < w.power.0 {
-        return false;
-    }
-    let caps = c.caps;
-    room_kept(w.power, caps)
-}
-
-// The same of a device that is off.
-fn off_powers_held(d: Bounds, c: Cell, s: Setting, w: Moment) -> bool
-    requires { ⌜ Sized c s w × (s .on ≡ 0) × (ups s + downs s ≤ 0) ⌝ }
-    ensures { λ r. ⌜ (r ≡ true → failing (powerTests d c s w) ≡ []) ⌝ }
-{
-    let e = s.reserves;
-    let standing = Kw(e.nsc.0 + e.rruoff.0);
-    let offline = by_side(d.side, e.rrdoff, standing);
-    let roof = w.power.0 + offline.0;
-    if 0 < s.online.0 {
-        return false;
-    }
-    if c.pmax.0 < roof {
-        return false;
-    }
-    let caps = c.caps;
-    room_kept(w.power, caps)
-}
-
-// Rules 7 to 19, by whether the device is on.
-fn amounts_held(d: Bounds, c: Cell, s: Setting, w: Moment) -> bool
-    requires { ⌜ Sized c s w ⌝ }
-    ensures { λ r. ⌜ (r ≡ true → (failing (onTests d c s w) ≡ []) × (failing (offTests d c s w) ≡ []) × (failing (powerTests d c s w) ≡ [])) ⌝ }
-{
-    if s.on == 1 {
-        if !on_limits_held(d, c, s, w) {
-            return false;
-        }
-        return on_powers_held(d, c, s, w);
-    }
-    if !off_limits_held(d, c, s, w) {
-        return false;
-    }
-    off_powers_held(d, c, s, w)
-}
-
-// Whether no rule of one device in one interval fails, in one go: true where each holds, and false says nothing.
-pub fn held(d: Bounds, c: Cell, s: Setting, w: Moment) -> bool
-    requires { ⌜ Sized c s w × Small d ⌝ }
-    ensures { λ r. ⌜ (r ≡ true → failing (tests d c s w) ≡ []) ⌝ }
-{
-    if !state_held(d, c, s, w) {
-        return false;
-    }
-    if !ramps_held(d, c, s, w) {
-        return false;
-    }
-    amounts_held(d, c, s, w)
 }

@@ -146,7 +146,7 @@ pub fn failing_at(
 }
 
 // Whether none fails, in one go: true where each holds, and false says nothing.
-pub fn held_at(
+fn held_at(
     d: Bounds,
     power0: Kw,
     halves: &[u32],
@@ -162,7 +162,7 @@ pub fn held_at(
     let w = moment_at(d, power0, halves, cells, settings, starts, powers, t);
     let c = cell_at(cells, t);
     let s = setting_at(settings, t);
-    cell_rules::held(d, c, s, w)
+    cell_held::held(d, c, s, w)
 }
 
 // Whether no rule of a device's intervals fails: true where each holds, and false says nothing.

@@ -4,7 +4,7 @@ use native.Mathlib.Omega.{arith}
 use mathlib.Core.Path.{_≡_}
 use borrow.Author.Tests.{not-false}
 use lib.ListN.{length}
-use Rattle.cell_rules.specs.Held.{no-way}
+use Rattle.cell_held.specs.Held.{no-way}
 use Rattle.records.specs.Parts.{next-part}
 use Rattle.records.specs.Views.{systemIn, planIn}
 use Rattle.records.specs.Viewed.{intervals-are, devices-are}

@@ -4,7 +4,7 @@ use native.Mathlib.Omega.{arith}
 use mathlib.Core.Path.{_≡_}
 use borrow.Author.Tests.{not-false}
 use lib.ListN.{length}
-use Rattle.cell_rules.specs.Held.{no-way}
+use Rattle.cell_held.specs.Held.{no-way}
 use Rattle.device_rules.specs.Whole.{HeldTo, held-none, held-next}
 use borrow.Author.Needs.{needs}
 use Rattle.device_rules.proofs.held_all.Statement.{statement}

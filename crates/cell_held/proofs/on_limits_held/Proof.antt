@@ -1,10 +1,10 @@
 -- Each limit in turn.
 use borrow.Author.Tests.{leb-true}
 use native.Mathlib.Omega.{arith}
-use Rattle.cell_rules.specs.Held.{no-way, passed, passed-last, on-limits}
+use Rattle.cell_held.specs.Held.{no-way, passed, passed-last, on-limits}
 use borrow.Author.Needs.{needs}
-use Rattle.cell_rules.proofs.on_limits_held.Statement.{statement}
-use Rattle.cell_rules.proofs.on_limits_held.Tie as tie
+use Rattle.cell_held.proofs.on_limits_held.Statement.{statement}
+use Rattle.cell_held.proofs.on_limits_held.Tie as tie
 
 add-two : tie.Need-add-two
 add-two c = search needs

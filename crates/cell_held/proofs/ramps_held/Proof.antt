@@ -1,10 +1,10 @@
 -- Rules 5 and 6 in turn.
 use Rattle.cell_rules.specs.Word.{no-test, test-holds}
 use Rattle.cell_rules.specs.Tests.{rampTests}
-use Rattle.cell_rules.specs.Held.{no-way, passed, passed-last}
+use Rattle.cell_held.specs.Held.{no-way, passed, passed-last}
 use borrow.Author.Needs.{needs}
-use Rattle.cell_rules.proofs.ramps_held.Statement.{statement}
-use Rattle.cell_rules.proofs.ramps_held.Tie as tie
+use Rattle.cell_held.proofs.ramps_held.Statement.{statement}
+use Rattle.cell_held.proofs.ramps_held.Tie as tie
 
 rise-kept-requires : tie.Need-rise-kept-requires
 rise-kept-requires c κs = search needs

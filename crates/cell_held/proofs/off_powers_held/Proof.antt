@@ -1,9 +1,9 @@
 -- No online power, the roof, room.
 use native.Mathlib.Omega.{arith}
-use Rattle.cell_rules.specs.Held.{no-way, passed-last, off-powers}
+use Rattle.cell_held.specs.Held.{no-way, passed-last, off-powers}
 use borrow.Author.Needs.{needs}
-use Rattle.cell_rules.proofs.off_powers_held.Statement.{statement}
-use Rattle.cell_rules.proofs.off_powers_held.Tie as tie
+use Rattle.cell_held.proofs.off_powers_held.Statement.{statement}
+use Rattle.cell_held.proofs.off_powers_held.Tie as tie
 
 add-t10 : tie.Need-add-t10
 add-t10 c = search needs

@@ -1,10 +1,10 @@
 -- Each limit in turn.
 use borrow.Author.Tests.{leb-true}
 use native.Mathlib.Omega.{arith}
-use Rattle.cell_rules.specs.Held.{no-way, passed, passed-last, off-limits}
+use Rattle.cell_held.specs.Held.{no-way, passed, passed-last, off-limits}
 use borrow.Author.Needs.{needs}
-use Rattle.cell_rules.proofs.off_limits_held.Statement.{statement}
-use Rattle.cell_rules.proofs.off_limits_held.Tie as tie
+use Rattle.cell_held.proofs.off_limits_held.Statement.{statement}
+use Rattle.cell_held.proofs.off_limits_held.Tie as tie
 
 add-ups : tie.Need-add-ups
 add-ups c = search needs

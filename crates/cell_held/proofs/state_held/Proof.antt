@@ -1,11 +1,11 @@
 -- Rules 1 to 4 in turn.
 use mathlib.Core.Path.{refl}
 use Rattle.cell_rules.specs.Word.{no-test, test-holds}
 use Rattle.cell_rules.specs.Tests.{stateTests}
-use Rattle.cell_rules.specs.Held.{no-way, passed}
+use Rattle.cell_held.specs.Held.{no-way, passed}
 use borrow.Author.Needs.{needs}
-use Rattle.cell_rules.proofs.state_held.Statement.{statement}
-use Rattle.cell_rules.proofs.state_held.Tie as tie
+use Rattle.cell_held.proofs.state_held.Statement.{statement}
+use Rattle.cell_held.proofs.state_held.Tie as tie
 
 status-kept-requires : tie.Need-status-kept-requires
 status-kept-requires c κs = search needs

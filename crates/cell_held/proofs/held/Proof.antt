@@ -1,9 +1,9 @@
 -- The groups in turn.
 use borrow.Author.Tests.{not-false}
-use Rattle.cell_rules.specs.Held.{no-way, tests-hold}
+use Rattle.cell_held.specs.Held.{no-way, tests-hold}
 use borrow.Author.Needs.{needs}
-use Rattle.cell_rules.proofs.held.Statement.{statement}
-use Rattle.cell_rules.proofs.held.Tie as tie
+use Rattle.cell_held.proofs.held.Statement.{statement}
+use Rattle.cell_held.proofs.held.Tie as tie
 
 state-held-requires : tie.Need-state-held-requires
 state-held-requires c κs = search needs

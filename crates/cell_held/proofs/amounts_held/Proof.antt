@@ -1,10 +1,10 @@
 -- Limits, then powers, while on or off.
 use native.Mathlib.Omega.{arith}
 use borrow.Author.Tests.{not-false}
-use Rattle.cell_rules.specs.Held.{no-way}
+use Rattle.cell_held.specs.Held.{no-way}
 use borrow.Author.Needs.{needs}
-use Rattle.cell_rules.proofs.amounts_held.Statement.{statement}
-use Rattle.cell_rules.proofs.amounts_held.Tie as tie
+use Rattle.cell_held.proofs.amounts_held.Statement.{statement}
+use Rattle.cell_held.proofs.amounts_held.Tie as tie
 
 on-limits-held-requires : tie.Need-on-limits-held-requires
 on-limits-held-requires c κs = search needs

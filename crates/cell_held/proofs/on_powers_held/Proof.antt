@@ -1,9 +1,9 @@
 -- Roof, floor, no forced power, room.
 use native.Mathlib.Omega.{arith}
-use Rattle.cell_rules.specs.Held.{no-way, passed-last, on-powers}
+use Rattle.cell_held.specs.Held.{no-way, passed-last, on-powers}
 use borrow.Author.Needs.{needs}
-use Rattle.cell_rules.proofs.on_powers_held.Statement.{statement}
-use Rattle.cell_rules.proofs.on_powers_held.Tie as tie
+use Rattle.cell_held.proofs.on_powers_held.Statement.{statement}
+use Rattle.cell_held.proofs.on_powers_held.Tie as tie
 
 add-t13 : tie.Need-add-t13
 add-t13 c = search needs
