@@ -19,6 +19,7 @@ use Rattle.model.specs.Case.{System, Plan, Case}
 use Rattle.model.specs.Forced.{consuming, power, cap, setting}
 use Rattle.model.specs.Rules.{blocks}
 use Rattle.model.specs.Completion.{Completion, bySide, cellPrices, blockPrice, reserveCost, blockWorth, onCost, changeCost, reservesCost}
+use Rattle.model.specs.Named.{rule19-holds}
 use Rattle.model.specs.Ours.{ours, whole, bestState}
 use Rattle.records.specs.declared.Cell.{Cell}
 use Rattle.records.specs.declared.Device.{Device}
@@ -86,7 +87,7 @@ module _ {d : Device} {cell : Cell} {s : Setting} {p minutes : ℕ} {x : Choice}
 
   total : sumℕ ourBlock blocks ≡ power q plan t i
   unfolding ours
-  total = filling-total (consuming q i) (blockPrice c t i) (cap q t i) (power q plan t i) (w .rules .cells t i (Cells.in-intervals (w .place)) (Cells.in-devices (w .place)) .rule19)
+  total = filling-total (consuming q i) (blockPrice c t i) (cap q t i) (power q plan t i) (rule19-holds q plan (w .rules) t i (Cells.in-intervals (w .place)) (Cells.in-devices (w .place)))
 
   abbrev kept : ℕ → ℕ
   kept k = getD (cell .prices) k 0
