@@ -20,10 +20,10 @@ use Rattle.records.specs.Viewed.{noStart}
 use Rattle.records.specs.declared.Device.{Device}
 use Rattle.records.specs.declared.Front.{Front}
 use Rattle.cell_rules.specs.declared.Bounds.{Bounds}
-use Rattle.cell_rules.specs.Word.{failingWord, numbersIn, word-bits}
-use Rattle.cell_rules.specs.Tests.{boundsOf, tests-rise}
-use Rattle.device_rules.specs.Moments.{testsAt, Fits, cellHere, settingHere, momentAt}
-use Rattle.device_rules.specs.Tie.{tests-here, fits-here}
+use Rattle.cell_rules.specs.Word.{failingWord, numbersIn}
+use Rattle.cell_rules.specs.Tests.{boundsOf}
+use Rattle.device_rules.specs.Moments.{testsAt, Fits}
+use Rattle.device_rules.specs.Tie.{tests-here, bits-here, fits-here}
 use Rattle.device_rules.specs.Whole.{AllFit, HeldTo}
 use Rattle.device_rules.specs.Windows.{startsAt, starts-are}
 use Rattle.breaches.specs.First.{first, breachAt}
@@ -69,7 +69,8 @@ pub record Place (a m : ℕ) (cells settings : List (List ℕ)) (powers : List �
   pub in-powers : a + m ≤ length powers
   pub small : a + m ≤ mostDevices * mostIntervals
 
-module _ {front : Front} {halves : List ℕ} {zones minima devices cells settings : List (List ℕ)} {starts powers : List ℕ} (ready : Ready front halves zones minima devices cells settings starts powers) (i a : ℕ) (l : i < length devices) (e : a ≡ i * length halves) where
+module _ {front : Front} {halves : List ℕ} {zones minima devices cells settings : List (List ℕ)} {starts powers : List ℕ}
+    (ready : Ready front halves zones minima devices cells settings starts powers) (i a : ℕ) (l : i < length devices) (e : a ≡ i * length halves) where
   pub place : Place a (length halves) cells settings powers
   place = let h = part-inside (length halves) i (length devices) l in record {
     in-cells = omega (arith, h, ready .case-rows .cells-full);
@@ -107,10 +108,10 @@ module _ {front : Front} {halves : List ℕ} {zones minima devices cells setting
     tests-cut t h = rw (at, is, part-cut m i a cells e, part-cut m i a settings e, part-cut m i a powers e) (tests-here ready i l t h)
 
     -- the word's first rule is the first of the cell's breaches
-    pub word-first : (t : ℕ) → t < length halves → {word : ℕ} {x : Check} → word ≡ failingWord (testsAt b (d .power0 .0) halves ownCells ownSettings starts ownPowers t) → x ≡ firstOf t i (numbersIn word)
-        → x ≡ first (cellBreaches q p t i)
-    unfolding firstOf cellBreaches testsAt
-    word-first t h f g = g ∙ rw (f, word-bits _ (tests-rise b (cellHere b (d .power0 .0) halves ownCells ownSettings starts ownPowers t) (settingHere b (d .power0 .0) halves ownCells ownSettings starts ownPowers t) (momentAt b (d .power0 .0) halves ownCells ownSettings starts ownPowers t)), tests-cut t h) refl
+    pub word-first : (t : ℕ) → t < length halves → {word : ℕ} {x : Check}
+        → word ≡ failingWord (testsAt b (d .power0 .0) halves ownCells ownSettings starts ownPowers t) → x ≡ firstOf t i (numbersIn word) → x ≡ first (cellBreaches q p t i)
+    unfolding firstOf cellBreaches
+    word-first t h {word} f g = g ∙ rw (bits-here ready i l t h {word = word} (rw (at, is, part-cut m i a cells e, part-cut m i a settings e, part-cut m i a powers e) at f)) refl
 
     -- no test fails
     pub none-here : HeldTo b (d .power0 .0) halves ownCells ownSettings starts ownPowers (length halves) → (t : ℕ) → t < length halves → cellBreaches q p t i ≡ []

@@ -69,7 +69,8 @@ unfolding range
 sum-range f g k zero h = refl
 sum-range f g k (suc n) h = ap₂ (λ (a b : ℕ). a + b) (h k (omega arith) (omega arith)) (sum-range f g (suc k) n (λ t l m. h t (omega arith) (omega arith)))
 
-module _ {front : Front} {halves : List ℕ} {zones minima devices cells settings : List (List ℕ)} {starts powers : List ℕ} (ready : Ready front halves zones minima devices cells settings starts powers) (i : ℕ) (l : i < length devices) where
+module _ {front : Front} {halves : List ℕ} {zones minima devices cells settings : List (List ℕ)} {starts powers : List ℕ}
+    (ready : Ready front halves zones minima devices cells settings starts powers) (i : ℕ) (l : i < length devices) where
   abbrev q : System
   q = systemIn halves zones minima devices cells
 
