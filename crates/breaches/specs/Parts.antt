@@ -1,10 +1,10 @@
 -- A device's parts as the code cuts them, from a on: they lie within the tables, and their tests and windows are the model's.
 use mathlib.Core.Path.{_≡_, refl, sym, ap, ap₂, _∙_}
-use mathlib.Core.Bool.{Bool, true, false}
+use mathlib.Core.Bool.{Bool, true, false, not}
 use mathlib.Core.List.{List, [], _∷_, _++_, map}
 use Prim.Native.Nat.{ℕ, zero, suc, _+_, _-_, _*_, _≤_, _<_}
 use native.Mathlib.Omega.{arith}
-use borrow.Author.Tests.{le-leb, lt-leb}
+use borrow.Author.Tests.{not-true, not-false}
 use lib.Dec.{leb}
 use lib.ListN.{getD, length, take, drop}
 use Rattle.model.specs.Base.{range, upTo, gather}
@@ -47,14 +47,14 @@ module _ (d : Device) (settings : List (List ℕ)) (starts : List ℕ) (i : ℕ)
   windowsHere = gather windowHere (upTo (d .nstarts))
 
   -- the test of one window, as the code makes it
-  module _ (w : ℕ) {n : ℕ} (e : n ≡ startsAt (getD (d .starts) w noStart) (d .on0) settings starts) where
-    pub window-held : n ≤ getD (d .starts) w noStart .most → Held ≡ first (windowHere w)
+  module _ (w : ℕ) {b : Bool} (e : b ≡ leb (startsAt (getD (d .starts) w noStart) (d .on0) settings starts) (getD (d .starts) w noStart .most)) where
+    pub window-held : not b ≡ false → Held ≡ first (windowHere w)
     unfolding windowHere failing first
-    window-held h = rw (← e, le-leb n (getD (d .starts) w noStart .most) h) refl
+    window-held h = rw (sym e ∙ not-false b h) refl
 
-    pub window-broken : getD (d .starts) w noStart .most < n → Broken (windowAt i w) ≡ first (windowHere w)
+    pub window-broken : not b ≡ true → Broken (windowAt i w) ≡ first (windowHere w)
     unfolding windowHere failing first
-    window-broken h = rw (← e, lt-leb n (getD (d .starts) w noStart .most) h) refl
+    window-broken h = rw (sym e ∙ not-true b h) refl
 
 gather-range : (f g : ℕ → List Breach) (k n : ℕ) → ((w : ℕ) → k ≤ w → w < k + n → f w ≡ g w) → gather f (range k n) ≡ gather g (range k n)
 unfolding range gather
