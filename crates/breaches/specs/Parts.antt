@@ -1,10 +1,10 @@
 -- A device's parts as the code cuts them, from a on: they lie within the tables, and their tests and windows are the model's.
 use mathlib.Core.Path.{_≡_, refl, sym, ap, ap₂, _∙_}
-use mathlib.Core.Bool.{Bool, true, false}
+use mathlib.Core.Bool.{Bool, true, false, not}
 use mathlib.Core.List.{List, [], _∷_, _++_, map}
 use Prim.Native.Nat.{ℕ, zero, suc, _+_, _-_, _*_, _≤_, _<_}
 use native.Mathlib.Omega.{arith}
-use borrow.Author.Tests.{le-leb, lt-leb}
+use borrow.Author.Tests.{not-true, not-false}
 use lib.Dec.{leb}
 use lib.ListN.{getD, length, take, drop}
 use Rattle.numbers.specs.Base.{range, upTo, gather}
@@ -20,10 +20,10 @@ use Rattle.records.specs.Viewed.{noStart}
 use Rattle.records.specs.declared.Device.{Device}
 use Rattle.records.specs.declared.Front.{Front}
 use Rattle.cell_rules.specs.declared.Bounds.{Bounds}
-use Rattle.cell_rules.specs.Word.{failingWord, numbersIn, word-bits}
-use Rattle.cell_rules.specs.Tests.{boundsOf, tests-rise}
-use Rattle.device_rules.specs.Moments.{testsAt, Fits, cellHere, settingHere, momentAt}
-use Rattle.device_rules.specs.Tie.{tests-here, fits-here}
+use Rattle.cell_rules.specs.Word.{failingWord, numbersIn}
+use Rattle.cell_rules.specs.Tests.{boundsOf}
+use Rattle.device_rules.specs.Moments.{testsAt, Fits}
+use Rattle.device_rules.specs.Tie.{tests-here, bits-here, fits-here}
 use Rattle.device_rules.specs.Whole.{AllFit, HeldTo}
 use Rattle.device_rules.specs.Windows.{startsAt, starts-are}
 use Rattle.breaches.specs.First.{first, breachAt}
@@ -47,14 +47,14 @@ module _ (d : Device) (settings : List (List ℕ)) (starts : List ℕ) (i : ℕ)
   windowsHere = gather windowHere (upTo (d .nstarts))
 
   -- the test of one window, as the code makes it
-  module _ (w : ℕ) {n : ℕ} (e : n ≡ startsAt (getD (d .starts) w noStart) (d .on0) settings starts) where
-    pub window-held : n ≤ getD (d .starts) w noStart .most → Held ≡ first (windowHere w)
+  module _ (w : ℕ) {b : Bool} (e : b ≡ leb (startsAt (getD (d .starts) w noStart) (d .on0) settings starts) (getD (d .starts) w noStart .most)) where
+    pub window-held : not b ≡ false → Held ≡ first (windowHere w)
     unfolding windowHere failing first
-    window-held h = rw (← e, le-leb n (getD (d .starts) w noStart .most) h) refl
+    window-held h = rw (sym e ∙ not-false b h) refl
 
-    pub window-broken : getD (d .starts) w noStart .most < n → Broken (windowAt i w) ≡ first (windowHere w)
+    pub window-broken : not b ≡ true → Broken (windowAt i w) ≡ first (windowHere w)
     unfolding windowHere failing first
-    window-broken h = rw (← e, lt-leb n (getD (d .starts) w noStart .most) h) refl
+    window-broken h = rw (sym e ∙ not-true b h) refl
 
 gather-range : (f g : ℕ → List Breach) (k n : ℕ) → ((w : ℕ) → k ≤ w → w < k + n → f w ≡ g w) → gather f (range k n) ≡ gather g (range k n)
 unfolding range gather
@@ -69,7 +69,8 @@ pub record Place (a m : ℕ) (cells settings : List (List ℕ)) (powers : List �
   pub in-powers : a + m ≤ length powers
   pub small : a + m ≤ mostDevices * mostIntervals
 
-module _ {front : Front} {halves : List ℕ} {zones minima devices cells settings : List (List ℕ)} {starts powers : List ℕ} (ready : Ready front halves zones minima devices cells settings starts powers) (i a : ℕ) (l : i < length devices) (e : a ≡ i * length halves) where
+module _ {front : Front} {halves : List ℕ} {zones minima devices cells settings : List (List ℕ)} {starts powers : List ℕ}
+    (ready : Ready front halves zones minima devices cells settings starts powers) (i a : ℕ) (l : i < length devices) (e : a ≡ i * length halves) where
   pub place : Place a (length halves) cells settings powers
   place = let h = part-inside (length halves) i (length devices) l in record {
     in-cells = omega (arith, h, ready .case-rows .cells-full);
@@ -107,10 +108,10 @@ module _ {front : Front} {halves : List ℕ} {zones minima devices cells setting
     tests-cut t h = rw (at, is, part-cut m i a cells e, part-cut m i a settings e, part-cut m i a powers e) (tests-here ready i l t h)
 
     -- the word's first rule is the first of the cell's breaches
-    pub word-first : (t : ℕ) → t < length halves → {word : ℕ} {x : Check} → word ≡ failingWord (testsAt b (d .power0 .0) halves ownCells ownSettings starts ownPowers t) → x ≡ firstOf t i (numbersIn word)
-        → x ≡ first (cellBreaches q p t i)
-    unfolding firstOf cellBreaches testsAt
-    word-first t h f g = g ∙ rw (f, word-bits _ (tests-rise b (cellHere b (d .power0 .0) halves ownCells ownSettings starts ownPowers t) (settingHere b (d .power0 .0) halves ownCells ownSettings starts ownPowers t) (momentAt b (d .power0 .0) halves ownCells ownSettings starts ownPowers t)), tests-cut t h) refl
+    pub word-first : (t : ℕ) → t < length halves → {word : ℕ} {x : Check}
+        → word ≡ failingWord (testsAt b (d .power0 .0) halves ownCells ownSettings starts ownPowers t) → x ≡ firstOf t i (numbersIn word) → x ≡ first (cellBreaches q p t i)
+    unfolding firstOf cellBreaches
+    word-first t h {word} f g = g ∙ rw (bits-here ready i l t h {word = word} (rw (at, is, part-cut m i a cells e, part-cut m i a settings e, part-cut m i a powers e) at f)) refl
 
     -- no test fails
     pub none-here : HeldTo b (d .power0 .0) halves ownCells ownSettings starts ownPowers (length halves) → (t : ℕ) → t < length halves → cellBreaches q p t i ≡ []

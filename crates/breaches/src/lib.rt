@@ -12,9 +12,10 @@ ghost use Rattle.breaches.specs.Bits.{firstOf};
 ghost use Rattle.breaches.specs.Parts.{windowAt, windowsHere};
 ghost use Rattle.breaches.specs.Day.{intervalBreaches, dayBreaches, dayWindows, DeviceHolds};
 use cell_rules::bounds_of;
+use device_rules::all_starts;
 use device_rules::failing_at;
 use device_rules::held_all;
-use device_rules::starts_in;
+use device_rules::window_kept;
 use model::Breach;
 use records::CellRow;
 use records::Device;
@@ -195,10 +196,11 @@ fn device_windows(d: Device, settings: &[SettingRow], starts: &[u32], i: usize) 
     requires { ⌜ (d .nstarts ≤ 4) × (i < mostDevices) × (length (now settings) ≤ mostIntervals) × (length (now settings) ≤ length (now starts)) ⌝ }
     ensures { λ r. ⌜ r ≡ first (windowsHere d (now (settings .entry)) (now (starts .entry)) i) ⌝ }
 {
+    let all = all_starts(d.on0, settings);
     let mut w = 0;
     while w < d.nstarts {
         let window = d.starts[w];
-        if window.most < starts_in(window, d.on0, settings, starts) {
+        if !window_kept(window, all, d.on0, settings, starts) {
             return window_broken(i, w);
         }
         w += 1;

@@ -18,14 +18,18 @@ unfoldable pub failingWord : List (ℕ × Bool) → ℕ
 failingWord [] = 0
 failingWord (x ∷ ns) = bitUnless (x .1) (x .0) + failingWord ns
 
--- the bit by the code's answer is the bit by the test
-pub marked : (n : ℕ) {x : ℕ} {kept test : Bool} → x ≡ bitUnless kept n → kept ≡ test → x ≡ bitUnless test n
-marked n e h = e ∙ rw h refl
+-- bits added in turn, each by the code's answer, which is the test's
+pub one-bit : (n : ℕ) {x : ℕ} {kept test : Bool} → x ≡ bitUnless kept n → kept ≡ test → x ≡ failingWord ((n, test) ∷ [])
+unfolding failingWord
+one-bit n {test} e h = let z : bitUnless test n + 0 ≡ bitUnless test n = omega arith in e ∙ rw (h, z) refl
 
 pub word-append : (xs ys : List (ℕ × Bool)) → failingWord (xs ++ ys) ≡ failingWord xs + failingWord ys
 unfolding failingWord
 word-append [] ys = omega arith
 word-append (x ∷ xs) ys = omega (arith, word-append xs ys)
+
+pub more-bits : (n : ℕ) (ns : List (ℕ × Bool)) {x y : ℕ} {kept test : Bool} → y ≡ failingWord ns → x ≡ bitUnless kept n → kept ≡ test → y + x ≡ failingWord (ns ++ ((n, test) ∷ []))
+more-bits n ns {x} {test = test} f e h = omega (arith, word-append ns ((n, test) ∷ []), one-bit n {x = x} {test = test} e h)
 
 pub failing-append : (xs ys : List (ℕ × Bool)) → failing (xs ++ ys) ≡ failing xs ++ failing ys
 unfolding failing

@@ -91,20 +91,20 @@ module _ (r : Rest) (settings : List (List ℕ)) (starts : List ℕ) (t : ℕ) w
       any false = refl
 
   -- it lies far enough back, and with it all before it
-  pub far-rest : (k : ℕ) {s x y : ℕ} → 0 < k → k ≤ t → Rising starts t → s ≡ getD starts t 0 → x ≡ getD starts (k - 1) 0 → y ≡ s - x → r .least ≤ y → Back far t k → true ≡ apartAt r settings starts t
+  pub far-rest : (k : ℕ) → 0 < k → k ≤ t → Rising starts t → r .least ≤ getD starts t 0 - getD starts (k - 1) 0 → Back far t k → true ≡ apartAt r settings starts t
   unfolding apartAt
-  far-rest k l m up es ex ey h b = back-rest far t k (λ e n. far-true e (omega (arith, up .up e (k - 1) (omega arith) (omega arith)))) b
+  far-rest k l m up h b = back-rest far t k (λ e n. far-true e (omega (arith, up .up e (k - 1) (omega arith) (omega arith)))) b
 
   pub far-none : (k : ℕ) → k ≤ 0 → Back far t k → true ≡ apartAt r settings starts t
   unfolding apartAt
   far-none k h b = back-rest far t k (λ e l. absurd (omega arith)) b
 
   -- it lies near, and is a change
-  pub far-broken : (k : ℕ) {s x y z : ℕ} → 0 < k → s ≡ getD starts t 0 → x ≡ getD starts (k - 1) 0 → y ≡ s - x → y < r .least → z ≡ changedAt r settings (k - 1) → z ≡ 1 → Back far t k
+  pub far-broken : (k : ℕ) {z : ℕ} → 0 < k → getD starts t 0 - getD starts (k - 1) 0 < r .least → z ≡ changedAt r settings (k - 1) → z ≡ 1 → Back far t k
       → false ≡ apartAt r settings starts t
   unfolding apartAt
-  far-broken k l es ex ey h ez e b =
-      back-broken far t k l (rw (eq-eqb (changedAt r settings (k - 1)) 1 (sym ez ∙ e), lt-leb (r .least) (getD starts t 0 - getD starts (k - 1) 0) (omega arith)) refl) b
+  far-broken k l h ez e b =
+      back-broken far t k l (rw (eq-eqb (changedAt r settings (k - 1)) 1 (sym ez ∙ e), lt-leb (r .least) (getD starts t 0 - getD starts (k - 1) 0) h) refl) b
 
   -- it is none
   pub far-next : (k : ℕ) {z : ℕ} → 0 < k → z ≡ changedAt r settings (k - 1) → (z ≡ 1 → ⊥) → Back far t k → Back far t (k - 1)

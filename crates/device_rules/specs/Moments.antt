@@ -3,7 +3,7 @@ use mathlib.Core.Path.{_≡_, refl}
 use mathlib.Core.Bool.{Bool, true, false}
 use mathlib.Core.List.{List, []}
 use Prim.Native.Nat.{ℕ, _*_, _≤_, _<_}
-use lib.Dec.{eqb}
+use lib.Dec.{T, eqb}
 use lib.ListN.{getD, length}
 use Rattle.numbers.specs.Base.{implies}
 use Rattle.units.specs.Units.{kw}
@@ -12,7 +12,8 @@ use Rattle.records.specs.declared.Cell.{Cell}
 use Rattle.records.specs.declared.Setting.{Setting}
 use Rattle.cell_rules.specs.declared.Bounds.{Bounds}
 use Rattle.cell_rules.specs.declared.Moment.{Moment}
-use Rattle.cell_rules.specs.Tests.{tests, Sized, Small}
+use Rattle.cell_rules.specs.Word.{rising}
+use Rattle.cell_rules.specs.Tests.{tests, tests-rise, Sized, Small}
 use Rattle.device_rules.specs.declared.Rest.{Rest}
 use Rattle.device_rules.specs.Apart.{Rising, apartAt}
 
@@ -44,6 +45,10 @@ module _ (d : Bounds) (power0 : ℕ) (halves : List ℕ) (cells settings : List 
   -- the tests of interval t
   unfoldable pub testsAt : List (ℕ × Bool)
   testsAt = tests d cellHere settingHere momentAt
+
+  pub tests-rise-here : T (rising 0 32 testsAt)
+  unfolding testsAt
+  tests-rise-here = tests-rise d cellHere settingHere momentAt
 
   -- t is an interval of the parts, and its figures have the sizes that the code relies on
   pub record Fits : Type 0 where

@@ -15,7 +15,7 @@ use Rattle.model.specs.Case as M
 use Rattle.model.specs.Case.{System, Plan}
 use Rattle.model.specs.Forced as F
 use Rattle.model.specs.Rules as R
-use Rattle.model.specs.Breaches.{apart, cellTests}
+use Rattle.model.specs.Breaches.{apart, cellTests, failing}
 use Rattle.records.specs.Figures.{cellOf, settingOf, deviceOf, startedAt, stoppedAt, previousAt, onAt, onBefore}
 use Rattle.records.specs.Parts.{part, part-long}
 use Rattle.records.specs.Views.{systemIn, planIn, deviceIn, cellIn, settingIn, mostPower, Ready}
@@ -27,9 +27,10 @@ use Rattle.records.specs.declared.Front.{Front}
 use Rattle.records.specs.declared.Setting.{Setting}
 use Rattle.cell_rules.specs.declared.Bounds.{Bounds}
 use Rattle.cell_rules.specs.declared.Moment.{Moment}
+use Rattle.cell_rules.specs.Word.{failingWord, numbersIn, word-bits}
 use Rattle.cell_rules.specs.Tests.{boundsOf, roomOf, tests, stateTests, rampTests, onTests, offTests, powerTests, Sized, Small}
 use Rattle.device_rules.specs.Apart.{Rising, apartAt}
-use Rattle.device_rules.specs.Moments.{stopsOf, startsOf, momentAt, testsAt, cellHere, settingHere, Fits}
+use Rattle.device_rules.specs.Moments.{stopsOf, startsOf, momentAt, testsAt, tests-rise-here, Fits}
 
 -- ---- the figures that the model's tests compare, by the records' names
 
@@ -142,7 +143,8 @@ rises a b = go (decLe b a)
     go (yes x) = rw (le-ltb a b x) (omega arith)
     go (no x) = rw (lt-ltb a b (omega arith)) (omega arith)
 
-module _ {front : Front} {halves : List ℕ} {zones minima devices cells settings : List (List ℕ)} {starts powers : List ℕ} (ready : Ready front halves zones minima devices cells settings starts powers) (i : ℕ) (l : i < length devices) where
+module _ {front : Front} {halves : List ℕ} {zones minima devices cells settings : List (List ℕ)} {starts powers : List ℕ}
+    (ready : Ready front halves zones minima devices cells settings starts powers) (i : ℕ) (l : i < length devices) where
   abbrev pub q : System
   q = systemIn halves zones minima devices cells
 
@@ -259,6 +261,12 @@ module _ {front : Front} {halves : List ℕ} {zones minima devices cells setting
     pub tests-here : testsAt (boundsOf d) (d .power0 .0) halves ownCells ownSettings starts ownPowers t ≡ cellTests q p t i
     unfolding testsAt
     tests-here = tests-are q p t i of-device of-cell of-setting of-moment
+
+    -- the bits of their word are the numbers of the model's failing tests
+    pub bits-here : {word : ℕ} → word ≡ failingWord (testsAt (boundsOf d) (d .power0 .0) halves ownCells ownSettings starts ownPowers t) → numbersIn word ≡ failing (cellTests q p t i)
+    bits-here e =
+        let ts = testsAt (boundsOf d) (d .power0 .0) halves ownCells ownSettings starts ownPowers t in
+        rw e (word-bits ts (tests-rise-here (boundsOf d) (d .power0 .0) halves ownCells ownSettings starts ownPowers t)) ∙ ap failing tests-here
 
     -- ---- sizes
 

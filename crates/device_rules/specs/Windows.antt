@@ -22,6 +22,14 @@ use Rattle.records.specs.declared.Device.{Device}
 use Rattle.records.specs.declared.Front.{Front}
 use Rattle.records.specs.declared.StartWindow.{StartWindow}
 
+-- su is at most 1
+bit-few : (b : Bool) → bit b ≤ 1
+bit-few true = omega arith
+bit-few false = omega arith
+
+pub started-few : (on0 : ℕ) (settings : List (List ℕ)) (t : ℕ) {x : ℕ} → x ≡ startedAt on0 settings t → x ≤ 1
+started-few on0 settings t e = rw e (bit-few (ltb (onBefore on0 settings t) (onAt settings t)))
+
 -- the start in interval t, where it counts
 abbrev pub countedStart : StartWindow → ℕ → List (List ℕ) → List ℕ → ℕ → ℕ
 countedStart w on0 settings starts t = gate (leb (w .from) (getD starts t 0) && ltb (getD starts t 0) (w .until)) (startedAt on0 settings t)
@@ -29,7 +37,36 @@ countedStart w on0 settings starts t = gate (leb (w .from) (getD starts t 0) && 
 unfoldable pub startsAt : StartWindow → ℕ → List (List ℕ) → List ℕ → ℕ
 startsAt w on0 settings starts = sumℕ (countedStart w on0 settings starts) (upTo (length settings))
 
--- the starts counted so far
+-- the starts of the day, of which a window's are some
+unfoldable pub allStarts : ℕ → List (List ℕ) → ℕ
+allStarts on0 settings = sumℕ (startedAt on0 settings) (upTo (length settings))
+
+some-of : (b : Bool) (n : ℕ) → gate b n ≤ n
+some-of true n = omega arith
+some-of false n = omega arith
+
+pub some-starts : (w : StartWindow) (on0 : ℕ) (settings : List (List ℕ)) (starts : List ℕ) → startsAt w on0 settings starts ≤ allStarts on0 settings
+unfolding startsAt allStarts range
+some-starts w on0 settings starts = go 0 (length settings)
+  where
+    go : (k n : ℕ) → sumℕ (countedStart w on0 settings starts) (range k n) ≤ sumℕ (startedAt on0 settings) (range k n)
+    go k zero = omega arith
+    go k (suc n) = omega (arith, go (suc k) n, some-of (leb (w .from) (getD starts k 0) && ltb (getD starts k 0) (w .until)) (startedAt on0 settings k))
+
+-- the starts of the intervals below t
+pub record StartsTo (on0 : ℕ) (settings : List (List ℕ)) (t sum : ℕ) : Type 0 where
+  pub total : sum ≡ sumℕ (startedAt on0 settings) (upTo t)
+  pub few : sum ≤ t
+
+module _ (on0 : ℕ) (settings : List (List ℕ)) where
+  pub starts-none : StartsTo on0 settings 0 0
+  unfolding range
+  starts-none = record { total = refl; few = omega arith }
+
+  pub starts-next : {t sum x : ℕ} → StartsTo on0 settings t sum → x ≡ startedAt on0 settings t → StartsTo on0 settings (t + 1) (sum + x)
+  starts-next {t} h e = record { total = omega (arith, h .total, sum-more (startedAt on0 settings) t); few = omega (arith, h .few, started-few on0 settings t e) }
+
+-- the starts counted so far, where they count
 pub record Counted (w : StartWindow) (on0 : ℕ) (settings : List (List ℕ)) (starts : List ℕ) (t sum : ℕ) : Type 0 where
   pub total : sum ≡ sumℕ (countedStart w on0 settings starts) (upTo t)
   pub few : sum ≤ t
@@ -57,19 +94,13 @@ module _ (w : StartWindow) (s n : ℕ) where
       go true = refl
       go false = refl
 
-bit-few : (b : Bool) → bit b ≤ 1
-bit-few true = omega arith
-bit-few false = omega arith
-
-pub started-few : (on0 : ℕ) (settings : List (List ℕ)) (t : ℕ) {x : ℕ} → x ≡ startedAt on0 settings t → x ≤ 1
-started-few on0 settings t e = rw e (bit-few (ltb (onBefore on0 settings t) (onAt settings t)))
-
 sum-range : (f g : ℕ → ℕ) (k n : ℕ) → ((t : ℕ) → k ≤ t → t < k + n → f t ≡ g t) → sumℕ f (range k n) ≡ sumℕ g (range k n)
 unfolding range
 sum-range f g k zero h = refl
 sum-range f g k (suc n) h = ap₂ (λ (a b : ℕ). a + b) (h k (omega arith) (omega arith)) (sum-range f g (suc k) n (λ t l m. h t (omega arith) (omega arith)))
 
-module _ {front : Front} {halves : List ℕ} {zones minima devices cells settings : List (List ℕ)} {starts powers : List ℕ} (ready : Ready front halves zones minima devices cells settings starts powers) (i : ℕ) (l : i < length devices) where
+module _ {front : Front} {halves : List ℕ} {zones minima devices cells settings : List (List ℕ)} {starts powers : List ℕ}
+    (ready : Ready front halves zones minima devices cells settings starts powers) (i : ℕ) (l : i < length devices) where
   abbrev q : System
   q = systemIn halves zones minima devices cells
 

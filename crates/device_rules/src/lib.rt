@@ -3,7 +3,7 @@ ghost use mathlib.Core.Path.{_≡_};
 ghost use mathlib.Core.Bool.{true};
 ghost use mathlib.Core.List.{[]};
 ghost use Prim.Native.Nat.{_*_, _≤_, _<_};
-ghost use lib.Dec.{eqb};
+ghost use lib.Dec.{eqb, leb};
 ghost use lib.ListN.{getD, length};
 ghost use Rattle.units.specs.Units.{kw};
 ghost use Rattle.numbers.specs.Base.{implies};
@@ -14,7 +14,7 @@ ghost use Rattle.cell_rules.specs.Word.{failingWord};
 ghost use Rattle.device_rules.specs.Apart.{Rising, changedAt, apartAt};
 ghost use Rattle.device_rules.specs.Moments.{momentAt, testsAt, Fits};
 ghost use Rattle.device_rules.specs.Whole.{AllFit, HeldTo};
-ghost use Rattle.device_rules.specs.Windows.{countedStart, startsAt};
+ghost use Rattle.device_rules.specs.Windows.{countedStart, startsAt, allStarts};
 use cell_rules::Bounds;
 use cell_rules::Moment;
 use records::CellRow;
@@ -203,8 +203,7 @@ fn counted_start(w: StartWindow, on0: u32, settings: &[SettingRow], starts: &[u3
     started_at(on0, settings, t)
 }
 
-// Rule 20: the starts in a window.
-pub fn starts_in(w: StartWindow, on0: u32, settings: &[SettingRow], starts: &[u32]) -> u32
+fn starts_in(w: StartWindow, on0: u32, settings: &[SettingRow], starts: &[u32]) -> u32
     requires { ⌜ (length (now settings) ≤ mostIntervals) × (length (now settings) ≤ length (now starts)) ⌝ }
     ensures { λ r. ⌜ r ≡ startsAt w on0 (now (settings .entry)) (now (starts .entry)) ⌝ }
 {
@@ -215,4 +214,35 @@ pub fn starts_in(w: StartWindow, on0: u32, settings: &[SettingRow], starts: &[u3
         t += 1;
     }
     sum
+}
+
+// The starts of the day.
+pub fn all_starts(on0: u32, settings: &[SettingRow]) -> u32
+    requires { ⌜ length (now settings) ≤ mostIntervals ⌝ }
+    ensures { λ r. ⌜ r ≡ allStarts on0 (now (settings .entry)) ⌝ }
+{
+    let mut sum = 0;
+    let mut t = 0;
+    while t < settings.len() {
+        sum += started_at(on0, settings, t);
+        t += 1;
+    }
+    sum
+}
+
+// Rule 20 of a window; its starts are counted only where those of the day are too many for it.
+pub fn window_kept(
+    w: StartWindow,
+    all: u32,
+    on0: u32,
+    settings: &[SettingRow],
+    starts: &[u32],
+) -> bool
+    requires { ⌜ (all ≡ allStarts on0 (now settings)) × (length (now settings) ≤ mostIntervals) × (length (now settings) ≤ length (now starts)) ⌝ }
+    ensures { λ r. ⌜ r ≡ leb (startsAt w on0 (now (settings .entry)) (now (starts .entry))) (w .most) ⌝ }
+{
+    if all <= w.most {
+        return true;
+    }
+    starts_in(w, on0, settings, starts) <= w.most
 }

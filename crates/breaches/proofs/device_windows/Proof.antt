@@ -9,10 +9,13 @@ use Rattle.breaches.proofs.device_windows.Statement.{statement}
 use Rattle.breaches.proofs.device_windows.Tie as tie
 
 abbrev Inv-loop : tie.InvT-loop
-Inv-loop settings starts i d w₀ w = (w ≤ d .nstarts) × Left (windowHere d settings starts i) (d .nstarts) w
+Inv-loop settings starts i d all w₀ w = (w ≤ d .nstarts) × Left (windowHere d settings starts i) (d .nstarts) w
 
 abbrev μ-loop : tie.MeasureT-loop
-μ-loop settings starts i d w₀ w = d .nstarts - w
+μ-loop settings starts i d all w₀ w = d .nstarts - w
+
+all-starts-requires : tie.Need-all-starts-requires Inv-loop μ-loop
+all-starts-requires c κs = search needs
 
 loop-holds : tie.Need-loop-holds Inv-loop μ-loop
 loop-holds c = (search needs, loop-start _ _)
@@ -23,15 +26,15 @@ mul-window c = search needs
 element-copy-out-window : tie.Need-element-copy-out-window Inv-loop μ-loop
 element-copy-out-window c = search needs
 
-starts-in-requires : tie.Need-starts-in-requires Inv-loop μ-loop
-starts-in-requires c κs = search needs
+window-kept-requires : tie.Need-window-kept-requires Inv-loop μ-loop
+window-kept-requires c κs = (c .before .before .before .all-starts .ensures, c .before .before .before .before .before .pre .2, c .before .before .before .before .before .pre .3)
 
 window-broken-requires : tie.Need-window-broken-requires Inv-loop μ-loop
 window-broken-requires c κs = search needs
 
 returns : tie.Need-returns Inv-loop μ-loop
 unfolding windowsHere
-returns c = let a : _ = c .before .before .before .before .before .before .before .before .args in loop-broken (windowHere (a .t1) (a .settings .now) (a .starts .now) (a .i)) (c .before .before .before .before .before .loop-test .taken) (c .before .before .before .before .before .before .loop .inv .1) (c .window-broken .ensures ∙ window-broken (a .t1) (a .settings .now) (a .starts .now) (a .i) (c .before .before .before .before .before .before .loop .w) (c .before .before .before .starts-in .ensures) (c .before .if1 .taken)) (c .window-broken .ensures)
+returns c = let a : _ = c .before .before .before .before .before .before .before .before .args in loop-broken (windowHere (a .t1) (a .settings .now) (a .starts .now) (a .i)) (c .before .before .before .before .loop-test .taken) (c .before .before .before .before .before .loop .inv .1) (c .window-broken .ensures ∙ window-broken (a .t1) (a .settings .now) (a .starts .now) (a .i) (c .before .before .before .before .before .loop .w) (c .before .before .window-kept .ensures) (c .before .if1 .taken)) (c .window-broken .ensures)
 
 add-w : tie.Need-add-w Inv-loop μ-loop
 add-w c = search needs
@@ -40,11 +43,11 @@ loop-less : tie.Need-loop-less Inv-loop μ-loop
 loop-less c = search needs
 
 loop-again : tie.Need-loop-again Inv-loop μ-loop
-loop-again c = let a : _ = c .before .before .before .before .before .before .before .args in (search needs, loop-held (windowHere (a .t1) (a .settings .now) (a .starts .now) (a .i)) (c .before .before .before .before .loop-test .taken) (c .before .before .before .before .before .loop .inv .1) (window-held (a .t1) (a .settings .now) (a .starts .now) (a .i) (c .before .before .before .before .before .loop .w) (c .before .before .starts-in .ensures) (omega (arith, c .if1 .left))) refl)
+loop-again c = let a : _ = c .before .before .before .before .before .before .before .args in (search needs, loop-held (windowHere (a .t1) (a .settings .now) (a .starts .now) (a .i)) (c .before .before .before .loop-test .taken) (c .before .before .before .before .loop .inv .1) (window-held (a .t1) (a .settings .now) (a .starts .now) (a .i) (c .before .before .before .before .loop .w) (c .before .window-kept .ensures) (c .if1 .left)) refl)
 
 returns-2 : tie.Need-returns-2 Inv-loop μ-loop
 unfolding windowsHere
-returns-2 c = let a : _ = c .before .before .before .args in loop-done (windowHere (a .t1) (a .settings .now) (a .starts .now) (a .i)) (omega (arith, c .loop-test .left)) (c .before .loop .inv .1)
+returns-2 c = let a : _ = c .before .before .before .before .args in loop-done (windowHere (a .t1) (a .settings .now) (a .starts .now) (a .i)) (omega (arith, c .loop-test .left)) (c .before .loop .inv .1)
 
 pub device-windows-spec : {M : Type 1} → statement M
-device-windows-spec = tie.close (tie.spec Inv-loop μ-loop loop-holds mul-window element-copy-out-window starts-in-requires window-broken-requires returns add-w loop-less loop-again returns-2)
+device-windows-spec = tie.close (tie.spec Inv-loop μ-loop all-starts-requires loop-holds mul-window element-copy-out-window window-kept-requires window-broken-requires returns add-w loop-less loop-again returns-2)

@@ -1,6 +1,5 @@
 -- The bits of rules 7 to 11, added.
-use native.Mathlib.Omega.{arith}
-use Rattle.cell_rules.specs.Word.{failingWord, marked}
+use Rattle.cell_rules.specs.Word.{one-bit, more-bits}
 use Rattle.cell_rules.specs.Tests.{onTests}
 use borrow.Author.Needs.{needs}
 use Rattle.cell_rules.proofs.on_rules.Statement.{statement}
@@ -58,8 +57,8 @@ add-result-4 : tie.Need-add-result-4
 add-result-4 c = search needs
 
 returns : tie.Need-returns
-unfolding failingWord onTests
-returns c = (omega (arith, marked 7 (c .before .before .before .before .before .before .before .before .bit-unless .ensures .0) (c .before .before .before .before .before .before .before .before .before .at-most .ensures), marked 8 (c .before .before .before .before .before .before .bit-unless2 .ensures .0) (c .before .before .before .before .before .before .before .at-most2 .ensures), marked 9 (c .before .before .before .before .bit-unless3 .ensures .0) (c .before .before .before .before .before .at-most3 .ensures), marked 10 (c .before .before .bit-unless4 .ensures .0) (c .before .before .before .at-most4 .ensures), marked 11 (c .bit-unless5 .ensures .0) (c .before .at-most5 .ensures)), search needs)
+unfolding onTests
+returns c = (more-bits 11 _ (more-bits 10 _ (more-bits 9 _ (more-bits 8 _ (one-bit 7 (c .before .before .before .before .before .before .before .before .bit-unless .ensures .0) (c .before .before .before .before .before .before .before .before .before .at-most .ensures)) (c .before .before .before .before .before .before .bit-unless2 .ensures .0) (c .before .before .before .before .before .before .before .at-most2 .ensures)) (c .before .before .before .before .bit-unless3 .ensures .0) (c .before .before .before .before .before .at-most3 .ensures)) (c .before .before .bit-unless4 .ensures .0) (c .before .before .before .at-most4 .ensures)) (c .bit-unless5 .ensures .0) (c .before .at-most5 .ensures), search needs)
 
 pub on-rules-spec : {M : Type 1} → statement M
 on-rules-spec = tie.close (tie.spec add-two add-ups add-downs at-most-requires bit-unless-requires at-most-requires-2 bit-unless-requires-2 add-result at-most-requires-3 bit-unless-requires-3 add-result-2 at-most-requires-4 bit-unless-requires-4 add-result-3 at-most-requires-5 bit-unless-requires-5 add-result-4 returns)

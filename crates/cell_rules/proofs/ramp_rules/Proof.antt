@@ -1,6 +1,5 @@
 -- The bits of rules 5 and 6, added.
-use native.Mathlib.Omega.{arith}
-use Rattle.cell_rules.specs.Word.{failingWord, marked}
+use Rattle.cell_rules.specs.Word.{one-bit, more-bits}
 use Rattle.cell_rules.specs.Tests.{rampTests}
 use borrow.Author.Needs.{needs}
 use Rattle.cell_rules.proofs.ramp_rules.Statement.{statement}
@@ -22,8 +21,8 @@ add-result : tie.Need-add-result
 add-result c = search needs
 
 returns : tie.Need-returns
-unfolding failingWord rampTests
-returns c = (omega (arith, marked 5 (c .before .bit-unless .ensures .0) (c .before .before .before .rise-kept .ensures), marked 6 (c .bit-unless2 .ensures .0) (c .before .before .fall-kept .ensures)), search needs)
+unfolding rampTests
+returns c = (more-bits 6 _ (one-bit 5 (c .before .bit-unless .ensures .0) (c .before .before .before .rise-kept .ensures)) (c .bit-unless2 .ensures .0) (c .before .before .fall-kept .ensures), search needs)
 
 pub ramp-rules-spec : {M : Type 1} → statement M
 ramp-rules-spec = tie.close (tie.spec rise-kept-requires fall-kept-requires bit-unless-requires bit-unless-requires-2 add-result returns)

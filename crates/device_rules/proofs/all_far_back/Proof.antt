@@ -1,7 +1,6 @@
 -- The loop's invariant: what is left says what the whole says.
 use Prim.Native.Nat.{_≤_, _-_}
 use native.Mathlib.Omega.{arith}
-use mathlib.Core.Path.{refl}
 use Rattle.device_rules.specs.Apart.{farAt, Back, back-start, far-rest, far-none, far-broken, far-next}
 use borrow.Author.Needs.{needs}
 use Rattle.device_rules.proofs.all_far_back.Statement.{statement}
@@ -35,13 +34,13 @@ sub-back : tie.Need-sub-back Inv-loop μ-loop
 sub-back c = let a : _ = c .before .before .before .before .before .args in omega (arith, c .before .before .before .before .before .pre .2 .up (c .before .before .loop .k - 1) (a .t) (omega arith) (omega arith))
 
 returns : tie.Need-returns Inv-loop μ-loop
-returns c = let a : _ = c .before .before .before .before .before .before .before .args in let l : _ = c .before .before .before .before .loop in far-rest (a .r) (a .settings .now) (a .starts .now) (a .t) (l .k) (c .before .before .before .loop-test .taken) (l .inv .0) (c .before .before .before .before .before .before .before .pre .2) refl refl refl (c .if1 .taken) (l .inv .1)
+returns c = let a : _ = c .before .before .before .before .before .before .before .args in let l : _ = c .before .before .before .before .loop in far-rest (a .r) (a .settings .now) (a .starts .now) (a .t) (l .k) (c .before .before .before .loop-test .taken) (l .inv .0) (c .before .before .before .before .before .before .before .pre .2) (c .if1 .taken) (l .inv .1)
 
 changes-requires : tie.Need-changes-requires Inv-loop μ-loop
 changes-requires c κs = search needs
 
 returns-2 : tie.Need-returns-2 Inv-loop μ-loop
-returns-2 c = let a : _ = c .before .before .before .before .before .before .before .before .before .args in let l : _ = c .before .before .before .before .before .before .loop in far-broken (a .r) (a .settings .now) (a .starts .now) (a .t) (l .k) (c .before .before .before .before .before .loop-test .taken) refl refl refl (omega (arith, c .before .before .if1 .left)) (c .before .changes .ensures) (c .if2 .taken) (l .inv .1)
+returns-2 c = let a : _ = c .before .before .before .before .before .before .before .before .before .args in let l : _ = c .before .before .before .before .before .before .loop in far-broken (a .r) (a .settings .now) (a .starts .now) (a .t) (l .k) (c .before .before .before .before .before .loop-test .taken) (omega (arith, c .before .before .if1 .left)) (c .before .changes .ensures) (c .if2 .taken) (l .inv .1)
 
 loop-less : tie.Need-loop-less Inv-loop μ-loop
 loop-less c = search needs
