@@ -48,42 +48,27 @@ pub fn answer_case(frame: &[u8], table: &mut [u32], out: &mut [u8]) -> CaseAnswe
     let read = cases::read_case(layouts::message_at(frame, 0, LIMIT), table);
     let ending = read.ending;
     let case = read.record;
+    let more = false;
     match layouts::frame_at(frame, 0, LIMIT) {
-        Framed::End => CaseAnswer {
-            bytes: 0,
-            more: false,
-            case,
-        },
+        Framed::End => {
+            let bytes = 0;
+            CaseAnswer { bytes, more, case }
+        }
         Framed::Refused(f) => {
             let bytes = lines::put_framing(out, f);
-            CaseAnswer {
-                bytes,
-                more: false,
-                case,
-            }
+            CaseAnswer { bytes, more, case }
         }
         Framed::Message(_, _) => match ending {
             Ending::Fails(f) => {
                 let bytes = lines::put_answer(out, 0, Verdict::Refused(Subject::Case, f));
-                CaseAnswer {
-                    bytes,
-                    more: false,
-                    case,
-                }
+                CaseAnswer { bytes, more, case }
             }
             Ending::Passes => {
-                let devices = case.ndevices as u64;
-                let bytes = lines::put_case(
-                    out,
-                    devices,
-                    case.nintervals as u64,
-                    case.nzones as u64,
-                );
-                CaseAnswer {
-                    bytes,
-                    more: true,
-                    case,
-                }
+                let intervals = case.nintervals as u64;
+                let zones = case.nzones as u64;
+                let bytes = lines::put_case(out, case.ndevices as u64, intervals, zones);
+                let more = true;
+                CaseAnswer { bytes, more, case }
             }
         },
     }

@@ -133,3 +133,28 @@ refused-is k s f e g = rw (e, g) refl
 
 pub answered : (k : ℕ) {v w : Verdict} {a b : List ℕ} {n : ℕ} → v ≡ w → Writes (answerText k w) a b n → Writes (answerText k v) a b n
 answered k e p = rw e p
+
+-- ---- what the digits say
+
+-- the number that digits stand for, behind digits that stand for n
+unfoldable pub said : ℕ → List ℕ → ℕ
+said n [] = n
+said n (d ∷ ds) = said (n * 10 + (d - 48)) ds
+
+said-last : (n : ℕ) (ds : List ℕ) (d : ℕ) → said n (ds ++ (d ∷ [])) ≡ said n ds * 10 + (d - 48)
+unfolding said
+said-last n [] d = refl
+said-last n (x ∷ ds) d = said-last (n * 10 + (x - 48)) ds d
+
+within-said : (k n : ℕ) → n < k → said 0 (decimalWithin k n) ≡ n
+unfolding said decimalWithin
+within-said zero n h = absurd (omega arith)
+within-said (suc k) n h = elim (decLt n 10) [
+  | yes l ↦ rw (lt-ltb n 10 l) (omega arith)
+  | no l ↦ rw (le-ltb n 10 (omega arith)) (said-last 0 (decimalWithin k (n / 10)) (digit (n % 10)) ∙ omega (arith, within-said k (n / 10) (omega arith)))
+]
+
+-- read back, a number's digits in decimal say it
+pub read-back : (n : ℕ) → said 0 (decimal n) ≡ n
+unfolding decimal
+read-back n = within-said (suc n) n (omega arith)

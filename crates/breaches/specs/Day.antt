@@ -1,0 +1,131 @@
+-- The breaches of an interval, of the day's cells and of its windows; the loops over them, and a day without any.
+use mathlib.Core.Path.{_≡_, refl, sym, _∙_}
+use mathlib.Core.List.{List, [], _++_}
+use Prim.Native.Nat.{ℕ, zero, suc, _+_, _≤_, _<_}
+use native.Mathlib.Omega.{arith}
+use native.Mathlib.Decide.{decLe}
+use Rattle.numbers.specs.Base.{range, upTo, gather}
+use Rattle.model.specs.Case.{System, Plan}
+use Rattle.model.specs.Forced.{intervals, devices}
+use Rattle.model.specs.Breaches.{cellBreaches, windowBreaches, breaches}
+use Rattle.model.specs.declared.Breach.{Breach}
+use Rattle.breaches.specs.First.{first, orElse, first-append, else-stop, else-pass, Left, loop-start, loop-held, loop-broken, loop-done}
+use Rattle.breaches.specs.declared.Check.{Check}
+use Rattle.breaches.specs.declared.Check.the-variants.{Held, Broken}
+
+module _ (q : System) (p : Plan) where
+  unfoldable pub intervalBreaches : ℕ → List Breach
+  intervalBreaches t = gather (cellBreaches q p t) (upTo (devices q))
+
+  unfoldable pub dayBreaches : List Breach
+  dayBreaches = gather intervalBreaches (upTo (intervals q))
+
+  unfoldable pub dayWindows : List Breach
+  dayWindows = gather (windowBreaches q p) (upTo (devices q))
+
+  -- the cells' breaches, then the windows'
+  pub day-first : first (breaches q p) ≡ orElse (first dayBreaches) (first dayWindows)
+  unfolding breaches intervalBreaches dayBreaches dayWindows
+  day-first = first-append (gather (λ t. gather (cellBreaches q p t) (upTo (devices q))) (upTo (intervals q))) (gather (windowBreaches q p) (upTo (devices q)))
+
+  pub day-stop : {x : Check} {y : Breach} → x ≡ first dayBreaches → x ≡ Broken y → x ≡ first (breaches q p)
+  day-stop e b = rw day-first (else-stop (first dayWindows) e b)
+
+  pub day-pass : {x y : Check} → x ≡ first dayBreaches → x ≡ Held → y ≡ first dayWindows → y ≡ first (breaches q p)
+  day-pass e b f = rw day-first (else-pass e b f)
+
+  -- ---- the loops over devices, intervals, and devices again: what is left gives what the whole gives
+
+  pub record CellsLeft (t i : ℕ) : Type 0 where
+    pub left : Left (cellBreaches q p t) (devices q) i
+
+  pub record IntervalsLeft (t : ℕ) : Type 0 where
+    pub left : Left intervalBreaches (intervals q) t
+
+  pub record WindowsLeft (i : ℕ) : Type 0 where
+    pub left : Left (windowBreaches q p) (devices q) i
+
+  pub cells-start : (t : ℕ) → CellsLeft t 0
+  cells-start t = record { left = loop-start (cellBreaches q p t) (devices q) }
+
+  pub intervals-start : IntervalsLeft 0
+  intervals-start = record { left = loop-start intervalBreaches (intervals q) }
+
+  pub windows-start : WindowsLeft 0
+  windows-start = record { left = loop-start (windowBreaches q p) (devices q) }
+
+  module _ {n : ℕ} (many : devices q ≡ n) where
+    module _ {t i : ℕ} {x : Check} (l : i < n) (left : CellsLeft t i) (e : x ≡ first (cellBreaches q p t i)) where
+      pub cells-held : x ≡ Held → CellsLeft t (i + 1)
+      cells-held b = record { left = loop-held _ (omega arith) (left .left) e b }
+
+      pub cells-broken : {y : Breach} → x ≡ Broken y → x ≡ first (intervalBreaches t)
+      unfolding intervalBreaches
+      cells-broken b = loop-broken _ (omega arith) (left .left) e b
+
+    pub cells-done : {t i : ℕ} → n ≤ i → CellsLeft t i → Held ≡ first (intervalBreaches t)
+    unfolding intervalBreaches
+    cells-done l left = loop-done _ (omega arith) (left .left)
+
+    module _ {i : ℕ} {x : Check} (l : i < n) (left : WindowsLeft i) (e : x ≡ first (windowBreaches q p i)) where
+      pub windows-held : x ≡ Held → WindowsLeft (i + 1)
+      windows-held b = record { left = loop-held _ (omega arith) (left .left) e b }
+
+      pub windows-broken : {y : Breach} → x ≡ Broken y → x ≡ first dayWindows
+      unfolding dayWindows
+      windows-broken b = loop-broken _ (omega arith) (left .left) e b
+
+    pub windows-done : {i : ℕ} → n ≤ i → WindowsLeft i → Held ≡ first dayWindows
+    unfolding dayWindows
+    windows-done l left = loop-done _ (omega arith) (left .left)
+
+  module _ {m : ℕ} (many : intervals q ≡ m) where
+    module _ {t : ℕ} {x : Check} (l : t < m) (left : IntervalsLeft t) (e : x ≡ first (intervalBreaches t)) where
+      pub intervals-held : x ≡ Held → IntervalsLeft (t + 1)
+      intervals-held b = record { left = loop-held _ (omega arith) (left .left) e b }
+
+      pub intervals-broken : {y : Breach} → x ≡ Broken y → x ≡ first dayBreaches
+      unfolding dayBreaches
+      intervals-broken b = loop-broken _ (omega arith) (left .left) e b
+
+    pub intervals-done : {t : ℕ} → m ≤ t → IntervalsLeft t → Held ≡ first dayBreaches
+    unfolding dayBreaches
+    intervals-done l left = loop-done _ (omega arith) (left .left)
+
+  -- ---- no breach
+
+  -- device i breaks no rule
+  pub record DeviceHolds (m i : ℕ) : Type 0 where
+    pub cells : (t : ℕ) → t < m → cellBreaches q p t i ≡ []
+    pub windows : windowBreaches q p i ≡ []
+
+  -- nor do those below n
+  pub record HoldTo (m n : ℕ) : Type 0 where
+    pub at : (i : ℕ) → i < n → DeviceHolds m i
+
+  pub hold-none : (m : ℕ) → HoldTo m 0
+  hold-none m = record { at = λ i h. absurd (omega arith) }
+
+  pub hold-next : {m n : ℕ} → HoldTo m n → DeviceHolds m n → HoldTo m (n + 1)
+  hold-next {m} {n} h e = record { at = λ i l. go i l (decLe n i) }
+    where
+      go : (i : ℕ) → i < n + 1 → Dec (n ≤ i) → DeviceHolds m i
+      go i l (yes x) = let z : i ≡ n = omega arith in rw z e
+      go i l (no x) = h .at i (omega arith)
+
+  gather-none : (f : ℕ → List Breach) (k n : ℕ) → ((w : ℕ) → k ≤ w → w < k + n → f w ≡ []) → gather f (range k n) ≡ []
+  unfolding range gather
+  gather-none f k zero h = refl
+  gather-none f k (suc n) h = rw (h k (omega arith) (omega arith), gather-none f (suc k) n (λ w l m. h w (omega arith) (omega arith))) refl
+
+  pub none-at-all : {m n : ℕ} → intervals q ≡ m → devices q ≡ n → HoldTo m n → breaches q p ≡ []
+  unfolding breaches
+  none-at-all e f h = rw (
+    gather-none (λ t. gather (cellBreaches q p t) (upTo (devices q))) 0 (intervals q) (λ t a b.
+        gather-none (cellBreaches q p t) 0 (devices q) (λ i c d. h .at i (omega arith) .cells t (omega arith))),
+    gather-none (windowBreaches q p) 0 (devices q) (λ i c d. h .at i (omega arith) .windows),
+  ) refl
+
+  pub first-none : breaches q p ≡ [] → Held ≡ first (breaches q p)
+  unfolding first
+  first-none e = rw e refl

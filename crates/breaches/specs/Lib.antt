@@ -1,0 +1,4 @@
+pub mod First
+pub mod Bits
+pub mod Parts
+pub mod Day

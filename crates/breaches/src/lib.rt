@@ -1,0 +1,425 @@
+// The numbered rules of a day: whether a plan breaks none, and the first that it breaks.
+ghost use mathlib.Core.Path.{_≡_};
+ghost use mathlib.Core.Bool.{true};
+ghost use mathlib.Core.List.{[]};
+ghost use Prim.Native.Nat.{_*_, _≤_, _<_};
+ghost use lib.ListN.{length};
+ghost use Rattle.model.specs.Breaches.{cellBreaches, windowBreaches, breaches};
+ghost use Rattle.records.specs.Views.{systemIn, planIn, mostDevices, mostIntervals, Ready};
+ghost use Rattle.cell_rules.specs.Word.{numbersIn};
+ghost use Rattle.breaches.specs.First.{first, breachAt};
+ghost use Rattle.breaches.specs.Bits.{firstOf};
+ghost use Rattle.breaches.specs.Parts.{windowAt, windowsHere};
+ghost use Rattle.breaches.specs.Day.{intervalBreaches, dayBreaches, dayWindows, DeviceHolds};
+use cell_rules::bounds_of;
+use device_rules::all_starts;
+use device_rules::failing_at;
+use device_rules::held_all;
+use device_rules::window_kept;
+use model::Breach;
+use records::CellRow;
+use records::Device;
+use records::DeviceRow;
+use records::Front;
+use records::MinimaRow;
+use records::SettingRow;
+use records::ZoneRow;
+use records::device_at;
+
+// Every rule holds, or the first that is broken.
+pub enum Check {
+    Held,
+    Broken(Breach),
+}
+
+// "A place is interval, device, window from 1, else 0."
+fn broken(rule: u64, t: usize, i: usize) -> Check
+    requires { ⌜ (t < mostIntervals) × (i < mostDevices) ⌝ }
+    ensures { λ r. ⌜ r ≡ Check.Broken (breachAt t i rule) ⌝ }
+{
+    let interval = t as u64 + 1;
+    let device = i as u64 + 1;
+    Check::Broken(Breach {
+        rule,
+        interval,
+        device,
+        window: 0,
+    })
+}
+
+// The first of the rules that a word names, bit n for rule n.
+fn first_in(word: u32, t: usize, i: usize) -> Check
+    requires { ⌜ (t < mostIntervals) × (i < mostDevices) ⌝ }
+    ensures { λ r. ⌜ r ≡ firstOf t i (numbersIn word) ⌝ }
+{
+    let mut rest = word;
+    let mut rule = 0;
+    while rule < 32 {
+        if rest % 2 == 1 {
+            return broken(rule, t, i);
+        }
+        rest /= 2;
+        rule += 1;
+    }
+    Check::Held
+}
+
+// Rules 1 to 19 of device i, whose parts begin at a, in interval t.
+fn cell_check(
+    front: Front,
+    halves: &[u32],
+    zones: &[ZoneRow],
+    minima: &[MinimaRow],
+    devices: &[DeviceRow],
+    cells: &[CellRow],
+    settings: &[SettingRow],
+    starts: &[u32],
+    powers: &[u32],
+    i: usize,
+    a: usize,
+    t: usize,
+) -> Check
+    requires { ⌜ Ready front (now halves) (now zones) (now minima) (now devices) (now cells) (now settings) (now starts) (now powers) × (i < length (now devices)) × (a ≡ i * length (now halves)) × (t < length (now halves)) ⌝ }
+    ensures { λ r. ⌜ r ≡ first (cellBreaches (systemIn (now (halves .entry)) (now (zones .entry)) (now (minima .entry)) (now (devices .entry)) (now (cells .entry))) (planIn (length (now (devices .entry))) (length (now (halves .entry))) (now (settings .entry))) t i) ⌝ }
+{
+    let d = device_at(devices, i);
+    let b = bounds_of(d);
+    let e = a + halves.len();
+    let word = failing_at(
+        b,
+        d.power0,
+        halves,
+        &cells[a..e],
+        &settings[a..e],
+        starts,
+        &powers[a..e],
+        t,
+    );
+    first_in(word, t, i)
+}
+
+// Rules 1 to 19 of the devices in an interval.
+fn interval_rules(
+    front: Front,
+    halves: &[u32],
+    zones: &[ZoneRow],
+    minima: &[MinimaRow],
+    devices: &[DeviceRow],
+    cells: &[CellRow],
+    settings: &[SettingRow],
+    starts: &[u32],
+    powers: &[u32],
+    t: usize,
+) -> Check
+    requires { ⌜ Ready front (now halves) (now zones) (now minima) (now devices) (now cells) (now settings) (now starts) (now powers) × (t < length (now halves)) ⌝ }
+    ensures { λ r. ⌜ r ≡ first (intervalBreaches (systemIn (now (halves .entry)) (now (zones .entry)) (now (minima .entry)) (now (devices .entry)) (now (cells .entry))) (planIn (length (now (devices .entry))) (length (now (halves .entry))) (now (settings .entry))) t) ⌝ }
+{
+    let mut i = 0;
+    let mut a = 0;
+    while i < devices.len() {
+        let r = cell_check(
+            front,
+            halves,
+            zones,
+            minima,
+            devices,
+            cells,
+            settings,
+            starts,
+            powers,
+            i,
+            a,
+            t,
+        );
+        let Check::Held = r else {
+            return r;
+        };
+        a += halves.len();
+        i += 1;
+    }
+    Check::Held
+}
+
+// Rules 1 to 19 of the day.
+fn day_rules(
+    front: Front,
+    halves: &[u32],
+    zones: &[ZoneRow],
+    minima: &[MinimaRow],
+    devices: &[DeviceRow],
+    cells: &[CellRow],
+    settings: &[SettingRow],
+    starts: &[u32],
+    powers: &[u32],
+) -> Check
+    requires { ⌜ Ready front (now halves) (now zones) (now minima) (now devices) (now cells) (now settings) (now starts) (now powers) ⌝ }
+    ensures { λ r. ⌜ r ≡ first (dayBreaches (systemIn (now (halves .entry)) (now (zones .entry)) (now (minima .entry)) (now (devices .entry)) (now (cells .entry))) (planIn (length (now (devices .entry))) (length (now (halves .entry))) (now (settings .entry)))) ⌝ }
+{
+    let mut t = 0;
+    while t < halves.len() {
+        let r = interval_rules(
+            front,
+            halves,
+            zones,
+            minima,
+            devices,
+            cells,
+            settings,
+            starts,
+            powers,
+            t,
+        );
+        let Check::Held = r else {
+            return r;
+        };
+        t += 1;
+    }
+    Check::Held
+}
+
+fn window_broken(i: usize, w: usize) -> Check
+    requires { ⌜ (i < mostDevices) × (w < 4) ⌝ }
+    ensures { λ r. ⌜ r ≡ Check.Broken (windowAt i w) ⌝ }
+{
+    let device = i as u64 + 1;
+    let window = w as u64 + 1;
+    Check::Broken(Breach {
+        rule: 20,
+        interval: 0,
+        device,
+        window,
+    })
+}
+
+// Rule 20 of a device's windows, from its part of the settings.
+fn device_windows(d: Device, settings: &[SettingRow], starts: &[u32], i: usize) -> Check
+    requires { ⌜ (d .nstarts ≤ 4) × (i < mostDevices) × (length (now settings) ≤ mostIntervals) × (length (now settings) ≤ length (now starts)) ⌝ }
+    ensures { λ r. ⌜ r ≡ first (windowsHere d (now (settings .entry)) (now (starts .entry)) i) ⌝ }
+{
+    let all = all_starts(d.on0, settings);
+    let mut w = 0;
+    while w < d.nstarts {
+        let window = d.starts[w];
+        if !window_kept(window, all, d.on0, settings, starts) {
+            return window_broken(i, w);
+        }
+        w += 1;
+    }
+    Check::Held
+}
+
+// Rule 20 of device i, whose parts begin at a.
+fn window_check(
+    front: Front,
+    halves: &[u32],
+    zones: &[ZoneRow],
+    minima: &[MinimaRow],
+    devices: &[DeviceRow],
+    cells: &[CellRow],
+    settings: &[SettingRow],
+    starts: &[u32],
+    powers: &[u32],
+    i: usize,
+    a: usize,
+) -> Check
+    requires { ⌜ Ready front (now halves) (now zones) (now minima) (now devices) (now cells) (now settings) (now starts) (now powers) × (i < length (now devices)) × (a ≡ i * length (now halves)) ⌝ }
+    ensures { λ r. ⌜ r ≡ first (windowBreaches (systemIn (now (halves .entry)) (now (zones .entry)) (now (minima .entry)) (now (devices .entry)) (now (cells .entry))) (planIn (length (now (devices .entry))) (length (now (halves .entry))) (now (settings .entry))) i) ⌝ }
+{
+    let d = device_at(devices, i);
+    let e = a + halves.len();
+    device_windows(d, &settings[a..e], starts, i)
+}
+
+// Rule 20.
+fn window_rules(
+    front: Front,
+    halves: &[u32],
+    zones: &[ZoneRow],
+    minima: &[MinimaRow],
+    devices: &[DeviceRow],
+    cells: &[CellRow],
+    settings: &[SettingRow],
+    starts: &[u32],
+    powers: &[u32],
+) -> Check
+    requires { ⌜ Ready front (now halves) (now zones) (now minima) (now devices) (now cells) (now settings) (now starts) (now powers) ⌝ }
+    ensures { λ r. ⌜ r ≡ first (dayWindows (systemIn (now (halves .entry)) (now (zones .entry)) (now (minima .entry)) (now (devices .entry)) (now (cells .entry))) (planIn (length (now (devices .entry))) (length (now (halves .entry))) (now (settings .entry)))) ⌝ }
+{
+    let mut i = 0;
+    let mut a = 0;
+    while i < devices.len() {
+        let r = window_check(
+            front,
+            halves,
+            zones,
+            minima,
+            devices,
+            cells,
+            settings,
+            starts,
+            powers,
+            i,
+            a,
+        );
+        let Check::Held = r else {
+            return r;
+        };
+        a += halves.len();
+        i += 1;
+    }
+    Check::Held
+}
+
+// Whether device i, whose parts begin at a, breaks no rule: true where it breaks none, and false says nothing.
+fn device_held(
+    front: Front,
+    halves: &[u32],
+    zones: &[ZoneRow],
+    minima: &[MinimaRow],
+    devices: &[DeviceRow],
+    cells: &[CellRow],
+    settings: &[SettingRow],
+    starts: &[u32],
+    powers: &[u32],
+    i: usize,
+    a: usize,
+) -> bool
+    requires { ⌜ Ready front (now halves) (now zones) (now minima) (now devices) (now cells) (now settings) (now starts) (now powers) × (i < length (now devices)) × (a ≡ i * length (now halves)) ⌝ }
+    ensures { λ r. ⌜ (r ≡ true → DeviceHolds (systemIn (now (halves .entry)) (now (zones .entry)) (now (minima .entry)) (now (devices .entry)) (now (cells .entry))) (planIn (length (now (devices .entry))) (length (now (halves .entry))) (now (settings .entry))) (length (now (halves .entry))) i) ⌝ }
+{
+    let d = device_at(devices, i);
+    let b = bounds_of(d);
+    let e = a + halves.len();
+    let own = &settings[a..e];
+    let own_powers = &powers[a..e];
+    if !held_all(b, d.power0, halves, &cells[a..e], own, starts, own_powers) {
+        return false;
+    }
+    let r = device_windows(d, own, starts, i);
+    let Check::Held = r else {
+        return false;
+    };
+    true
+}
+
+// Whether a plan breaks no rule, device by device: true where it breaks none, and false says nothing.
+pub fn no_breach(
+    front: Front,
+    halves: &[u32],
+    zones: &[ZoneRow],
+    minima: &[MinimaRow],
+    devices: &[DeviceRow],
+    cells: &[CellRow],
+    settings: &[SettingRow],
+    starts: &[u32],
+    powers: &[u32],
+) -> bool
+    requires { ⌜ Ready front (now halves) (now zones) (now minima) (now devices) (now cells) (now settings) (now starts) (now powers) ⌝ }
+    ensures { λ r. ⌜ (r ≡ true → breaches (systemIn (now (halves .entry)) (now (zones .entry)) (now (minima .entry)) (now (devices .entry)) (now (cells .entry))) (planIn (length (now (devices .entry))) (length (now (halves .entry))) (now (settings .entry))) ≡ []) ⌝ }
+{
+    let mut i = 0;
+    let mut a = 0;
+    while i < devices.len() {
+        if !device_held(
+            front,
+            halves,
+            zones,
+            minima,
+            devices,
+            cells,
+            settings,
+            starts,
+            powers,
+            i,
+            a,
+        ) {
+            return false;
+        }
+        a += halves.len();
+        i += 1;
+    }
+    true
+}
+
+// Interval by interval, device by device; then the windows by device.
+fn exact_breach(
+    front: Front,
+    halves: &[u32],
+    zones: &[ZoneRow],
+    minima: &[MinimaRow],
+    devices: &[DeviceRow],
+    cells: &[CellRow],
+    settings: &[SettingRow],
+    starts: &[u32],
+    powers: &[u32],
+) -> Check
+    requires { ⌜ Ready front (now halves) (now zones) (now minima) (now devices) (now cells) (now settings) (now starts) (now powers) ⌝ }
+    ensures { λ r. ⌜ r ≡ first (breaches (systemIn (now (halves .entry)) (now (zones .entry)) (now (minima .entry)) (now (devices .entry)) (now (cells .entry))) (planIn (length (now (devices .entry))) (length (now (halves .entry))) (now (settings .entry)))) ⌝ }
+{
+    let r = day_rules(
+        front,
+        halves,
+        zones,
+        minima,
+        devices,
+        cells,
+        settings,
+        starts,
+        powers,
+    );
+    let Check::Held = r else {
+        return r;
+    };
+    window_rules(
+        front,
+        halves,
+        zones,
+        minima,
+        devices,
+        cells,
+        settings,
+        starts,
+        powers,
+    )
+}
+
+// The first broken rule: "Checked by interval, then device, then number. Rule 20 comes after all intervals, by device, then window."
+pub fn first_breach(
+    front: Front,
+    halves: &[u32],
+    zones: &[ZoneRow],
+    minima: &[MinimaRow],
+    devices: &[DeviceRow],
+    cells: &[CellRow],
+    settings: &[SettingRow],
+    starts: &[u32],
+    powers: &[u32],
+) -> Check
+    requires { ⌜ Ready front (now halves) (now zones) (now minima) (now devices) (now cells) (now settings) (now starts) (now powers) ⌝ }
+    ensures { λ r. ⌜ r ≡ first (breaches (systemIn (now (halves .entry)) (now (zones .entry)) (now (minima .entry)) (now (devices .entry)) (now (cells .entry))) (planIn (length (now (devices .entry))) (length (now (halves .entry))) (now (settings .entry)))) ⌝ }
+{
+    if no_breach(
+        front,
+        halves,
+        zones,
+        minima,
+        devices,
+        cells,
+        settings,
+        starts,
+        powers,
+    ) {
+        return Check::Held;
+    }
+    exact_breach(
+        front,
+        halves,
+        zones,
+        minima,
+        devices,
+        cells,
+        settings,
+        starts,
+        powers,
+    )
+}

@@ -1,0 +1,27 @@
+-- The groups in turn.
+use borrow.Author.Tests.{not-false}
+use Rattle.cell_held.specs.Held.{no-way, tests-hold}
+use borrow.Author.Needs.{needs}
+use Rattle.cell_held.proofs.held.Statement.{statement}
+use Rattle.cell_held.proofs.held.Tie as tie
+
+state-held-requires : tie.Need-state-held-requires
+state-held-requires c κs = search needs
+
+returns : tie.Need-returns
+returns c = λ e. no-way e
+
+ramps-held-requires : tie.Need-ramps-held-requires
+ramps-held-requires c κs = search needs
+
+returns-2 : tie.Need-returns-2
+returns-2 c = λ e. no-way e
+
+amounts-held-requires : tie.Need-amounts-held-requires
+amounts-held-requires c κs = search needs
+
+returns-3 : tie.Need-returns-3
+returns-3 c = λ e. let a : _ = c .before .before .before .before .before .args in let h : _ = c .amounts-held .ensures e in tests-hold (a .d) (a .c) (a .s) (a .w) (c .before .before .before .before .state-held .ensures (not-false _ (c .before .before .before .if1 .left))) (c .before .before .ramps-held .ensures (not-false _ (c .before .if2 .left))) (h .0) (h .1) (h .2)
+
+pub held-spec : {M : Type 1} → statement M
+held-spec = tie.close (tie.spec state-held-requires returns ramps-held-requires returns-2 amounts-held-requires returns-3)

@@ -1,0 +1,64 @@
+-- Each limit in turn.
+use borrow.Author.Tests.{leb-true}
+use native.Mathlib.Omega.{arith}
+use Rattle.cell_held.specs.Held.{no-way, passed, passed-last, on-limits}
+use borrow.Author.Needs.{needs}
+use Rattle.cell_held.proofs.on_limits_held.Statement.{statement}
+use Rattle.cell_held.proofs.on_limits_held.Tie as tie
+
+add-two : tie.Need-add-two
+add-two c = search needs
+
+add-ups : tie.Need-add-ups
+add-ups c = search needs
+
+add-downs : tie.Need-add-downs
+add-downs c = search needs
+
+add-if1 : tie.Need-add-if1
+add-if1 c = search needs
+
+add-if1-2 : tie.Need-add-if1-2
+add-if1-2 c = search needs
+
+returns : tie.Need-returns
+returns c = λ e. no-way e
+
+at-most-requires : tie.Need-at-most-requires
+at-most-requires c κs = search needs
+
+returns-2 : tie.Need-returns-2
+returns-2 c = λ e. no-way e
+
+at-most-requires-2 : tie.Need-at-most-requires-2
+at-most-requires-2 c κs = search needs
+
+returns-3 : tie.Need-returns-3
+returns-3 c = λ e. no-way e
+
+at-most-requires-3 : tie.Need-at-most-requires-3
+at-most-requires-3 c κs = search needs
+
+returns-4 : tie.Need-returns-4
+returns-4 c = λ e. no-way e
+
+at-most-requires-4 : tie.Need-at-most-requires-4
+at-most-requires-4 c κs = search needs
+
+returns-5 : tie.Need-returns-5
+returns-5 c = λ e. no-way e
+
+at-most-requires-5 : tie.Need-at-most-requires-5
+at-most-requires-5 c κs = search needs
+
+returns-6 : tie.Need-returns-6
+returns-6 c = λ e. let a : _ = c .before .before .before .before .before .before .before .before .before .before .before .before .before .before .before .before .args in
+    on-limits (a .d) (a .c) (a .s) (a .w) (c .before .before .before .before .before .before .before .before .before .before .before .before .before .before .before .before .pre .1) (omega arith)
+    (leb-true _ _ (passed (c .before .before .before .before .before .before .before .before .at-most .ensures) (c .before .before .before .before .before .before .before .if2 .left)))
+    (leb-true _ _ (passed (c .before .before .before .before .before .before .at-most2 .ensures) (c .before .before .before .before .before .if3 .left)))
+    (leb-true _ _ (passed (c .before .before .before .before .at-most3 .ensures) (c .before .before .before .if4 .left)))
+    (leb-true _ _ (passed (c .before .before .at-most4 .ensures) (c .before .if5 .left)))
+    (leb-true _ _ (passed-last (c .at-most5 .ensures) e))
+
+pub on-limits-held-spec : {M : Type 1} → statement M
+on-limits-held-spec = tie.close (tie.spec add-two add-ups add-downs add-if1 add-if1-2 returns at-most-requires returns-2 at-most-requires-2 returns-3 at-most-requires-3 returns-4 at-most-requires-4 returns-5 at-most-requires-5 returns-6)

@@ -1,0 +1,46 @@
+-- Roof, floor, no forced power, room.
+use native.Mathlib.Omega.{arith}
+use Rattle.cell_held.specs.Held.{no-way, passed-last, on-powers}
+use borrow.Author.Needs.{needs}
+use Rattle.cell_held.proofs.on_powers_held.Statement.{statement}
+use Rattle.cell_held.proofs.on_powers_held.Tie as tie
+
+add-t13 : tie.Need-add-t13
+add-t13 c = search needs
+
+add-t14 : tie.Need-add-t14
+add-t14 c = search needs
+
+add-t13-2 : tie.Need-add-t13-2
+add-t13-2 c = search needs
+
+by-side-requires : tie.Need-by-side-requires
+by-side-requires c κs = search needs
+
+by-side-requires-2 : tie.Need-by-side-requires-2
+by-side-requires-2 c κs = search needs
+
+add-roof : tie.Need-add-roof
+add-roof c = search needs
+
+add-floor : tie.Need-add-floor
+add-floor c = search needs
+
+returns : tie.Need-returns
+returns c = λ e. no-way e
+
+returns-2 : tie.Need-returns-2
+returns-2 c = λ e. no-way e
+
+returns-3 : tie.Need-returns-3
+returns-3 c = λ e. no-way e
+
+room-kept-requires : tie.Need-room-kept-requires
+room-kept-requires c κs = let z : _ = c .before .before .before .before .before .before .before .before .before .before .before .before .before .before .before .before .before .before .pre .0 in (z .cap0, z .cap1, z .cap2, z .cap3)
+
+returns-4 : tie.Need-returns-4
+returns-4 c = λ e. let a : _ = c .before .before .before .before .before .before .before .before .before .before .before .before .before .before .before .before .before .before .before .args in
+    on-powers (a .d) (a .c) (a .s) (a .w) (c .before .before .before .before .before .before .before .before .before .before .before .before .before .before .before .before .before .before .before .pre .1) (c .before .before .before .before .before .before .before .before .before .before .before .before .before .before .before .before .before .before .before .pre .2) (omega (arith, c .before .before .before .before .before .before .before .before .before .before .before .before .before .before .by-side .ensures .0, c .before .before .before .before .before .before .before .if1 .left)) (omega (arith, c .before .before .before .before .before .before .before .before .before .before .before .before .before .by-side2 .ensures .0, c .before .before .before .before .before .if2 .left)) (omega (arith, c .before .before .if3 .left)) (passed-last (c .room-kept .ensures) e)
+
+pub on-powers-held-spec : {M : Type 1} → statement M
+on-powers-held-spec = tie.close (tie.spec add-t13 add-t14 add-t13-2 by-side-requires by-side-requires-2 add-roof add-floor returns returns-2 returns-3 room-kept-requires returns-4)

@@ -1,0 +1,23 @@
+-- Rules 5 and 6 in turn.
+use Rattle.cell_rules.specs.Word.{no-test, test-holds}
+use Rattle.cell_rules.specs.Tests.{rampTests}
+use Rattle.cell_held.specs.Held.{no-way, passed, passed-last}
+use borrow.Author.Needs.{needs}
+use Rattle.cell_held.proofs.ramps_held.Statement.{statement}
+use Rattle.cell_held.proofs.ramps_held.Tie as tie
+
+rise-kept-requires : tie.Need-rise-kept-requires
+rise-kept-requires c κs = search needs
+
+returns : tie.Need-returns
+returns c = λ e. no-way e
+
+fall-kept-requires : tie.Need-fall-kept-requires
+fall-kept-requires c κs = search needs
+
+returns-2 : tie.Need-returns-2
+unfolding rampTests
+returns-2 c = λ e. test-holds 5 _ (passed (c .before .before .rise-kept .ensures) (c .before .if1 .left)) (test-holds 6 _ (passed-last (c .fall-kept .ensures) e) no-test)
+
+pub ramps-held-spec : {M : Type 1} → statement M
+ramps-held-spec = tie.close (tie.spec rise-kept-requires returns fall-kept-requires returns-2)

@@ -1,0 +1,30 @@
+-- Rules 1 to 4 in turn.
+use mathlib.Core.Path.{refl}
+use Rattle.cell_rules.specs.Word.{no-test, test-holds}
+use Rattle.cell_rules.specs.Tests.{stateTests}
+use Rattle.cell_held.specs.Held.{no-way, passed}
+use borrow.Author.Needs.{needs}
+use Rattle.cell_held.proofs.state_held.Statement.{statement}
+use Rattle.cell_held.proofs.state_held.Tie as tie
+
+status-kept-requires : tie.Need-status-kept-requires
+status-kept-requires c κs = search needs
+
+returns : tie.Need-returns
+returns c = λ e. no-way e
+
+initial-kept-requires : tie.Need-initial-kept-requires
+initial-kept-requires c κs = search needs
+
+returns-2 : tie.Need-returns-2
+returns-2 c = λ e. no-way e
+
+returns-3 : tie.Need-returns-3
+returns-3 c = λ e. no-way e
+
+returns-4 : tie.Need-returns-4
+unfolding stateTests
+returns-4 c = λ e. test-holds 1 _ (passed (c .before .before .before .before .before .status-kept .ensures) (c .before .before .before .before .if1 .left)) (test-holds 2 _ (passed (c .before .before .before .initial-kept .ensures) (c .before .before .if2 .left)) (test-holds 3 _ (passed refl (c .if3 .left)) (test-holds 4 _ e no-test)))
+
+pub state-held-spec : {M : Type 1} → statement M
+state-held-spec = tie.close (tie.spec status-kept-requires returns initial-kept-requires returns-2 returns-3 returns-4)

@@ -1,0 +1,22 @@
+-- By whether there is a start.
+use mathlib.Core.Path.{_∙_, ap}
+use borrow.Author.Tests.{eq-eqb, ne-eqb}
+use Rattle.choices.specs.States.{stateOf}
+use borrow.Author.Needs.{needs}
+use Rattle.choices.proofs.state_at.Statement.{statement}
+use Rattle.choices.proofs.state_at.Tie as tie
+
+downtime-requires : tie.Need-downtime-requires
+downtime-requires c κs = search needs
+
+best-state-requires : tie.Need-best-state-requires
+best-state-requires c κs = search needs
+
+returns : tie.Need-returns
+returns c = simp (eq-eqb _ _ (c .before .before .if1 .taken)) (c .best-state .ensures ∙ ap (stateOf (c .before .before .before .before .args .d)) (c .before .downtime .ensures))
+
+returns-2 : tie.Need-returns-2
+returns-2 c = simp (ne-eqb _ _ (c .if1 .left))
+
+pub state-at-spec : {M : Type 1} → statement M
+state-at-spec = tie.close (tie.spec downtime-requires best-state-requires returns returns-2)

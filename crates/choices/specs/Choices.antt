@@ -1,0 +1,120 @@
+-- Our choices for one device in one interval, from its records and its settings.
+use mathlib.Core.Path.{_≡_, refl, sym, ap, ap₂, _∙_}
+use mathlib.Core.Bool.{Bool}
+use mathlib.Core.List.{List, map}
+use Prim.Native.Nat.{ℕ, zero, suc, _≤_}
+use native.Mathlib.Omega.{arith}
+use lib.Dec.{leb, eqb}
+use lib.ListN.{length}
+use lib.IntN.{ℤ, pos}
+use Rattle.numbers.specs.State.{best}
+use Rattle.bits.specs.Pick.{pick}
+use Rattle.numbers.specs.Base.{range}
+use Rattle.model.specs.Forced.{device, consuming, cap, su, power, downtime}
+use Rattle.model.specs.Rules.{blocks}
+use Rattle.model.specs.Completion.{stateCost, blockPrice}
+use Rattle.model.specs.Ours.{filling, lasts, bestState, ours}
+use Rattle.numbers.specs.Every.{all-range}
+use Rattle.units.specs.declared.Kw.{Kw}
+use Rattle.units.specs.Units.{kw}
+use Rattle.records.specs.declared.Cell.{Cell}
+use Rattle.records.specs.declared.Device.{Device}
+use Rattle.records.specs.Figures.{startedAt, stoppedAt}
+use Rattle.records.specs.Views.{priceOffset}
+use Rattle.records.specs.Viewed as Viewed
+use Rattle.block_fill.specs.Filled.{Filled, priceOf, capOf, Alike, filling-same, filling-caps, four-same}
+use Rattle.choices.specs.declared.Choice.{Choice}
+use Rattle.choices.specs.Cells as Cells
+use Rattle.choices.specs.Cells.{CellOf, systemOf, planOf, caseOf}
+use Rattle.choices.specs.States.{costOf, lastsOf, stateOf, best-same}
+use Rattle.choices.specs.Rests.{offSince, downtime-is}
+
+-- ---- the startup state
+
+module _ {d : Device} {cell : Cell} {settings : List (List ℕ)} {starts : List ℕ} {p t : ℕ} (w : CellOf d cell settings starts p t) where
+  pub states-are : length (device (systemOf w) (w .i) .longest) ≡ d .nstates
+  states-are =
+      let e = ap (λ (x : Device). x .nstates) (w .device-is) in
+      Viewed.states-are (w .halves) (w .zones) (w .minima) (w .devices) (w .cells) (w .i) (w .known) (w .ready .case-rows .counted (w .i) (w .known) .few-states) ∙ sym e
+
+  pub cost-is : (n : ℕ) → n ≤ d .nstates → costOf d n ≡ stateCost (caseOf w) (w .i) (pos n)
+  unfolding costOf stateCost
+  cost-is zero h = refl
+  cost-is (suc k) h =
+      let e : d .nstates ≡ _ = ap (λ (x : Device). x .nstates) (w .device-is) in
+      let few = w .ready .case-rows .counted (w .i) (w .known) .few-states in
+      rw (w .device-is) (sym (Viewed.state-cost-is (w .front) (w .halves) (w .zones) (w .minima) (w .devices) (w .cells) (w .i) (w .known) k few (omega arith)))
+
+  lasts-is : (n : ℕ) → n ≤ d .nstates → lastsOf d (downtime (systemOf w) (planOf w) t (w .i)) n ≡ lasts (systemOf w) (planOf w) t (w .i) n
+  unfolding lastsOf lasts
+  lasts-is zero h = refl
+  lasts-is (suc k) h =
+      let e : d .nstates ≡ _ = ap (λ (x : Device). x .nstates) (w .device-is) in
+      ap (leb (downtime (systemOf w) (planOf w) t (w .i)))
+      (rw (w .device-is) (sym (Viewed.longest-is (w .halves) (w .zones) (w .minima) (w .devices) (w .cells) (w .i) (w .known) k (omega arith))))
+
+  abbrev costs : ℕ → ℤ
+  costs n = stateCost (caseOf w) (w .i) (pos n)
+
+  abbrev rest : ℕ
+  rest = downtime (systemOf w) (planOf w) t (w .i)
+
+  abbrev bestOf : ℕ → ℕ
+  bestOf n = best costs (lasts (systemOf w) (planOf w) t (w .i)) 0 (range 1 n)
+
+  state-is : stateOf d rest ≡ bestOf (length (device (systemOf w) (w .i) .longest))
+  unfolding stateOf
+  state-is =
+      best-same (costOf d) costs (lastsOf d rest) (lasts (systemOf w) (planOf w) t (w .i)) 0 (range 1 (d .nstates)) (cost-is 0 (omega arith))
+      (all-range (λ k. (costOf d k ≡ costs k) × (lastsOf d rest k ≡ lasts (systemOf w) (planOf w) t (w .i) k)) 1 (d .nstates) (λ j a b. (cost-is j (omega arith), lasts-is j (omega arith))))
+      ∙ ap bestOf (sym states-are)
+
+  -- the state chosen at a start, and none elsewhere
+  pub chosen-is : {s r : ℕ} → s ≡ su (systemOf w) (planOf w) t (w .i) → r ≡ pick (eqb s 1) (stateOf d (offSince d settings starts t t)) 0 → r ≡ bestState (caseOf w) (planOf w) t (w .i)
+  unfolding bestState
+  chosen-is {s} {r} e h = h ∙ ap₂ (λ (n x : ℕ). pick (eqb n 1) x 0) e (ap (stateOf d) (downtime-is w) ∙ state-is)
+
+-- ---- block powers
+
+module _ {d : Device} {cell : Cell} {settings : List (List ℕ)} {starts : List ℕ} {p t : ℕ} (w : CellOf d cell settings starts p t) where
+  abbrev f : ℕ → ℤ
+  f = priceOf priceOffset (cell .prices)
+
+  prices-are : Alike (cap (systemOf w) t (w .i)) f (blockPrice (caseOf w) t (w .i))
+  prices-are = Cells.price-at w
+
+  pub blocks-are : {r : List Kw} → Filled (d .side) p (cell .caps) (cell .prices) r → r ≡ map (λ k. kw (ours (caseOf w) (planOf w) .block t (w .i) k)) blocks
+  unfolding ours
+  blocks-are {r} h =
+      h .powers priceOffset
+      ∙ ap₂ (λ (b : Bool) (n : ℕ). map (λ k. kw (filling b f (capOf (cell .caps)) n k)) blocks) (Cells.side-is w) (Cells.power-of w)
+      ∙ four-same _ _ (λ k l.
+      filling-caps n (capOf (cell .caps)) (cap (systemOf w) t (w .i)) f (Cells.cap-at w) (consuming (systemOf w) (w .i)) k l
+      ∙ filling-same n (cap (systemOf w) t (w .i)) f (blockPrice (caseOf w) t (w .i)) prices-are (consuming (systemOf w) (w .i)) k l)
+    where
+      n : ℕ
+      n = power (systemOf w) (planOf w) t (w .i)
+
+-- ---- the code's answer
+
+module _ (d : Device) (cell : Cell) (settings : List (List ℕ)) (starts : List ℕ) (p t : ℕ) where
+  -- the choices of our completion
+  pub record ChoiceOf (x : Choice) : Type 0 where
+    pub started : (w : CellOf d cell settings starts p t) → x .started ≡ ours (caseOf w) (planOf w) .started t (w .i)
+    pub stopped : (w : CellOf d cell settings starts p t) → x .stopped ≡ ours (caseOf w) (planOf w) .stopped t (w .i)
+    pub state : (w : CellOf d cell settings starts p t) → x .state ≡ ours (caseOf w) (planOf w) .state t (w .i)
+    pub blocks : (w : CellOf d cell settings starts p t) → x .blocks ≡ map (λ k. kw (ours (caseOf w) (planOf w) .block t (w .i) k)) blocks
+
+  pub choice-of : {s e x : ℕ} {b : List Kw} → s ≡ startedAt (d .on0) settings t → e ≡ stoppedAt (d .on0) settings t
+      → x ≡ pick (eqb s 1) (stateOf d (offSince d settings starts t t)) 0 → Filled (d .side) p (cell .caps) (cell .prices) b
+      → ChoiceOf (record { started = s; stopped = e; state = x; blocks = b })
+  unfolding ours
+  choice-of {s} {e} {x} {b} h j k l = record {
+    started = begun;
+    stopped = λ w. j ∙ Cells.stop-is w;
+    state = λ w. chosen-is w (begun w) k;
+    blocks = λ w. blocks-are w l;
+  }
+    where
+      begun : (w : CellOf d cell settings starts p t) → s ≡ su (systemOf w) (planOf w) t (w .i)
+      begun w = h ∙ Cells.start-is w

@@ -1,0 +1,5 @@
+pub mod Cells
+pub mod States
+pub mod Rests
+pub mod Choices
+pub mod Here

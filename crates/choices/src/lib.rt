@@ -1,0 +1,136 @@
+// Our choices for a device in an interval: "lower-numbered block first; lowest-numbered cheapest state, and none unless it costs below 0".
+use records::Cell;
+use records::Device;
+use records::SettingRow;
+use records::State;
+use records::on_at;
+use records::started_at;
+use records::stopped_at;
+use units::Kw;
+ghost use mathlib.Core.Path.{_≡_};
+ghost use Prim.Native.Nat.{_≤_, _-_};
+ghost use lib.Dec.{eqb};
+ghost use Rattle.bits.specs.Pick.{pick};
+ghost use Rattle.choices.specs.Cells.{CellOf};
+ghost use Rattle.choices.specs.States.{chosen, stateOf};
+ghost use Rattle.choices.specs.Rests.{initial, offSince, Looks};
+ghost use Rattle.choices.specs.Choices.{ChoiceOf};
+
+// The cost of no state, kept from 0.
+const NO_COST: u32 = 1_000_000_000;
+
+// The startup state chosen so far, 0 none, and its cost kept from 0.
+pub struct Chosen {
+    pub state: u32,
+    pub least: u32,
+}
+
+// State number n in its place, where it lasts the downtime and costs less.
+fn with_state(b: Chosen, s: State, n: u32, downtime: u32) -> Chosen
+    ensures { λ r. ⌜ r ≡ chosen b s n downtime ⌝ }
+{
+    if downtime <= s.longest {
+        if s.cost < b.least {
+            return Chosen {
+                state: n,
+                least: s.cost,
+            };
+        }
+    }
+    b
+}
+
+// The lowest-numbered cheapest state that lasts the downtime, and none unless it costs below 0.
+fn best_state(d: Device, downtime: u32) -> u32
+    requires { ⌜ d .nstates ≤ 4 ⌝ }
+    ensures { λ r. ⌜ r ≡ stateOf d downtime ⌝ }
+{
+    let mut b = Chosen {
+        state: 0,
+        least: NO_COST,
+    };
+    let mut k = 0;
+    while k < d.nstates {
+        let s = d.states[k];
+        b = with_state(b, s, k as u32 + 1, downtime);
+        k += 1;
+    }
+    b.state
+}
+
+// The minutes that a device was off before the day.
+fn initial_rest(d: Device) -> u32
+    ensures { λ r. ⌜ (r ≡ initial d) × (r ≤ d .minutes0) ⌝ }
+{
+    if d.on0 == 0 { d.minutes0 } else { 0 }
+}
+
+// The minutes from an interval's end to a later start.
+fn since(start: u32, end: u32) -> u32
+    ensures { λ r. ⌜ r ≡ start - end ⌝ }
+{
+    if end <= start { start - end } else { 0 }
+}
+
+// "Downtime runs from the end of the last on interval; if none, S, plus minutes already so when initially off."
+fn downtime(d: Device, settings: &[SettingRow], starts: &[u32], t: usize) -> u32
+    requires { ⌜ Looks d (now settings) (now starts) t ⌝ }
+    ensures { λ r. ⌜ r ≡ offSince d (now (settings .entry)) (now (starts .entry)) t t ⌝ }
+{
+    let start = starts[t];
+    let mut k = t;
+    while 0 < k {
+        let e = k - 1;
+        if on_at(settings, e) == 1 {
+            return since(start, starts[k]);
+        }
+        k = e;
+    }
+    start + initial_rest(d)
+}
+
+// The startup state at a start, elsewhere none.
+fn state_at(d: Device, settings: &[SettingRow], starts: &[u32], t: usize, started: u32) -> u32
+    requires { ⌜ (d .nstates ≤ 4) × Looks d (now settings) (now starts) t ⌝ }
+    ensures { λ r. ⌜ r ≡ pick (eqb started 1) (stateOf d (offSince d (now (settings .entry)) (now (starts .entry)) t t)) 0 ⌝ }
+{
+    if started == 1 {
+        best_state(d, downtime(d, settings, starts, t))
+    } else {
+        0
+    }
+}
+
+// Our choices for one device in one interval; state 0 is none.
+pub struct Choice {
+    pub started: u32,
+    pub stopped: u32,
+    pub state: u32,
+    pub blocks: [Kw; 4],
+}
+
+// The device's choices in interval t, from its cell there, its settings and its power p.
+pub fn choose(
+    d: Device,
+    cell: Cell,
+    settings: &[SettingRow],
+    starts: &[u32],
+    p: Kw,
+    t: usize,
+) -> Choice
+    requires { ⌜ CellOf d cell (now settings) (now starts) (p .0) t ⌝ }
+    ensures { λ r. ⌜ ChoiceOf d cell (now (settings .entry)) (now (starts .entry)) (p .0) t r ⌝ }
+{
+    let started = started_at(d.on0, settings, t);
+    let stopped = stopped_at(d.on0, settings, t);
+    let state = state_at(d, settings, starts, t, started);
+    let caps = cell.caps;
+    let prices = cell.prices;
+    let blocks = block_fill::fill(p, d.side, caps, prices);
+    Choice {
+        started,
+        stopped,
+        state,
+        blocks,
+    }
+}

@@ -1,0 +1,5 @@
+pub mod Apart
+pub mod Moments
+pub mod Tie
+pub mod Windows
+pub mod Whole

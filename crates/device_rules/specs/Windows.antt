@@ -1,0 +1,120 @@
+-- Rule 20: the starts of a device inside a window, in its part of the settings.
+use mathlib.Core.Path.{_≡_, refl, ap₂, _∙_}
+use mathlib.Core.Bool.{Bool, true, false, _&&_}
+use mathlib.Core.List.{List, [], _∷_}
+use Prim.Native.Nat.{ℕ, zero, suc, _+_, _≤_, _<_}
+use native.Mathlib.Omega.{arith}
+use borrow.Author.Tests.{le-leb, lt-leb, lt-ltb, le-ltb}
+use lib.Dec.{leb, ltb}
+use lib.ListN.{getD, length}
+use Rattle.numbers.specs.Sum.{sumℕ, gate}
+use Rattle.numbers.specs.Base.{range, upTo, bit}
+use Rattle.model.specs.Case.{System, Plan}
+use Rattle.model.specs.Forced as F
+use Rattle.model.specs.Rules as R
+use Rattle.records.specs.Figures.{deviceOf, onAt, onBefore, startedAt}
+use Rattle.records.specs.Parts.{part, part-long}
+use Rattle.records.specs.Sums.{sum-more}
+use Rattle.records.specs.Views.{systemIn, planIn, Ready}
+use Rattle.records.specs.Viewed as W
+use Rattle.records.specs.Viewed.{noStart}
+use Rattle.records.specs.declared.Device.{Device}
+use Rattle.records.specs.declared.Front.{Front}
+use Rattle.records.specs.declared.StartWindow.{StartWindow}
+
+-- su is at most 1
+bit-few : (b : Bool) → bit b ≤ 1
+bit-few true = omega arith
+bit-few false = omega arith
+
+pub started-few : (on0 : ℕ) (settings : List (List ℕ)) (t : ℕ) {x : ℕ} → x ≡ startedAt on0 settings t → x ≤ 1
+started-few on0 settings t e = rw e (bit-few (ltb (onBefore on0 settings t) (onAt settings t)))
+
+-- the start in interval t, where it counts
+abbrev pub countedStart : StartWindow → ℕ → List (List ℕ) → List ℕ → ℕ → ℕ
+countedStart w on0 settings starts t = gate (leb (w .from) (getD starts t 0) && ltb (getD starts t 0) (w .until)) (startedAt on0 settings t)
+
+unfoldable pub startsAt : StartWindow → ℕ → List (List ℕ) → List ℕ → ℕ
+startsAt w on0 settings starts = sumℕ (countedStart w on0 settings starts) (upTo (length settings))
+
+-- the starts of the day, of which a window's are some
+unfoldable pub allStarts : ℕ → List (List ℕ) → ℕ
+allStarts on0 settings = sumℕ (startedAt on0 settings) (upTo (length settings))
+
+some-of : (b : Bool) (n : ℕ) → gate b n ≤ n
+some-of true n = omega arith
+some-of false n = omega arith
+
+pub some-starts : (w : StartWindow) (on0 : ℕ) (settings : List (List ℕ)) (starts : List ℕ) → startsAt w on0 settings starts ≤ allStarts on0 settings
+unfolding startsAt allStarts range
+some-starts w on0 settings starts = go 0 (length settings)
+  where
+    go : (k n : ℕ) → sumℕ (countedStart w on0 settings starts) (range k n) ≤ sumℕ (startedAt on0 settings) (range k n)
+    go k zero = omega arith
+    go k (suc n) = omega (arith, go (suc k) n, some-of (leb (w .from) (getD starts k 0) && ltb (getD starts k 0) (w .until)) (startedAt on0 settings k))
+
+-- the starts of the intervals below t
+pub record StartsTo (on0 : ℕ) (settings : List (List ℕ)) (t sum : ℕ) : Type 0 where
+  pub total : sum ≡ sumℕ (startedAt on0 settings) (upTo t)
+  pub few : sum ≤ t
+
+module _ (on0 : ℕ) (settings : List (List ℕ)) where
+  pub starts-none : StartsTo on0 settings 0 0
+  unfolding range
+  starts-none = record { total = refl; few = omega arith }
+
+  pub starts-next : {t sum x : ℕ} → StartsTo on0 settings t sum → x ≡ startedAt on0 settings t → StartsTo on0 settings (t + 1) (sum + x)
+  starts-next {t} h e = record { total = omega (arith, h .total, sum-more (startedAt on0 settings) t); few = omega (arith, h .few, started-few on0 settings t e) }
+
+-- the starts counted so far, where they count
+pub record Counted (w : StartWindow) (on0 : ℕ) (settings : List (List ℕ)) (starts : List ℕ) (t sum : ℕ) : Type 0 where
+  pub total : sum ≡ sumℕ (countedStart w on0 settings starts) (upTo t)
+  pub few : sum ≤ t
+
+module _ (w : StartWindow) (on0 : ℕ) (settings : List (List ℕ)) (starts : List ℕ) where
+  pub counted-none : Counted w on0 settings starts 0 0
+  unfolding range
+  counted-none = record { total = refl; few = omega arith }
+
+  pub counted-next : {t sum x : ℕ} → Counted w on0 settings starts t sum → x ≡ countedStart w on0 settings starts t → x ≤ 1 → Counted w on0 settings starts (t + 1) (sum + x)
+  counted-next {t} h e l = record { total = omega (arith, h .total, sum-more (countedStart w on0 settings starts) t); few = omega (arith, h .few) }
+
+-- inside the window, before it, after it
+module _ (w : StartWindow) (s n : ℕ) where
+  pub inside : w .from ≤ s → s < w .until → n ≡ gate (leb (w .from) s && ltb s (w .until)) n
+  inside h k = rw (le-leb (w .from) s h, lt-ltb s (w .until) k) refl
+
+  pub too-early : s < w .from → 0 ≡ gate (leb (w .from) s && ltb s (w .until)) n
+  too-early h = rw (lt-leb (w .from) s h) refl
+
+  pub too-late : w .until ≤ s → 0 ≡ gate (leb (w .from) s && ltb s (w .until)) n
+  too-late h = rw (le-ltb s (w .until) h) (go (leb (w .from) s))
+    where
+      go : (b : Bool) → 0 ≡ gate (b && false) n
+      go true = refl
+      go false = refl
+
+sum-range : (f g : ℕ → ℕ) (k n : ℕ) → ((t : ℕ) → k ≤ t → t < k + n → f t ≡ g t) → sumℕ f (range k n) ≡ sumℕ g (range k n)
+unfolding range
+sum-range f g k zero h = refl
+sum-range f g k (suc n) h = ap₂ (λ (a b : ℕ). a + b) (h k (omega arith) (omega arith)) (sum-range f g (suc k) n (λ t l m. h t (omega arith) (omega arith)))
+
+module _ {front : Front} {halves : List ℕ} {zones minima devices cells settings : List (List ℕ)} {starts powers : List ℕ}
+    (ready : Ready front halves zones minima devices cells settings starts powers) (i : ℕ) (l : i < length devices) where
+  abbrev q : System
+  q = systemIn halves zones minima devices cells
+
+  abbrev p : Plan
+  p = planIn (length devices) (length halves) settings
+
+  abbrev d : Device
+  d = deviceOf (getD devices i [])
+
+  -- the starts in a window are the model's
+  pub starts-are : (w : ℕ) → w < d .nstarts → startsAt (getD (d .starts) w noStart) (d .on0) (part (length halves) i settings) starts ≡ R.startsIn q p i w
+  unfolding startsAt R.startsIn
+  starts-are w b =
+      let long : length (part (length halves) i settings) ≡ length halves = part-long (length halves) i (length devices) settings l (ready .plan-rows .full) in
+      rw (W.start-window-is halves zones minima devices cells i l w b, W.intervals-are halves zones minima devices cells, long)
+      (sum-range _ _ 0 (length halves) (λ t a h.
+      rw (ready .forced-rows .start t (omega arith), W.started-is halves zones minima devices cells settings t i (omega arith) l) refl))

@@ -1,0 +1,126 @@
+-- The sizes of figures and of money, for any day of at most 64 devices and 96 intervals whose plan breaks no rule. Every bound is made of these names.
+-- In grains, at the largest: a cell 9.4·10^12, a zone in an interval 1.4·10^15, an interval's mismatch 4.6·10^13, an overrun 4·10^13.
+-- A day's debits then come to at most 5.8·10^16 (cells) + 5.5·10^17 (shortfalls) + 4.4·10^15 (mismatches) + 1.0·10^16 (overruns), near 6.2·10^17;
+-- its credits are of cells alone, at most 1.8·10^16. Both stay below 2^62, which is 4.6·10^18.
+use Prim.Native.Nat.{ℕ, _+_, _*_, _^_, _<_}
+use native.Mathlib.Omega.{arith}
+use Rattle.records.specs.Views.{priceOffset, costOffset, mostDevices, mostIntervals}
+
+-- ---- figures
+
+-- kW: p of a device where no rule is broken, a block, a reserve
+abbrev pub powerMost : ℕ
+powerMost = 100000
+
+-- minutes of an interval
+abbrev pub minutesMost : ℕ
+minutesMost = 360
+
+-- grains per kW·min: blocks (on either side of 0), reserves, mismatch, overrun
+abbrev pub priceMost : ℕ
+priceMost = 10000
+
+-- a block's price kept from 0
+abbrev pub keptMost : ℕ
+keptMost = priceOffset + priceMost
+
+-- grains per W·min
+abbrev pub shortPriceMost : ℕ
+shortPriceMost = 100
+
+-- grains a minute: on cost
+abbrev pub rateMost : ℕ
+rateMost = 100000
+
+-- grains: start, stop and state costs, these on either side of 0
+abbrev pub costMost : ℕ
+costMost = 1000000000
+
+-- kW·min: the limit of an energy window
+abbrev pub limitMost : ℕ
+limitMost = 4000000000
+
+-- in thousandths: a share
+abbrev pub shareMost : ℕ
+shareMost = 1000
+
+-- counts of blocks, zones and windows
+abbrev pub blocksMost : ℕ
+blocksMost = 4
+
+abbrev pub zonesMost : ℕ
+zonesMost = 4
+
+abbrev pub windowsMost : ℕ
+windowsMost = 4
+
+-- ---- what follows of them
+
+-- kW: one side's power
+abbrev pub loadMost : ℕ
+loadMost = mostDevices * powerMost
+
+abbrev pub mismatchMost : ℕ
+mismatchMost = loadMost + loadMost
+
+-- W: the shares of the load, and of the largest unit for scr and nsc
+abbrev pub shortfallMost : ℕ
+shortfallMost = shareMost * (loadMost + powerMost + powerMost)
+
+-- ---- money
+
+-- a power over an interval at a price, kept from 0 or not
+abbrev pub valueMost : ℕ
+valueMost = powerMost * minutesMost * keptMost
+
+-- blocks at their prices and p at the offset
+abbrev pub tradeMost : ℕ
+tradeMost = blocksMost * valueMost + valueMost
+
+abbrev pub onMost : ℕ
+onMost = rateMost * minutesMost
+
+abbrev pub stateMost : ℕ
+stateMost = costOffset + (costOffset + costMost)
+
+abbrev pub changeMost : ℕ
+changeMost = costMost + costMost + stateMost
+
+-- four of the eight
+abbrev pub fourMost : ℕ
+fourMost = 4 * valueMost
+
+abbrev pub reservesMost : ℕ
+reservesMost = fourMost + fourMost
+
+abbrev pub cellMost : ℕ
+cellMost = tradeMost + onMost + changeMost + reservesMost
+
+-- one shortfall, and the six of a zone
+abbrev pub shortMost : ℕ
+shortMost = minutesMost * (shortPriceMost * shortfallMost)
+
+abbrev pub zoneMost : ℕ
+zoneMost = 6 * shortMost
+
+abbrev pub mismatchCostMost : ℕ
+mismatchCostMost = mismatchMost * minutesMost * priceMost
+
+abbrev pub overrunCostMost : ℕ
+overrunCostMost = limitMost * priceMost
+
+abbrev pub intervalMost : ℕ
+intervalMost = mostDevices * cellMost + zonesMost * zoneMost + mismatchCostMost
+
+abbrev pub windowsCostMost : ℕ
+windowsCostMost = windowsMost * overrunCostMost
+
+abbrev pub dayMost : ℕ
+dayMost = mostIntervals * intervalMost + mostDevices * windowsCostMost
+
+-- what a ledger has room for
+abbrev pub roomMost : ℕ
+roomMost = 2 ^ 62
+
+pub day-fits : dayMost < roomMost
+day-fits = omega arith

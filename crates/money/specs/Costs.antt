@@ -1,0 +1,104 @@
+-- On, start, stop, state and reserve costs.
+use mathlib.Core.Path.{_≡_, refl, sym, ap, _∙_}
+use mathlib.Core.Logic.{_⊎_, inl, inr}
+use Prim.Native.Nat.{ℕ, zero, suc, _+_, _-_, _*_, _≤_}
+use native.Mathlib.Omega.{arith}
+use native.Mathlib.Nat.{mul-le-mul}
+use lib.ListN.{getD}
+use lib.IntN.{ℤ, pos, negℤ, _+ℤ_}
+use Rattle.numbers.specs.Laws as L
+use Rattle.units.specs.declared.Ledger.{Ledger}
+use Rattle.units.specs.Units.{Ledgered}
+use Rattle.records.specs.declared.Device.{Device}
+use Rattle.records.specs.declared.Reserves.{Reserves}
+use Rattle.records.specs.declared.ReservePrices.{ReservePrices}
+use Rattle.records.specs.Views.{costOffset}
+use Rattle.records.specs.Viewed.{noState}
+use Rattle.choices.specs.States.{costOf}
+use Rattle.money.specs.Bounds.{powerMost, minutesMost, priceMost, rateMost, costMost, onMost, stateMost, changeMost}
+use Rattle.money.specs.Entries.{Entered, entered-none, entered-then, entered-as, earned, spent}
+
+pub record CostsBelow (d : Device) : Type 0 where
+  pub on : d .oncost ≤ rateMost
+  pub start : d .startcost .0 ≤ costMost
+  pub stop : d .stopcost .0 ≤ costMost
+
+-- none, or a state's cost kept from 0
+abbrev pub StateBelow : Device → ℕ → Type 0
+StateBelow d state = (state ≡ 0) ⊎ (getD (d .states) (state - 1) noState .cost ≤ costOffset + costMost)
+
+pub cost-known : (d : Device) (state : ℕ) → StateBelow d state → (state ≡ 0 → ⊥) → getD (d .states) (state - 1) noState .cost ≤ costOffset + costMost
+cost-known d state (inl z) n = absurd (n z)
+cost-known d state (inr h) n = h
+
+-- amounts, and their prices
+pub record AmountsBelow (r : Reserves) : Type 0 where
+  pub rgu : r .rgu .0 ≤ powerMost
+  pub rgd : r .rgd .0 ≤ powerMost
+  pub scr : r .scr .0 ≤ powerMost
+  pub nsc : r .nsc .0 ≤ powerMost
+  pub rruon : r .rruon .0 ≤ powerMost
+  pub rruoff : r .rruoff .0 ≤ powerMost
+  pub rrdon : r .rrdon .0 ≤ powerMost
+  pub rrdoff : r .rrdoff .0 ≤ powerMost
+
+pub record PricesBelow (r : ReservePrices) : Type 0 where
+  pub rgu : r .rgu ≤ priceMost
+  pub rgd : r .rgd ≤ priceMost
+  pub scr : r .scr ≤ priceMost
+  pub nsc : r .nsc ≤ priceMost
+  pub rruon : r .rruon ≤ priceMost
+  pub rruoff : r .rruoff ≤ priceMost
+  pub rrdon : r .rrdon ≤ priceMost
+  pub rrdoff : r .rrdoff ≤ priceMost
+
+-- each price times its amount
+abbrev pub firstFour : ReservePrices → Reserves → ℕ
+firstFour b a = b .rgu * a .rgu .0 + b .rgd * a .rgd .0 + b .scr * a .scr .0 + b .nsc * a .nsc .0
+
+abbrev pub lastFour : ReservePrices → Reserves → ℕ
+lastFour b a = b .rruon * a .rruon .0 + b .rruoff * a .rruoff .0 + b .rrdon * a .rrdon .0 + b .rrdoff * a .rrdoff .0
+
+abbrev pub eightCost : ReservePrices → Reserves → ℕ
+eightCost b a =
+    b .rgu * a .rgu .0 + b .rgd * a .rgd .0 + b .scr * a .scr .0 + b .nsc * a .nsc .0
+    + b .rruon * a .rruon .0 + b .rruoff * a .rruoff .0 + b .rrdon * a .rrdon .0 + b .rrdoff * a .rrdoff .0
+
+-- a cost as often as it is due
+pub due-once : (cost times : ℕ) → times ≡ 1 → cost ≡ cost * times
+due-once cost times e = rw e (omega arith)
+
+pub due-never : (cost times : ℕ) → times ≤ 1 → (times ≡ 1 → ⊥) → 0 ≡ cost * times
+due-never cost zero h n = omega arith
+due-never cost (suc zero) h n = absurd (n refl)
+due-never cost (suc (suc k)) h n = absurd (omega arith)
+
+pub on-cost : (rate on minutes : ℕ) {a g : ℕ} → rate ≤ rateMost → minutes ≤ minutesMost → a ≡ rate * minutes → g ≡ a * on → g ≤ a → (g ≡ minutes * (rate * on)) × (g ≤ onMost)
+on-cost rate on minutes {a} {g} h i e f l =
+    let k : a ≤ onMost = omega (arith, mul-le-mul h i) in
+    (rw (f, e) (omega arith), omega arith)
+
+pub no-state : (l : Ledger) (d : Device) (state : ℕ) → state ≡ 0 → Entered l l (negℤ (costOf d state)) stateMost
+unfolding costOf
+no-state l d state e = rw e (entered-as (entered-none l) refl (omega arith))
+
+pub state-cost : (d : Device) (state : ℕ) {l m r : Ledger} {x : ℕ} → (state ≡ 0 → ⊥) → x ≡ getD (d .states) (state - 1) noState .cost → x ≤ costOffset + costMost
+    → Ledgered m (l .credit .0 + costOffset) (l .debit .0) → Ledgered r (m .credit .0) (m .debit .0 + x) → Entered l r (negℤ (costOf d state)) stateMost
+unfolding costOf
+state-cost d zero n e s h k = absurd (n refl)
+state-cost d (suc j) {l} {m} {r} {x} n e s h k =
+    let z : suc j - 1 ≡ j = omega arith in
+    let f : x ≡ getD (d .states) j noState .cost = e ∙ ap (λ (i : ℕ). getD (d .states) i noState .cost) z in
+    entered-as (entered-then (earned h) (spent k)) (rw f (sym (L.neg-sub (pos (getD (d .states) j noState .cost)) (pos costOffset)))) (omega arith)
+
+pub change-cost : (d : Device) (started stopped state : ℕ) {l a b r : Ledger} {x y : ℕ} → x ≡ d .startcost .0 * started → y ≡ d .stopcost .0 * stopped → x ≤ costMost → y ≤ costMost
+    → Ledgered a (l .credit .0) (l .debit .0 + x) → Ledgered b (a .credit .0) (a .debit .0 + y) → Entered b r (negℤ (costOf d state)) stateMost
+    → Entered l r (negℤ (pos (d .startcost .0 * started) +ℤ pos (d .stopcost .0 * stopped) +ℤ costOf d state)) changeMost
+change-cost d started stopped state {x = x} {y = y} e f s u h k j =
+    entered-as (entered-then (entered-then (spent h) (spent k)) j) (rw (e, f) (both (pos (d .startcost .0 * started)) (pos (d .stopcost .0 * stopped)) (costOf d state))) (omega arith)
+  where
+    both : (x y z : ℤ) → negℤ x +ℤ negℤ y +ℤ negℤ z ≡ negℤ (x +ℤ y +ℤ z)
+    both x y z = sym (L.neg-add (x +ℤ y) z ∙ ap (λ (w : ℤ). w +ℤ negℤ z) (L.neg-add x y))
+
+pub eight-cost : (minutes : ℕ) (b : ReservePrices) (a : Reserves) {x y z : ℕ} → x ≡ minutes * firstFour b a → y ≡ minutes * lastFour b a → z ≡ x + y → z ≡ minutes * eightCost b a
+eight-cost minutes b a e f g = rw (g, e, f) (omega arith)

@@ -1,0 +1,6 @@
+pub mod Sums
+pub mod Times
+pub mod Trajectories
+pub mod Changes
+pub mod Tied
+pub mod Fleet

@@ -1,0 +1,165 @@
+-- The figures of a row, by name: the one place in the proofs that knows where a figure stands.
+use mathlib.Core.Bool.{Bool}
+use mathlib.Core.List.{List, [], _∷_}
+use Prim.Native.Nat.{ℕ, _+_, _-_, _*_, _/_, _%_, _^_}
+use lib.Dec.{eqb, ltb}
+use lib.ListN.{getD}
+use Rattle.bits.specs.Pick.{pick}
+use Rattle.numbers.specs.Base.{bit}
+use Rattle.units.specs.declared.Kw.{Kw}
+use Rattle.units.specs.declared.Grains.{Grains}
+use Rattle.units.specs.Units.{kw, kwMin, grains}
+use Rattle.records.specs.declared.Reserves.{Reserves}
+use Rattle.records.specs.declared.ReservePrices.{ReservePrices}
+use Rattle.records.specs.declared.Cell.{Cell}
+use Rattle.records.specs.declared.Setting.{Setting}
+use Rattle.records.specs.declared.State.{State}
+use Rattle.records.specs.declared.StartWindow.{StartWindow}
+use Rattle.records.specs.declared.EnergyWindow.{EnergyWindow}
+use Rattle.records.specs.declared.Device.{Device}
+use Rattle.records.specs.declared.Zone.{Zone}
+use Rattle.records.specs.declared.Minima.{Minima}
+
+abbrev pub at : List ℕ → ℕ → ℕ
+at r k = getD r k 0
+
+-- the eight from place k on: amounts, prices
+abbrev pub eightOf : List ℕ → ℕ → Reserves
+eightOf r k = record {
+  rgu = kw (at r k);
+  rgd = kw (at r (k + 1));
+  scr = kw (at r (k + 2));
+  nsc = kw (at r (k + 3));
+  rruon = kw (at r (k + 4));
+  rruoff = kw (at r (k + 5));
+  rrdon = kw (at r (k + 6));
+  rrdoff = kw (at r (k + 7));
+}
+
+abbrev pub eightPrices : List ℕ → ℕ → ReservePrices
+eightPrices r k = record {
+  rgu = at r k;
+  rgd = at r (k + 1);
+  scr = at r (k + 2);
+  nsc = at r (k + 3);
+  rruon = at r (k + 4);
+  rruoff = at r (k + 5);
+  rrdon = at r (k + 6);
+  rrdoff = at r (k + 7);
+}
+
+abbrev pub cellOf : List ℕ → Cell
+cellOf r = record {
+  status = at r 0;
+  pmin = kw (at r 1);
+  pmax = kw (at r 2);
+  blocks = at r 3;
+  caps = kw (at r 4) ∷ kw (at r 5) ∷ kw (at r 6) ∷ kw (at r 7) ∷ [];
+  prices = at r 8 ∷ at r 9 ∷ at r 10 ∷ at r 11 ∷ [];
+  reserves = eightPrices r 12;
+}
+
+abbrev pub settingOf : List ℕ → Setting
+settingOf r = record { on = at r 0; online = kw (at r 1); reserves = eightOf r 2 }
+
+-- where a device's lists begin, each with its count
+abbrev pub statesFrom : ℕ
+statesFrom = 22
+
+abbrev pub startsFrom : ℕ
+startsFrom = 31
+
+abbrev pub energiesFrom : ℕ
+energiesFrom = 44
+
+abbrev pub stateOf : List ℕ → ℕ → State
+stateOf r k = let a = statesFrom + 1 + 2 * k in record { longest = at r a; cost = at r (a + 1) }
+
+abbrev pub startOf : List ℕ → ℕ → StartWindow
+startOf r k = let a = startsFrom + 1 + 3 * k in record { from = at r a; until = at r (a + 1); most = at r (a + 2) }
+
+abbrev pub windowOf : (kind from until energy : ℕ) → EnergyWindow
+windowOf kind from until energy = record { kind = kind; from = from; until = until; energy = kwMin energy }
+
+abbrev pub energyOf : List ℕ → ℕ → EnergyWindow
+energyOf r k = let a = energiesFrom + 1 + 4 * k in windowOf (at r a) (at r (a + 1)) (at r (a + 2)) (at r (a + 3))
+
+abbrev pub statesOf : List ℕ → List State
+statesOf r = stateOf r 0 ∷ stateOf r 1 ∷ stateOf r 2 ∷ stateOf r 3 ∷ []
+
+abbrev pub startsOf : List ℕ → List StartWindow
+startsOf r = startOf r 0 ∷ startOf r 1 ∷ startOf r 2 ∷ startOf r 3 ∷ []
+
+abbrev pub energiesOf : List ℕ → List EnergyWindow
+energiesOf r = energyOf r 0 ∷ energyOf r 1 ∷ energyOf r 2 ∷ energyOf r 3 ∷ []
+
+abbrev pub limitsOf : List ℕ → List Kw
+limitsOf r = kw (at r 14) ∷ kw (at r 15) ∷ kw (at r 16) ∷ kw (at r 17) ∷ kw (at r 18) ∷ kw (at r 19) ∷ kw (at r 20) ∷ kw (at r 21) ∷ []
+
+-- a device from its row; its costs, limits and counted lists given
+abbrev pub deviceWith : List ℕ → (startcost stopcost : Grains) → List Kw → ℕ → List State → ℕ → List StartWindow → ℕ → List EnergyWindow → Device
+deviceWith r startcost stopcost limits nstates states nstarts starts nenergies energies = record {
+  side = at r 0;
+  zonebits = at r 1;
+  on0 = at r 2;
+  power0 = kw (at r 3);
+  minutes0 = at r 4;
+  minup = at r 5;
+  mindown = at r 6;
+  ramps = at r 7 ∷ at r 8 ∷ at r 9 ∷ at r 10 ∷ [];
+  oncost = at r 11;
+  startcost = startcost;
+  stopcost = stopcost;
+  limits = limits;
+  nstates = nstates;
+  states = states;
+  nstarts = nstarts;
+  starts = starts;
+  nenergies = nenergies;
+  energies = energies;
+}
+
+abbrev pub deviceOf : List ℕ → Device
+deviceOf r = deviceWith r (grains (at r 12)) (grains (at r 13)) (limitsOf r) (at r statesFrom) (statesOf r) (at r startsFrom) (startsOf r) (at r energiesFrom) (energiesOf r)
+
+abbrev pub zoneOf : List ℕ → Zone
+zoneOf r = record { rgu = at r 0; rgd = at r 1; scr = at r 2; nsc = at r 3; prices = at r 4 ∷ at r 5 ∷ at r 6 ∷ at r 7 ∷ at r 8 ∷ at r 9 ∷ [] }
+
+abbrev pub minimaOf : List ℕ → Minima
+minimaOf r = record { rru = kw (at r 0); rrd = kw (at r 1) }
+
+-- ---- one figure of a table's row k
+
+abbrev pub onAt : List (List ℕ) → ℕ → ℕ
+onAt settings k = settingOf (getD settings k []) .on
+
+abbrev pub onlineAt : List (List ℕ) → ℕ → ℕ
+onlineAt settings k = settingOf (getD settings k []) .online .0
+
+abbrev pub pminAt : List (List ℕ) → ℕ → ℕ
+pminAt cells k = cellOf (getD cells k []) .pmin .0
+
+abbrev pub sideAt : List (List ℕ) → ℕ → ℕ
+sideAt devices i = deviceOf (getD devices i []) .side
+
+abbrev pub zonebitsAt : List (List ℕ) → ℕ → ℕ
+zonebitsAt devices i = deviceOf (getD devices i []) .zonebits
+
+-- u of the interval before; "before interval 1 the initial state stands"
+abbrev pub onBefore : ℕ → List (List ℕ) → ℕ → ℕ
+onBefore on0 settings t = pick (eqb t 0) on0 (onAt settings (t - 1))
+
+-- su and sd, in a device's part of the settings
+abbrev pub startedAt : ℕ → List (List ℕ) → ℕ → ℕ
+startedAt on0 settings t = bit (ltb (onBefore on0 settings t) (onAt settings t))
+
+abbrev pub stoppedAt : ℕ → List (List ℕ) → ℕ → ℕ
+stoppedAt on0 settings t = bit (ltb (onAt settings t) (onBefore on0 settings t))
+
+-- "Previous p in interval 1 is initial power", in a device's part of the powers
+abbrev pub previousAt : ℕ → List ℕ → ℕ → ℕ
+previousAt power0 powers t = pick (eqb t 0) power0 (at powers (t - 1))
+
+-- "zone bits 4, zone 1 first"
+abbrev pub inZone : ℕ → ℕ → Bool
+inZone bits z = eqb (bits / 2 ^ (3 - z) % 2) 1

@@ -1,0 +1,182 @@
+-- Which case and plan the rows hold. The counts are the slices' lengths: a table of cells or settings has a part for each device, one of minima a part
+-- for each zone, with an element for each interval.
+use mathlib.Core.Path.{_≡_}
+use mathlib.Core.List.{List, [], map}
+use Prim.Native.Nat.{ℕ, suc, _+_, _*_, _≤_, _<_}
+use lib.ListN.{length, getD, take}
+use lib.IntN.{ℤ, pos, _-ℤ_}
+use Rattle.model.specs.Case as M
+use Rattle.model.specs.Case.{System, Prices, Case, Plan}
+use Rattle.model.specs.Forced.{startOf, power}
+use Rattle.ranges.specs.Ranges.{CaseRange, SettingRange}
+use Rattle.ranges.specs.Views.{rows}
+use Rattle.units.specs.declared.Kw.{Kw}
+use Rattle.records.specs.declared.Reserves.{Reserves}
+use Rattle.records.specs.declared.ReservePrices.{ReservePrices}
+use Rattle.records.specs.declared.State.{State}
+use Rattle.records.specs.declared.StartWindow.{StartWindow}
+use Rattle.records.specs.declared.EnergyWindow.{EnergyWindow}
+use Rattle.records.specs.declared.Device.{Device}
+use Rattle.records.specs.declared.Front.{Front}
+use Rattle.records.specs.Figures.{cellOf, settingOf, deviceOf, zoneOf, minimaOf}
+use Rattle.records.specs.Parts.{part}
+
+-- ---- the model's figures, by the records' names
+
+-- a figure kept from 0: what is kept less the offset
+abbrev pub priceOffset : ℕ
+priceOffset = 10000
+
+abbrev pub costOffset : ℕ
+costOffset = 1000000000
+
+abbrev pub less : ℕ → ℕ → ℤ
+less offset v = pos v -ℤ pos offset
+
+abbrev pub eightIn : Reserves → M.Reserves
+eightIn r = record { rgu = r .rgu .0; rgd = r .rgd .0; scr = r .scr .0; nsc = r .nsc .0; rruOn = r .rruon .0; rruOff = r .rruoff .0; rrdOn = r .rrdon .0; rrdOff = r .rrdoff .0 }
+
+abbrev pub eightPricesIn : ReservePrices → M.Reserves
+eightPricesIn r = record { rgu = r .rgu; rgd = r .rgd; scr = r .scr; nsc = r .nsc; rruOn = r .rruon; rruOff = r .rruoff; rrdOn = r .rrdon; rrdOff = r .rrdoff }
+
+abbrev pub numberOf : List Kw → ℕ → ℕ
+numberOf l k = getD l k (record { 0 = 0 }) .0
+
+abbrev pub limitsIn : List Kw → M.Reserves
+limitsIn l = record { rgu = numberOf l 0; rgd = numberOf l 1; scr = numberOf l 2; nsc = numberOf l 3; rruOn = numberOf l 4; rruOff = numberOf l 5; rrdOn = numberOf l 6; rrdOff = numberOf l 7 }
+
+abbrev pub cellIn : List ℕ → M.Cell
+cellIn r = record { status = cellOf r .status; pmin = cellOf r .pmin .0; pmax = cellOf r .pmax .0; caps = map (λ c. c .0) (take (cellOf r .blocks) (cellOf r .caps)) }
+
+abbrev pub cellPricesIn : List ℕ → M.CellPrices
+cellPricesIn r = record { blocks = map (less priceOffset) (take (cellOf r .blocks) (cellOf r .prices)); reserves = eightPricesIn (cellOf r .reserves) }
+
+abbrev pub settingIn : List ℕ → M.Setting
+settingIn r = record { on = settingOf r .on; online = settingOf r .online .0; reserves = eightIn (settingOf r .reserves) }
+
+abbrev pub minimaIn : List ℕ → M.Minima
+minimaIn r = record { rru = minimaOf r .rru .0; rrd = minimaOf r .rrd .0 }
+
+abbrev pub startIn : StartWindow → M.StartWindow
+startIn w = record { from = w .from; until = w .until; most = w .most }
+
+abbrev pub energyIn : EnergyWindow → M.EnergyWindow
+energyIn w = record { kind = w .kind; from = w .from; until = w .until; energy = w .energy .0 }
+
+abbrev pub sharesIn : List ℕ → M.Shares
+sharesIn r = record { rgu = zoneOf r .rgu; rgd = zoneOf r .rgd; scr = zoneOf r .scr; nsc = zoneOf r .nsc }
+
+unfoldable pub zoneIn : List ℕ → List (List ℕ) → M.Zone
+zoneIn r minima = record { shares = sharesIn r; minima = map minimaIn minima }
+
+abbrev pub sixIn : List ℕ → M.Six
+sixIn l = record { rgu = getD l 0 0; rgd = getD l 1 0; scr = getD l 2 0; nsc = getD l 3 0; rru = getD l 4 0; rrd = getD l 5 0 }
+
+unfoldable pub deviceIn : Device → List (List ℕ) → M.Device
+deviceIn d cells = record {
+  side = d .side;
+  zoneBits = d .zonebits;
+  on0 = d .on0;
+  power0 = d .power0 .0;
+  minutes0 = d .minutes0;
+  minUp = d .minup;
+  minDown = d .mindown;
+  ramps = record { up = getD (d .ramps) 0 0; down = getD (d .ramps) 1 0; starting = getD (d .ramps) 2 0; stopping = getD (d .ramps) 3 0 };
+  limits = limitsIn (d .limits);
+  longest = map (λ s. s .longest) (take (d .nstates) (d .states));
+  startWindows = map startIn (take (d .nstarts) (d .starts));
+  energyWindows = map energyIn (take (d .nenergies) (d .energies));
+  cells = map cellIn cells;
+}
+
+unfoldable pub devicePricesIn : Device → List (List ℕ) → M.DevicePrices
+devicePricesIn d cells = record {
+  onCost = d .oncost;
+  startCost = d .startcost .0;
+  stopCost = d .stopcost .0;
+  stateCosts = map (λ s. less costOffset (s .cost)) (take (d .nstates) (d .states));
+  cells = map cellPricesIn cells;
+}
+
+-- ---- a case and a plan
+
+unfoldable pub systemIn : (halves : List ℕ) (zones minima devices cells : List (List ℕ)) → System
+systemIn halves zones minima devices cells = record {
+  halves = halves;
+  zones = rows (λ z. zoneIn (getD zones z []) (part (length halves) z minima)) (length zones);
+  devices = rows (λ i. deviceIn (deviceOf (getD devices i [])) (part (length halves) i cells)) (length devices);
+}
+
+unfoldable pub pricesIn : Front → (m : ℕ) (zones devices cells : List (List ℕ)) → Prices
+pricesIn front m zones devices cells = record {
+  mismatch = front .mismatch;
+  overrun = front .overrun;
+  zones = rows (λ z. sixIn (zoneOf (getD zones z []) .prices)) (length zones);
+  devices = rows (λ i. devicePricesIn (deviceOf (getD devices i [])) (part m i cells)) (length devices);
+}
+
+abbrev pub caseIn : Front → (halves : List ℕ) (zones minima devices cells : List (List ℕ)) → Case
+caseIn front halves zones minima devices cells = record { system = systemIn halves zones minima devices cells; prices = pricesIn front (length halves) zones devices cells }
+
+-- n devices, m intervals
+unfoldable pub planIn : (n m : ℕ) → List (List ℕ) → Plan
+planIn n m settings = record { settings = rows (λ t. rows (λ i. settingIn (getD (part m i settings) t [])) n) m }
+
+-- ---- what the code may rely on
+
+-- the largest counts that any owner of tables has
+abbrev pub mostDevices : ℕ
+mostDevices = 64
+
+abbrev pub mostIntervals : ℕ
+mostIntervals = 96
+
+-- the longest day: 96 intervals of 360 minutes
+abbrev pub lastMinute : ℕ
+lastMinute = 34560
+
+-- a power of a plan before any rule holds: its online power, and at most one trajectory for each interval, of 100,000 each
+abbrev pub mostPower : ℕ
+mostPower = 10000000
+
+-- absent blocks have cap 0
+pub record Padded (r : List ℕ) : Type 0 where
+  pub few : cellOf r .blocks ≤ 4
+  pub absent : (k : ℕ) → cellOf r .blocks ≤ k → k < 4 → getD (cellOf r .caps) k (record { 0 = 0 }) .0 ≡ 0
+
+-- a device's lists hold at most four
+pub record Counted (d : Device) : Type 0 where
+  pub few-states : d .nstates ≤ 4
+  pub few-starts : d .nstarts ≤ 4
+  pub few-energies : d .nenergies ≤ 4
+
+-- a decoded case: a cell for each device and interval, minima for each zone and interval, figures within their ranges
+pub record CaseRows (front : Front) (halves : List ℕ) (zones minima devices cells : List (List ℕ)) : Type 0 where
+  pub few-devices : length devices ≤ mostDevices
+  pub few-intervals : length halves ≤ mostIntervals
+  pub few-zones : length zones ≤ 4
+  pub cells-full : length cells ≡ length devices * length halves
+  pub minima-full : length minima ≡ length zones * length halves
+  pub range : CaseRange (caseIn front halves zones minima devices cells)
+  pub padded : (k : ℕ) → k < length cells → Padded (getD cells k [])
+  pub counted : (i : ℕ) → i < length devices → Counted (deviceOf (getD devices i []))
+
+-- a plan for n devices and m intervals
+pub record PlanRows (n m : ℕ) (settings : List (List ℕ)) : Type 0 where
+  pub full : length settings ≡ n * m
+  pub range : (k : ℕ) → k < length settings → SettingRange (settingIn (getD settings k []))
+
+-- the forced figures: S of each interval and the last E; p of each device in each interval, device by device
+pub record ForcedRows (q : System) (p : Plan) (n m : ℕ) (starts powers : List ℕ) : Type 0 where
+  pub starts-full : length starts ≡ suc m
+  pub powers-full : length powers ≡ n * m
+  pub start : (t : ℕ) → t ≤ m → getD starts t 0 ≡ startOf q t
+  pub early : (t : ℕ) → t ≤ m → getD starts t 0 ≤ lastMinute
+  pub power-is : (t i : ℕ) → t < m → i < n → getD powers (i * m + t) 0 ≡ power q p t i
+  pub small : (k : ℕ) → k < length powers → getD powers k 0 ≤ mostPower
+
+-- all that the rules and the completion are computed from
+pub record Ready (front : Front) (halves : List ℕ) (zones minima devices cells settings : List (List ℕ)) (starts powers : List ℕ) : Type 0 where
+  pub case-rows : CaseRows front halves zones minima devices cells
+  pub plan-rows : PlanRows (length devices) (length halves) settings
+  pub forced-rows : ForcedRows (systemIn halves zones minima devices cells) (planIn (length devices) (length halves) settings) (length devices) (length halves) starts powers

@@ -1,0 +1,5 @@
+pub mod Differences
+pub mod Sides
+pub mod Sums
+pub mod Needs
+pub mod Energies
