@@ -5,7 +5,7 @@ use mathlib.Core.List.{List}
 use Prim.Native.Nat.{ℕ, _≤_, _<_}
 use Rattle.layouts.specs.declared.Place.{Place}
 use Rattle.layouts.specs.Layout.{Layout, nat, countOf}
-use Rattle.layouts.specs.Since.{has, nothing, present, since, has-not, has-it}
+use Rattle.layouts.specs.Since.{nothing, present, since, has-not, has-it}
 use Rattle.fields.specs.Got.{Got, good, got, Natural, moved}
 
 -- any reader goes on from it as from any other part

@@ -1,7 +1,7 @@
 -- One layout reads and writes as another, its values held by a function: how a message of an older edition is read by the newest layout.
 use mathlib.Core.Path.{_≡_, refl, sym, _∙_, ap, fun-ext}
 use mathlib.Core.Bool.{Bool, true, false}
-use mathlib.Core.List.{List, [], _∷_, _++_, map, append-nil}
+use mathlib.Core.List.{List, [], _∷_, _++_, map, map-id, append-nil}
 use Prim.Native.Nat.{ℕ, zero, suc, _+_, _*_, _≤_, _<_}
 use native.Mathlib.Omega.{arith}
 use lib.Dec.{leb}
@@ -131,6 +131,13 @@ module _ {A B : Type 0} {l : Layout B} {f : A → B} {m : Layout A} (u : As l f 
   unfolding list
   as-list n = record { reads = λ s p bad next. repeated-as n s p bad next; writes = gather-as }
 
+  -- by another function that gives the same
+  pub as-alike : (g : A → B) → ((a : A) → f a ≡ g a) → As l g m
+  as-alike g e = record {
+    reads = λ s p bad next. u .reads s p bad next ∙ ahead m s p bad (λ a q. ap (λ b. next b q) (e a));
+    writes = λ a. ap (l .write) (sym (e a)) ∙ u .writes a;
+  }
+
   -- with the same test of what they hold
   pub as-such : (ok : B → Bool) (test : A → Bool) → ((a : A) → ok (f a) ≡ test a) → As (such ok l) f (such test m)
   unfolding such
@@ -189,3 +196,11 @@ module _ {A B : Type 0} {l : Layout B} {f : A → B} {m : Layout A} (u : As l f 
   -- a whole message
   pub as-whole : (P : A → Type 0) → Checked m P → (s : List ℕ) → readWhole l s ≡ mapWhole f (readWhole m s)
   as-whole P v s = whole-as l f m P v s (λ next. u .reads s begin fails next)
+
+-- where both sides hold the same content
+module _ {A : Type 0} {l m : Layout A} (u : As l (λ a. a) m) where
+  pub as-each : (n : ℕ) → As (list n l) (λ xs. xs) (list n m)
+  as-each n = as-alike (as-list u n) _ map-id
+
+  pub as-some : (c : Field) → As (counted c l) (λ xs. xs) (counted c m)
+  as-some c = as-alike (as-counted u c) _ map-id

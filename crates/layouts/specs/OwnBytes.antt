@@ -1,8 +1,8 @@
 -- A message that passes reading is what its content is written as, byte by byte.
-use mathlib.Core.Path.{_≡_, refl, sym, _∙_, ap}
+use mathlib.Core.Path.{_≡_, refl, sym, _∙_}
 use mathlib.Core.Bool.{Bool, true, false}
-use mathlib.Core.List.{List, [], _∷_, _++_}
-use Prim.Native.Nat.{ℕ, zero, suc, _+_, _-_, _*_, _/_, _%_, _^_, _≤_, _<_}
+use mathlib.Core.List.{List, [], _∷_}
+use Prim.Native.Nat.{ℕ, zero, suc, _+_, _-_, _*_, _/_, _%_, _≤_, _<_}
 use native.Mathlib.Omega.{arith}
 use native.Mathlib.Decide.{decLe}
 use lib.Dec.{ltb, eqb}
@@ -11,7 +11,6 @@ use borrow.Author.Tests.{ltb-false, eqb-true}
 use Rattle.numbers.specs.Sum.{All}
 use Rattle.bits.specs.Bits.{bitAt, reach}
 use Rattle.bits.specs.Pick.{pick}
-use Rattle.layouts.specs.declared.Fault.{Fault}
 use Rattle.layouts.specs.declared.Clash.{Clash}
 use Rattle.layouts.specs.declared.Clash.the-variants.{Clear, At}
 use Rattle.layouts.specs.declared.Place.{Place}

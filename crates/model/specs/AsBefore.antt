@@ -8,7 +8,7 @@ use Rattle.layouts.specs.declared.Place.{Place}
 use Rattle.layouts.specs.Layout.{Layout, begin, advanced, nat, _then_, _▸_, held, fixed}
 use Rattle.layouts.specs.Checked.{Checked, nat-checked, weaken}
 use Rattle.layouts.specs.As.{As, as-same, ahead, always, only, holding, leads}
-use Rattle.model.specs.Case.{Case, System, Plan}
+use Rattle.model.specs.Case.{Case, System}
 use Rattle.model.specs.Editions.{Largest, deviceLimit, intervalLimit, batch}
 use Rattle.model.specs.Messages as M
 use Rattle.model.specs.Messages.{edition1, Counts, Written}

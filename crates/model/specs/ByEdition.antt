@@ -10,7 +10,7 @@ use Rattle.model.specs.Case.{StartWindow, Cell, Device, Zone, CellPrices
 use Rattle.model.specs.Forced.{intervals, devices}
 use Rattle.model.specs.Editions.{newest, Largest, deviceBits, intervalBits, devicesIn, intervalsIn, mostZones, mostStates, mostWindows, startsBits, mostStarts}
 use Rattle.model.specs.Messages as M
-use Rattle.model.specs.Messages.{kW, minutes, eight, six, windowEnds, energyWindow, apart, head, costs, lastEnd, Counts, DeviceChoice, IntervalChoice, Written}
+use Rattle.model.specs.Messages.{kW, minutes, eight, windowEnds, energyWindow, apart, head, costs, lastEnd, Counts, DeviceChoice, IntervalChoice, Written}
 
 -- ---- the front of a message
 

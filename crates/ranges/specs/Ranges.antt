@@ -301,14 +301,17 @@ module _ (l : Largest) (most : l .devices ≤ mostDevices) (long : l .intervals 
   stated-range s x h = whole-checked (B.caseLayout l) (StatedRange l) stated-checked s x h
 
 -- and so is one of edition 1, as it was before there were others
-pub case-checked : Checked (M.caseLayout edition1) (Taken 1 batch)
+taken-checked : Checked (M.caseLayout edition1) (Taken 1 batch)
 unfolding first
-case-checked = as-checked (first-as batch (omega arith) (omega arith)) _ _ (λ c. c) (λ c. refl) (λ c ok. ok)
+taken-checked = as-checked (first-as batch (omega arith) (omega arith)) _ _ (λ c. c) (λ c. refl) (λ c ok. ok)
     (held-checked _ _ _ _ _ (pair-checked _ _ _ _ (nat-checked _) (pair-checked _ _ _ _ (nat-checked _) (content-checked batch (omega arith) (omega arith) 1))) (λ v ok. ok .1 .1))
+
+pub case-checked : Checked (M.caseLayout edition1) CaseRange
+case-checked = weaken (M.caseLayout edition1) _ _ taken-checked (λ c ok. ok .range)
 
 pub case-taken : (s : List ℕ) (c : Case) → readCase s ≡ passes c → Taken 1 batch c
 unfolding readCase
-case-taken s c e = whole-checked (M.caseLayout edition1) (Taken 1 batch) case-checked s c e
+case-taken s c e = whole-checked (M.caseLayout edition1) (Taken 1 batch) taken-checked s c e
 
 pub case-range : (s : List ℕ) (c : Case) → readCase s ≡ passes c → CaseRange c
 case-range s c e = case-taken s c e .range

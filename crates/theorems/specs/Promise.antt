@@ -312,6 +312,6 @@ plan-promised c g ps before = record {
 pub promised : (cs ps before : List ℕ) → Promise cs ps before (judgement cs ps before)
 unfolding judgement readCase
 promised cs ps before = record {
-  case-refused = λ f e. record { verdict = rw e refl; number = fails-tells (caseLayout edition1) (Taken 1 batch) case-checked cs f e; untouched = rw e refl };
+  case-refused = λ f e. record { verdict = rw e refl; number = fails-tells (caseLayout edition1) CaseRange case-checked cs f e; untouched = rw e refl };
   case-passed = λ c e. subst (PlanPromise c ps before) (sym (ap (withCase ps before) e)) (plan-promised c (case-taken cs c e) ps before);
 }

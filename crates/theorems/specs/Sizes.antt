@@ -1,5 +1,5 @@
 -- The sizes of our completion: each figure fits its field, for a case and a plan within their ranges that break no rule.
-use mathlib.Core.Path.{_≡_, refl, ap}
+use mathlib.Core.Path.{_≡_, refl}
 use mathlib.Core.Bool.{Bool, true, false, not, _&&_, cond}
 use mathlib.Core.List.{List, [], _∷_, _++_, map}
 use Prim.Native.Nat.{ℕ, zero, suc, _+_, _-_, _*_, _^_, _≤_, _<_, max}
@@ -9,11 +9,11 @@ use lib.Dec.{T, ltb, leb, eqb}
 use lib.ListN.{length, getD, length-map, length-append}
 use lib.IntN.{ℤ, pos, negsuc, natAbs, _+ℤ_, _-ℤ_, _*ℤ_}
 use Rattle.numbers.specs.Laws.{maxZero}
-use Rattle.numbers.specs.Sum.{All, all, sumℤ, sumℕ, gate}
+use Rattle.numbers.specs.Sum.{All, all, sumℤ, sumℕ}
 use Rattle.numbers.specs.Bounds.{bound-sub, bound-add, bound-mul, bound-sum, abs-neg}
 use Rattle.numbers.specs.State.{best, best-is}
 use Rattle.bits.specs.Pick.{pick}
-use Rattle.numbers.specs.Base.{range, upTo, bit, largest, gather}
+use Rattle.numbers.specs.Base.{range, upTo, gather}
 use Rattle.model.specs.Case.{System, Plan, Case, noDevice, noCell, noZone, Minima, noMinima, noSetting, noEnergyWindow, noSix}
 use Rattle.model.specs.Forced.{intervals, devices, zones, device, cell, zone, cap, energyWindow, consuming, member, duration, midpoint, setting, u, uBefore, su, sd, psu, psd, power}
 use Rattle.model.specs.Rules.{blocks, EveryRule}
