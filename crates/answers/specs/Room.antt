@@ -12,8 +12,8 @@ use Rattle.model.specs.Case.{Case, Plan, System, noDevice}
 use Rattle.model.specs.Forced.{intervals, devices, zones, device}
 use Rattle.layouts.specs.Layout.{Whole, passes, fails}
 use Rattle.ranges.specs.Ranges.{SystemRange, DeviceRange}
-use Rattle.numbers.specs.Every.{all-at, length-range, sum-bound}
-use Rattle.numbers.specs.Every.{all-upTo}
+use Rattle.numbers.specs.Every.{all-at, length-range, sum-bound, all-upTo}
+use Rattle.model.specs.Editions.{batch}
 use Rattle.model.specs.Ours.{ours}
 use Rattle.model.specs.Judgement.{energyWindows, ourSurplus, completionBytes, accepts, verdict, judged, withPlan}
 use Rattle.model.specs.Batch.{planVerdict}
@@ -22,7 +22,8 @@ use Rattle.writing.specs.Size.{intervalWidth, written-needed}
 abbrev pub resultRoom : ℕ
 resultRoom = 12288
 
-module _ (c : Case) (r : SystemRange (c .system)) where
+-- of a case whose counts the batch program takes
+module _ (c : Case) (r : SystemRange (c .system)) (few : devices (c .system) ≤ batch .devices) (short : intervals (c .system) ≤ batch .intervals) where
   abbrev q : System
   q = c .system
 
@@ -30,14 +31,14 @@ module _ (c : Case) (r : SystemRange (c .system)) where
   unfolding energyWindows
   windows-few =
       let s = sum-bound (λ i. length (device q i .energyWindows)) 4 (upTo (devices q)) (all-upTo _ (devices q) (λ i l. all-at (DeviceRange (length (q .halves))) noDevice (q .devices) (r .eachDevice) i l .energies)) in
-      omega (arith, s, length-range 0 (devices q), r .devices)
+      omega (arith, s, length-range 0 (devices q), few)
 
   interval-few : intervalWidth (devices q) (zones q) ≤ 1983
-  interval-few = omega (arith, r .devices, r .zones)
+  interval-few = omega (arith, few, r .zones)
 
   pub completion-fits : (p : Plan) → length (completionBytes c p) ≤ resultRoom
   unfolding completionBytes
-  completion-fits p = omega (arith, written-needed q (ours c p) (ourSurplus c p), mul-le-mul (r .intervals) interval-few, windows-few)
+  completion-fits p = omega (arith, written-needed q (ours c p) (ourSurplus c p), mul-le-mul short interval-few, windows-few)
 
 -- so every verdict is that of a buffer long enough
 module _ (c : Case) (buffer : List ℕ) (fits : (p : Plan) → length (completionBytes c p) ≤ length buffer) where

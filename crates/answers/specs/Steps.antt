@@ -5,7 +5,7 @@ use mathlib.Core.List.{List, [], _∷_, _++_, append-nil}
 use Prim.Native.Nat.{ℕ, _+_, _≤_, _<_}
 use native.Mathlib.Omega.{arith}
 use borrow.Author.Tests.{lt-ltb, le-ltb}
-use lib.ListN.{length}
+use lib.ListN.{length, drop, length-take}
 use Rattle.bits.specs.Bits.{fieldAt}
 use Rattle.layouts.specs.Faults.{numberOf}
 use Rattle.layouts.specs.Framing.{part, bytesOf, messageAt}
@@ -19,10 +19,12 @@ use Rattle.model.specs.declared.Verdict.{Verdict}
 use Rattle.model.specs.declared.Verdict.the-variants.{Refused}
 use Rattle.model.specs.Batch.{Line, caseLine, answer, framing, planVerdict}
 use Rattle.model.specs.Case.{Case, Plan}
+use Rattle.model.specs.Editions.{batch}
 use Rattle.model.specs.Forced.{intervals, devices, zones}
 use Rattle.model.specs.Judgement.{readCase, readPlan, completionBytes}
 use Rattle.layouts.specs.Layout.{Whole, passes, fails}
-use Rattle.ranges.specs.Views.{caseIn, Decoded}
+use Rattle.ranges.specs.Views.{caseIn, halvesIn, minimaIn, cellsIn, Decoded}
+use Rattle.ranges.specs.Viewed.{devices-are, intervals-are}
 use Rattle.fields.specs.declared.Ending.{Ending}
 use Rattle.fields.specs.declared.Ending.the-variants.{Passes, Fails}
 use Rattle.fields.specs.Ended.{ended}
@@ -108,6 +110,15 @@ module _ (frame table before : List ℕ) {x : Framed} (e : x ≡ framed frame) (
 
 -- ---- a plan
 
+-- a decoded case has counts that the batch program takes
+few-devices : (c : CaseRecord) (table : List ℕ) → Decoded c table → devices (caseIn c table .system) ≤ batch .devices
+few-devices c table d = omega (arith, devices-are c (halvesIn table) (minimaIn table) (cellsIn table), d .devices)
+
+few-intervals : (c : CaseRecord) (table : List ℕ) → Decoded c table → intervals (caseIn c table .system) ≤ batch .intervals
+few-intervals c table d =
+    let l : c .nintervals ≤ length (halvesIn table) = omega (arith, d .intervals, d .long, length-take 48 (drop 0 table)) in
+    omega (arith, intervals-are c (halvesIn table) (minimaIn table) (cellsIn table) l, d .intervals)
+
 module _ (c : Case) (index : ℕ) (frame buffer before : List ℕ) {x : Framed} (e : x ≡ framed frame) where
   pub plan-end : x ≡ B.End → AnswersPlan c index frame buffer buffer before before (record { bytes = 0; more = false; accepted = false })
   plan-end t =
@@ -128,7 +139,7 @@ module _ (c : CaseRecord) (table : List ℕ) (index : ℕ) (frame buffer before 
       let C = caseIn c table in
       let k : framed frame ≡ B.Message from until = sym e ∙ t in
       let p : m ≡ part frame from until = i ∙ sym (some limit frame 0 e t) in
-      let f : (p : Plan) → length (completionBytes C p) ≤ length buffer = λ p. omega (arith, completion-fits C (d .range .system) p, room) in
+      let f : (p : Plan) → length (completionBytes C p) ≤ length buffer = λ p. omega (arith, completion-fits C (d .range .system) (few-devices c table d) (few-intervals c table d) p, room) in
       let g : v ≡ planVerdict C (readPlan (C .system) (part frame from until)) = j .verdict ∙ rw p (enough C buffer f (readPlan (C .system) (part frame from until))) in
       record { text = rw k (one-line (ap (answer index) g) w); more = rw k refl; accepted = rw k (h ∙ ap accepts g); result = rw k (j .result ∙ rw p refl) }
 
