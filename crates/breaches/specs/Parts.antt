@@ -16,7 +16,7 @@ use Rattle.records.specs.Figures.{deviceOf}
 use Rattle.records.specs.Parts.{part, part-cut, part-inside, part-long, table-small}
 use Rattle.records.specs.Views.{systemIn, planIn, mostDevices, mostIntervals, Ready}
 use Rattle.records.specs.Viewed as W
-use Rattle.records.specs.Viewed.{noStart}
+use Rattle.records.specs.Figures.{noStart}
 use Rattle.records.specs.declared.Device.{Device}
 use Rattle.records.specs.declared.Front.{Front}
 use Rattle.cell_rules.specs.declared.Bounds.{Bounds}

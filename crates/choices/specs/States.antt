@@ -16,7 +16,7 @@ use Rattle.numbers.specs.Base.{range}
 use Rattle.records.specs.declared.State.{State}
 use Rattle.records.specs.declared.Device.{Device}
 use Rattle.records.specs.Views.{less, costOffset}
-use Rattle.records.specs.Viewed.{noState}
+use Rattle.records.specs.Figures.{noState}
 use Rattle.choices.specs.declared.Chosen.{Chosen}
 use Rattle.block_fill.specs.Filled.{kept-lower}
 

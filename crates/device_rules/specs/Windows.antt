@@ -17,7 +17,7 @@ use Rattle.records.specs.Parts.{part, part-long}
 use Rattle.records.specs.Sums.{sum-more}
 use Rattle.records.specs.Views.{systemIn, planIn, Ready}
 use Rattle.records.specs.Viewed as W
-use Rattle.records.specs.Viewed.{noStart}
+use Rattle.records.specs.Figures.{noStart}
 use Rattle.records.specs.declared.Device.{Device}
 use Rattle.records.specs.declared.Front.{Front}
 use Rattle.records.specs.declared.StartWindow.{StartWindow}

@@ -13,7 +13,7 @@ use Rattle.records.specs.declared.Device.{Device}
 use Rattle.records.specs.declared.Reserves.{Reserves}
 use Rattle.records.specs.declared.ReservePrices.{ReservePrices}
 use Rattle.records.specs.Views.{costOffset}
-use Rattle.records.specs.Viewed.{noState}
+use Rattle.records.specs.Figures.{noState}
 use Rattle.choices.specs.States.{costOf}
 use Rattle.money.specs.Bounds.{powerMost, minutesMost, priceMost, rateMost, costMost, onMost, stateMost, changeMost}
 use Rattle.money.specs.Entries.{Entered, entered-none, entered-then, entered-as, earned, spent}

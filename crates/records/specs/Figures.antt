@@ -1,7 +1,8 @@
 -- The figures of a row, by name: the one place in the proofs that knows where a figure stands.
+use mathlib.Core.Path.{_≡_}
 use mathlib.Core.Bool.{Bool}
 use mathlib.Core.List.{List, [], _∷_}
-use Prim.Native.Nat.{ℕ, _+_, _-_, _*_, _/_, _%_, _^_}
+use Prim.Native.Nat.{ℕ, _+_, _-_, _*_, _/_, _%_, _^_, _<_}
 use lib.Dec.{eqb, ltb}
 use lib.ListN.{getD}
 use Rattle.bits.specs.Pick.{pick}
@@ -127,6 +128,91 @@ zoneOf r = record { rgu = at r 0; rgd = at r 1; scr = at r 2; nsc = at r 3; pric
 
 abbrev pub minimaOf : List ℕ → Minima
 minimaOf r = record { rru = kw (at r 0); rrd = kw (at r 1) }
+
+-- ---- the row of a record
+
+abbrev pub kwAt : List Kw → ℕ → ℕ
+kwAt l k = getD l k (record { 0 = 0 }) .0
+
+abbrev pub cellRow : Cell → List ℕ
+cellRow c =
+    c .status ∷ c .pmin .0 ∷ c .pmax .0 ∷ c .blocks ∷ kwAt (c .caps) 0 ∷ kwAt (c .caps) 1 ∷ kwAt (c .caps) 2 ∷ kwAt (c .caps) 3
+    ∷ at (c .prices) 0 ∷ at (c .prices) 1 ∷ at (c .prices) 2 ∷ at (c .prices) 3
+    ∷ c .reserves .rgu ∷ c .reserves .rgd ∷ c .reserves .scr ∷ c .reserves .nsc ∷ c .reserves .rruon ∷ c .reserves .rruoff ∷ c .reserves .rrdon ∷ c .reserves .rrdoff ∷ []
+
+abbrev pub settingRow : Setting → List ℕ
+settingRow x =
+    x .on ∷ x .online .0
+    ∷ x .reserves .rgu .0 ∷ x .reserves .rgd .0 ∷ x .reserves .scr .0 ∷ x .reserves .nsc .0 ∷ x .reserves .rruon .0 ∷ x .reserves .rruoff .0 ∷ x .reserves .rrdon .0 ∷ x .reserves .rrdoff .0 ∷ []
+
+-- what an array holds where nothing is stored
+abbrev pub noState : State
+noState = record { longest = 0; cost = 0 }
+
+abbrev pub noStart : StartWindow
+noStart = record { from = 0; until = 0; most = 0 }
+
+abbrev pub noEnergy : EnergyWindow
+noEnergy = record { kind = 0; from = 0; until = 0; energy = kwMin 0 }
+
+-- a device's lists, their figures in turn
+abbrev pub stateFigures : List State → List ℕ
+stateFigures l =
+    getD l 0 noState .longest ∷ getD l 0 noState .cost ∷ getD l 1 noState .longest ∷ getD l 1 noState .cost ∷ getD l 2 noState .longest ∷ getD l 2 noState .cost ∷ getD l 3 noState .longest ∷ getD l 3 noState .cost ∷ []
+
+abbrev pub startFigures : List StartWindow → List ℕ
+startFigures l =
+    getD l 0 noStart .from ∷ getD l 0 noStart .until ∷ getD l 0 noStart .most
+    ∷ getD l 1 noStart .from ∷ getD l 1 noStart .until ∷ getD l 1 noStart .most
+    ∷ getD l 2 noStart .from ∷ getD l 2 noStart .until ∷ getD l 2 noStart .most
+    ∷ getD l 3 noStart .from ∷ getD l 3 noStart .until ∷ getD l 3 noStart .most ∷ []
+
+abbrev pub energyFigures : List EnergyWindow → List ℕ
+energyFigures l =
+    getD l 0 noEnergy .kind ∷ getD l 0 noEnergy .from ∷ getD l 0 noEnergy .until ∷ getD l 0 noEnergy .energy .0
+    ∷ getD l 1 noEnergy .kind ∷ getD l 1 noEnergy .from ∷ getD l 1 noEnergy .until ∷ getD l 1 noEnergy .energy .0
+    ∷ getD l 2 noEnergy .kind ∷ getD l 2 noEnergy .from ∷ getD l 2 noEnergy .until ∷ getD l 2 noEnergy .energy .0
+    ∷ getD l 3 noEnergy .kind ∷ getD l 3 noEnergy .from ∷ getD l 3 noEnergy .until ∷ getD l 3 noEnergy .energy .0 ∷ []
+
+-- figures of 64 bits that stand in a row
+pub record EnergiesSmall (l : List EnergyWindow) : Type 0 where
+  pub energy : (k : ℕ) → k < 4 → getD l k noEnergy .energy .0 < 2 ^ 32
+
+pub record DeviceSmall (d : Device) : Type 0 where
+  pub startcost : d .startcost .0 < 2 ^ 32
+  pub stopcost : d .stopcost .0 < 2 ^ 32
+  pub nstates : d .nstates < 2 ^ 32
+  pub nstarts : d .nstarts < 2 ^ 32
+  pub nenergies : d .nenergies < 2 ^ 32
+  pub energies : EnergiesSmall (d .energies)
+
+-- a device's row from the figures of its lists; its costs and counts given
+abbrev pub deviceRowWith : Device → (startcost stopcost nstates nstarts nenergies : ℕ) → (states starts energies : List ℕ) → List ℕ
+deviceRowWith d startcost stopcost nstates nstarts nenergies states starts energies =
+    d .side ∷ d .zonebits ∷ d .on0 ∷ d .power0 .0 ∷ d .minutes0 ∷ d .minup ∷ d .mindown
+    ∷ at (d .ramps) 0 ∷ at (d .ramps) 1 ∷ at (d .ramps) 2 ∷ at (d .ramps) 3 ∷ d .oncost ∷ startcost ∷ stopcost
+    ∷ kwAt (d .limits) 0 ∷ kwAt (d .limits) 1 ∷ kwAt (d .limits) 2 ∷ kwAt (d .limits) 3 ∷ kwAt (d .limits) 4 ∷ kwAt (d .limits) 5 ∷ kwAt (d .limits) 6 ∷ kwAt (d .limits) 7
+    ∷ nstates ∷ at states 0 ∷ at states 1 ∷ at states 2 ∷ at states 3 ∷ at states 4 ∷ at states 5 ∷ at states 6 ∷ at states 7
+    ∷ nstarts ∷ at starts 0 ∷ at starts 1 ∷ at starts 2 ∷ at starts 3 ∷ at starts 4 ∷ at starts 5 ∷ at starts 6 ∷ at starts 7 ∷ at starts 8 ∷ at starts 9 ∷ at starts 10 ∷ at starts 11
+    ∷ nenergies ∷ at energies 0 ∷ at energies 1 ∷ at energies 2 ∷ at energies 3 ∷ at energies 4 ∷ at energies 5 ∷ at energies 6 ∷ at energies 7 ∷ at energies 8 ∷ at energies 9 ∷ at energies 10 ∷ at energies 11 ∷ at energies 12 ∷ at energies 13 ∷ at energies 14 ∷ at energies 15 ∷ []
+
+abbrev pub deviceRow : Device → List ℕ
+deviceRow d =
+    deviceRowWith d (d .startcost .0) (d .stopcost .0) (d .nstates) (d .nstarts) (d .nenergies) (stateFigures (d .states)) (startFigures (d .starts)) (energyFigures (d .energies))
+
+pub device-row-is : (d : Device) {startcost stopcost nstates nstarts nenergies : ℕ} {states starts energies : List ℕ}
+    → startcost ≡ d .startcost .0 → stopcost ≡ d .stopcost .0 → nstates ≡ d .nstates → nstarts ≡ d .nstarts → nenergies ≡ d .nenergies
+    → states ≡ stateFigures (d .states) → starts ≡ startFigures (d .starts) → energies ≡ energyFigures (d .energies)
+    → deviceRowWith d startcost stopcost nstates nstarts nenergies states starts energies ≡ deviceRow d
+device-row-is d e f g h i j k l = cc
+
+abbrev pub zoneRow : Zone → List ℕ
+zoneRow z =
+    z .rgu ∷ z .rgd ∷ z .scr ∷ z .nsc
+    ∷ at (z .prices) 0 ∷ at (z .prices) 1 ∷ at (z .prices) 2 ∷ at (z .prices) 3 ∷ at (z .prices) 4 ∷ at (z .prices) 5 ∷ []
+
+abbrev pub minimaRow : Minima → List ℕ
+minimaRow x = x .rru .0 ∷ x .rrd .0 ∷ []
 
 -- ---- one figure of a table's row k
 

@@ -26,13 +26,13 @@ use Rattle.units.specs.Units.{kw}
 use Rattle.records.specs.declared.State.{State}
 use Rattle.records.specs.declared.Device.{Device}
 use Rattle.records.specs.declared.Front.{Front}
-use Rattle.records.specs.Figures.{cellOf, settingOf, deviceOf, zoneOf, minimaOf, previousAt}
+use Rattle.records.specs.Figures.{noState, cellOf, settingOf, deviceOf, zoneOf, minimaOf, previousAt}
 use Rattle.records.specs.Parts.{part, part-inside, place-inside, part-at, part-long, table-small}
 use Rattle.records.specs.Sums.{sum-more}
 use Rattle.records.specs.Views.{less, priceOffset, costOffset, limitsIn, cellIn, cellPricesIn, settingIn, sharesIn, minimaIn, sixIn, deviceIn, devicePricesIn, systemIn, pricesIn, caseIn, planIn}
 use Rattle.records.specs.Views.{mostPower, Padded, CaseRows, PlanRows, Ready}
 use Rattle.records.specs.Viewed as W
-use Rattle.records.specs.Viewed.{getD-any, noState}
+use Rattle.records.specs.Viewed.{getD-any}
 
 -- a cost kept from 0 is at most twice its offset
 kept : (o v : ℕ) → natAbs (less o v) ≤ o → v ≤ o + o

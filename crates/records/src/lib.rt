@@ -5,12 +5,12 @@ use units::Kw;
 use units::KwMin;
 ghost use mathlib.Core.Path.{_≡_};
 ghost use mathlib.Core.List.{[]};
-ghost use Prim.Native.Nat.{_<_, _≤_};
+ghost use Prim.Native.Nat.{_<_, _≤_, _^_};
 ghost use lib.Dec.{ltb};
-ghost use lib.ListN.{getD, length};
+ghost use lib.ListN.{getD, length, set};
 ghost use Rattle.numbers.specs.Base.{bit};
 ghost use Rattle.units.specs.Units.{grains};
-ghost use Rattle.records.specs.Figures.{deviceWith, windowOf, statesOf, startsOf, energiesOf, limitsOf, cellOf, settingOf, deviceOf, stateOf, startOf, energyOf, zoneOf, minimaOf, pminAt, onAt, onlineAt, onBefore, startedAt, stoppedAt, sideAt, zonebitsAt};
+ghost use Rattle.records.specs.Figures.{stateFigures, startFigures, energyFigures, EnergiesSmall, DeviceSmall, cellRow, settingRow, deviceRow, zoneRow, minimaRow, deviceWith, windowOf, statesOf, startsOf, energiesOf, limitsOf, cellOf, settingOf, deviceOf, stateOf, startOf, energyOf, zoneOf, minimaOf, pminAt, onAt, onlineAt, onBefore, startedAt, stoppedAt, sideAt, zonebitsAt};
 
 // A device in one interval: status, pmin, pmax, count of blocks, four caps, four prices kept from −10,000, the prices of the eight.
 pub type CellRow = [u32; 20];
@@ -450,4 +450,278 @@ pub fn minima_at(minima: &[MinimaRow], k: usize) -> Minima
         rru: Kw(r[0]),
         rrd: Kw(r[1]),
     }
+}
+
+// ---- rows from records
+
+fn cell_row(c: Cell) -> CellRow
+    ensures { λ r. ⌜ r ≡ cellRow c ⌝ }
+{
+    let caps = c.caps;
+    let prices = c.prices;
+    let reserves = c.reserves;
+    [
+        c.status,
+        c.pmin.0,
+        c.pmax.0,
+        c.blocks,
+        caps[0].0,
+        caps[1].0,
+        caps[2].0,
+        caps[3].0,
+        prices[0],
+        prices[1],
+        prices[2],
+        prices[3],
+        reserves.rgu,
+        reserves.rgd,
+        reserves.scr,
+        reserves.nsc,
+        reserves.rruon,
+        reserves.rruoff,
+        reserves.rrdon,
+        reserves.rrdoff,
+    ]
+}
+
+// A cell into row k.
+pub fn put_cell(cells: &mut [CellRow], k: usize, c: Cell)
+    requires { ⌜ k < length (now cells) ⌝ }
+    ensures { λ _. ⌜ now (cells .exit) ≡ set (now (cells .entry)) k (cellRow c) ⌝ }
+{
+    cells[k] = cell_row(c);
+}
+
+fn setting_row(x: Setting) -> SettingRow
+    ensures { λ r. ⌜ r ≡ settingRow x ⌝ }
+{
+    let reserves = x.reserves;
+    [
+        x.on,
+        x.online.0,
+        reserves.rgu.0,
+        reserves.rgd.0,
+        reserves.scr.0,
+        reserves.nsc.0,
+        reserves.rruon.0,
+        reserves.rruoff.0,
+        reserves.rrdon.0,
+        reserves.rrdoff.0,
+    ]
+}
+
+// A setting into row k.
+pub fn put_setting(settings: &mut [SettingRow], k: usize, x: Setting)
+    requires { ⌜ k < length (now settings) ⌝ }
+    ensures { λ _. ⌜ now (settings .exit) ≡ set (now (settings .entry)) k (settingRow x) ⌝ }
+{
+    settings[k] = setting_row(x);
+}
+
+fn zone_row(z: Zone) -> ZoneRow
+    ensures { λ r. ⌜ r ≡ zoneRow z ⌝ }
+{
+    let prices = z.prices;
+    [
+        z.rgu,
+        z.rgd,
+        z.scr,
+        z.nsc,
+        prices[0],
+        prices[1],
+        prices[2],
+        prices[3],
+        prices[4],
+        prices[5],
+    ]
+}
+
+// A zone into row z.
+pub fn put_zone(zones: &mut [ZoneRow], z: usize, x: Zone)
+    requires { ⌜ z < length (now zones) ⌝ }
+    ensures { λ _. ⌜ now (zones .exit) ≡ set (now (zones .entry)) z (zoneRow x) ⌝ }
+{
+    zones[z] = zone_row(x);
+}
+
+// A zone's minima into row k.
+pub fn put_minima(minima: &mut [MinimaRow], k: usize, x: Minima)
+    requires { ⌜ k < length (now minima) ⌝ }
+    ensures { λ _. ⌜ now (minima .exit) ≡ set (now (minima .entry)) k (minimaRow x) ⌝ }
+{
+    minima[k] = [x.rru.0, x.rrd.0];
+}
+
+// ---- a device's row
+
+// A figure that was read from 32 bits.
+fn narrow(x: u64) -> u32
+    requires { ⌜ x < 2 ^ 32 ⌝ }
+    ensures { λ r. ⌜ r ≡ x ⌝ }
+{
+    x as u32
+}
+
+fn state_figures(l: [State; 4]) -> [u32; 8]
+    ensures { λ r. ⌜ r ≡ stateFigures l ⌝ }
+{
+    let s0 = l[0];
+    let s1 = l[1];
+    let s2 = l[2];
+    let s3 = l[3];
+    [
+        s0.longest,
+        s0.cost,
+        s1.longest,
+        s1.cost,
+        s2.longest,
+        s2.cost,
+        s3.longest,
+        s3.cost,
+    ]
+}
+
+fn start_figures(l: [StartWindow; 4]) -> [u32; 12]
+    ensures { λ r. ⌜ r ≡ startFigures l ⌝ }
+{
+    let w0 = l[0];
+    let w1 = l[1];
+    let w2 = l[2];
+    let w3 = l[3];
+    [
+        w0.from,
+        w0.until,
+        w0.most,
+        w1.from,
+        w1.until,
+        w1.most,
+        w2.from,
+        w2.until,
+        w2.most,
+        w3.from,
+        w3.until,
+        w3.most,
+    ]
+}
+
+fn energy_figures(l: [EnergyWindow; 4]) -> [u32; 16]
+    requires { ⌜ EnergiesSmall l ⌝ }
+    ensures { λ r. ⌜ r ≡ energyFigures l ⌝ }
+{
+    let w0 = l[0];
+    let w1 = l[1];
+    let w2 = l[2];
+    let w3 = l[3];
+    let e0 = narrow(w0.energy.0);
+    let e1 = narrow(w1.energy.0);
+    let e2 = narrow(w2.energy.0);
+    let e3 = narrow(w3.energy.0);
+    [
+        w0.kind,
+        w0.from,
+        w0.until,
+        e0,
+        w1.kind,
+        w1.from,
+        w1.until,
+        e1,
+        w2.kind,
+        w2.from,
+        w2.until,
+        e2,
+        w3.kind,
+        w3.from,
+        w3.until,
+        e3,
+    ]
+}
+
+fn device_row(d: Device) -> DeviceRow
+    requires { ⌜ DeviceSmall d ⌝ }
+    ensures { λ r. ⌜ r ≡ deviceRow d ⌝ }
+{
+    let ramps = d.ramps;
+    let limits = d.limits;
+    let startcost = narrow(d.startcost.0);
+    let stopcost = narrow(d.stopcost.0);
+    let nstates = narrow(d.nstates as u64);
+    let nstarts = narrow(d.nstarts as u64);
+    let nenergies = narrow(d.nenergies as u64);
+    let listed = d.states;
+    let states = state_figures(listed);
+    let listed = d.starts;
+    let starts = start_figures(listed);
+    let listed = d.energies;
+    let energies = energy_figures(listed);
+    [
+        d.side,
+        d.zonebits,
+        d.on0,
+        d.power0.0,
+        d.minutes0,
+        d.minup,
+        d.mindown,
+        ramps[0],
+        ramps[1],
+        ramps[2],
+        ramps[3],
+        d.oncost,
+        startcost,
+        stopcost,
+        limits[0].0,
+        limits[1].0,
+        limits[2].0,
+        limits[3].0,
+        limits[4].0,
+        limits[5].0,
+        limits[6].0,
+        limits[7].0,
+        nstates,
+        states[0],
+        states[1],
+        states[2],
+        states[3],
+        states[4],
+        states[5],
+        states[6],
+        states[7],
+        nstarts,
+        starts[0],
+        starts[1],
+        starts[2],
+        starts[3],
+        starts[4],
+        starts[5],
+        starts[6],
+        starts[7],
+        starts[8],
+        starts[9],
+        starts[10],
+        starts[11],
+        nenergies,
+        energies[0],
+        energies[1],
+        energies[2],
+        energies[3],
+        energies[4],
+        energies[5],
+        energies[6],
+        energies[7],
+        energies[8],
+        energies[9],
+        energies[10],
+        energies[11],
+        energies[12],
+        energies[13],
+        energies[14],
+        energies[15],
+    ]
+}
+
+// A device into row i.
+pub fn put_device(devices: &mut [DeviceRow], i: usize, d: Device)
+    requires { ⌜ DeviceSmall d × (i < length (now devices)) ⌝ }
+    ensures { λ _. ⌜ now (devices .exit) ≡ set (now (devices .entry)) i (deviceRow d) ⌝ }
+{
+    devices[i] = device_row(d);
 }

@@ -25,7 +25,7 @@ use Rattle.records.specs.Parts.{part, part-long}
 use Rattle.records.specs.Sums.{sum-next}
 use Rattle.records.specs.Views.{systemIn, planIn, energyIn, mostIntervals, mostPower, lastMinute, Ready}
 use Rattle.records.specs.Viewed as W
-use Rattle.records.specs.Viewed.{noEnergy}
+use Rattle.records.specs.Figures.{noEnergy}
 use Rattle.records.specs.Ranged.{half-small, power-at, power-small}
 use Rattle.slacks.specs.Differences.{above-is}
 

@@ -1,0 +1,71 @@
+// What depends on a message's edition, in code: widths and limits, each an equation with its definition. An edition is a number.
+ghost use mathlib.Core.Path.{_≡_};
+ghost use Prim.Native.Nat.{min};
+ghost use Rattle.model.specs.Editions as E;
+
+// The newest edition there is.
+pub const NEWEST: u32 = 1;
+
+// The largest counts that a reader takes, in whatever edition.
+pub struct Largest {
+    pub devices: u32,
+    pub intervals: u32,
+}
+
+fn least(a: u32, b: u32) -> u32
+    ensures { λ r. ⌜ r ≡ min a b ⌝ }
+{
+    if a <= b { a } else { b }
+}
+
+// The widths of the counts of devices and intervals.
+pub fn device_bits(edition: u32) -> u64
+    ensures { λ r. ⌜ r ≡ E.deviceBits edition ⌝ }
+{
+    5
+}
+
+pub fn interval_bits(edition: u32) -> u64
+    ensures { λ r. ⌜ r ≡ E.intervalBits edition ⌝ }
+{
+    6
+}
+
+// The edition's own limits.
+fn device_limit(edition: u32) -> u32
+    ensures { λ r. ⌜ r ≡ E.deviceLimit edition ⌝ }
+{
+    16
+}
+
+fn interval_limit(edition: u32) -> u32
+    ensures { λ r. ⌜ r ≡ E.intervalLimit edition ⌝ }
+{
+    48
+}
+
+// What of them a reader takes.
+pub fn devices_in(edition: u32, most: u32) -> u32
+    ensures { λ r. ⌜ r ≡ min most (E.deviceLimit edition) ⌝ }
+{
+    least(most, device_limit(edition))
+}
+
+pub fn intervals_in(edition: u32, most: u32) -> u32
+    ensures { λ r. ⌜ r ≡ min most (E.intervalLimit edition) ⌝ }
+{
+    least(most, interval_limit(edition))
+}
+
+// "most starts": its width and its limit.
+pub fn starts_bits(edition: u32) -> u64
+    ensures { λ r. ⌜ r ≡ E.startsBits edition ⌝ }
+{
+    6
+}
+
+pub fn most_starts(edition: u32) -> u32
+    ensures { λ r. ⌜ r ≡ E.mostStarts edition ⌝ }
+{
+    48
+}
