@@ -11,7 +11,8 @@ use Rattle.layouts.specs.declared.Fault.{Fault}
 use Rattle.model.specs.declared.Subject.{Subject}
 use Rattle.model.specs.declared.Verdict.{Verdict}
 use Rattle.model.specs.declared.Verdict.the-variants.{Accepted, Refused}
-use Rattle.model.specs.Judgement.{readCase}
+use Rattle.model.specs.Editions.{batch}
+use Rattle.model.specs.ByEdition.{statedIn}
 use Rattle.abi.specs.declared.Told.{Told}
 use Rattle.plan_unit.specs.declared.Inspected.{Inspected}
 use Rattle.plan_unit.specs.declared.Inspected.the-variants as I
@@ -45,7 +46,7 @@ module _ (cs ps before figures : List ℕ) where
   pub judges-short : length figures < 4 → HostJudges cs ps before before figures figures 5
   judges-short h = record { short = λ _. (refl, refl, refl); judges = λ k. absurd (omega (arith, h, k)) }
 
-  pub judges-told : {after told : List ℕ} {t : Told} (v : Verdict) → 4 ≤ length figures → Judges cs ps before after v → t ≡ toldOf v → told ≡ figuresOf t ++ drop 4 figures → HostJudges cs ps before after figures told (t .word)
+  pub judges-told : {after told : List ℕ} {t : Told} (v : Verdict) → 4 ≤ length figures → Judges batch cs ps before after v → t ≡ toldOf v → told ≡ figuresOf t ++ drop 4 figures → HostJudges cs ps before after figures told (t .word)
   judges-told v h j e f = record {
     short = λ k. absurd (omega (arith, h, k));
     judges = λ _. (v, j, ap (λ (x : Told). x .word) e, f ∙ ap (λ (x : Told). figuresOf x ++ drop 4 figures) e);
@@ -55,9 +56,9 @@ module _ (cs figures : List ℕ) where
   pub inspects-short : length figures < 4 → HostInspects cs figures figures 5
   inspects-short h = record { short = λ _. (refl, refl); inspects = λ k. absurd (omega (arith, h, k)) }
 
-  pub inspects-told : {told : List ℕ} {t : Told} {x : Inspected} → 4 ≤ length figures → x ≡ inspectedOf (readCase cs) → t ≡ toldCase x → told ≡ figuresOf t ++ drop 4 figures → HostInspects cs figures told (t .word)
+  pub inspects-told : {told : List ℕ} {t : Told} {x : Inspected} → 4 ≤ length figures → x ≡ inspectedOf (statedIn batch cs) → t ≡ toldCase x → told ≡ figuresOf t ++ drop 4 figures → HostInspects cs figures told (t .word)
   inspects-told {told} {t} {x} h i e f =
-      let g : t ≡ toldCase (inspectedOf (readCase cs)) = e ∙ ap toldCase i in
+      let g : t ≡ toldCase (inspectedOf (statedIn batch cs)) = e ∙ ap toldCase i in
       record {
         short = λ k. absurd (omega (arith, h, k));
         inspects = λ _. (ap (λ (y : Told). y .word) g, f ∙ ap (λ (y : Told). figuresOf y ++ drop 4 figures) g);

@@ -9,7 +9,8 @@ use Rattle.model.specs.declared.Subject.{Subject}
 use Rattle.model.specs.declared.Subject.the-variants as S
 use Rattle.model.specs.declared.Verdict.{Verdict}
 use Rattle.model.specs.declared.Verdict.the-variants.{Accepted, Broken, Refused}
-use Rattle.model.specs.Judgement.{readCase}
+use Rattle.model.specs.Editions.{batch}
+use Rattle.model.specs.ByEdition.{statedIn}
 use Rattle.abi.specs.declared.Told.{Told}
 use Rattle.plan_unit.specs.declared.Inspected.{Inspected}
 use Rattle.plan_unit.specs.declared.Inspected.the-variants as I
@@ -39,8 +40,8 @@ figuresOf t = t .first ∷ t .second ∷ t .third ∷ t .fourth ∷ []
 -- four numbers stored at the front of a lent slice; nothing is done, and 5 is answered, where it has fewer places
 pub record HostJudges (cs ps before after figures told : List ℕ) (r : ℕ) : Type 0 where
   pub short : length figures < 4 → (r ≡ 5) × (after ≡ before) × (told ≡ figures)
-  pub judges : 4 ≤ length figures → (v : Verdict) × Judges cs ps before after v × (r ≡ toldOf v .word) × (told ≡ figuresOf (toldOf v) ++ drop 4 figures)
+  pub judges : 4 ≤ length figures → (v : Verdict) × Judges batch cs ps before after v × (r ≡ toldOf v .word) × (told ≡ figuresOf (toldOf v) ++ drop 4 figures)
 
 pub record HostInspects (cs figures told : List ℕ) (r : ℕ) : Type 0 where
   pub short : length figures < 4 → (r ≡ 5) × (told ≡ figures)
-  pub inspects : 4 ≤ length figures → (r ≡ toldCase (inspectedOf (readCase cs)) .word) × (told ≡ figuresOf (toldCase (inspectedOf (readCase cs))) ++ drop 4 figures)
+  pub inspects : 4 ≤ length figures → (r ≡ toldCase (inspectedOf (statedIn batch cs)) .word) × (told ≡ figuresOf (toldCase (inspectedOf (statedIn batch cs))) ++ drop 4 figures)

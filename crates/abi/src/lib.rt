@@ -32,7 +32,7 @@ fn tell(v: Verdict) -> Told
 {
     match v {
         Verdict::Accepted(z) => {
-            let surplus = writing::twos(z);
+            let surplus = bits::twos(z);
             Told {
                 word: 0,
                 first: surplus,
@@ -52,8 +52,8 @@ fn tell(v: Verdict) -> Told
         }
         Verdict::Refused(s, f) => {
             let word = word_of(s);
-            let number = plan_unit::number_of(f);
-            let returned = plan_unit::returned_by(f);
+            let number = layouts::number_of(f);
+            let returned = layouts::returned_by(f);
             Told {
                 word,
                 first: number,
@@ -77,8 +77,8 @@ fn tell_case(x: Inspected) -> Told
             fourth: 0,
         },
         Inspected::Refused(f) => {
-            let number = plan_unit::number_of(f);
-            let returned = plan_unit::returned_by(f);
+            let number = layouts::number_of(f);
+            let returned = layouts::returned_by(f);
             Told {
                 word: 2,
                 first: number,

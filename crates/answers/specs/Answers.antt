@@ -7,16 +7,16 @@ use Rattle.layouts.specs.Faults.{numberOf}
 use Rattle.layouts.specs.Framing.{part}
 use Rattle.layouts.specs.declared.Framed.{Framed}
 use Rattle.layouts.specs.declared.Framed.the-variants as B
-use Rattle.model.specs.declared.CaseRecord.{CaseRecord}
 use Rattle.model.specs.declared.Subject.the-variants as S
 use Rattle.model.specs.declared.Verdict.{Verdict}
 use Rattle.model.specs.declared.Verdict.the-variants.{Accepted, Broken, Refused}
 use Rattle.model.specs.Batch.{Line, caseLine, answer, framing, planVerdict}
-use Rattle.model.specs.Case.{Case}
+use Rattle.model.specs.Editions.{batch}
+use Rattle.model.specs.ByEdition.{Stated, statedIn}
 use Rattle.model.specs.Forced.{intervals, devices, zones}
-use Rattle.model.specs.Judgement.{readCase, readPlan, withPlan}
+use Rattle.model.specs.Judgement.{readPlan, withPlan}
 use Rattle.layouts.specs.Layout.{Whole, passes, fails}
-use Rattle.ranges.specs.Views.{caseIn, Decoded}
+use Rattle.plan_unit.specs.Decoded.{statedFirst, DecodedFirst}
 use Rattle.lines.specs.Text.{texts}
 use Rattle.lines.specs.Writes.{Writes}
 use Rattle.answers.specs.Frames.{framed}
@@ -28,33 +28,33 @@ use Rattle.answers.specs.declared.PlanAnswer.{PlanAnswer}
 -- "A refused case ends the run after its line"
 pub data After : Type 0 where
   over : After
-  plans : Case → After
+  plans : Stated → After
 
-abbrev pub readLine : Whole Case → Line
-readLine (passes c) = caseLine 0 (devices (c .system)) (intervals (c .system)) (zones (c .system))
+abbrev pub readLine : Whole Stated → Line
+readLine (passes x) = let q = x .case .system in caseLine 0 (devices q) (intervals q) (zones q)
 readLine (fails f) = answer 0 (Refused S.Case f)
 
-abbrev pub readAfter : Whole Case → After
-readAfter (passes c) = plans c
+abbrev pub readAfter : Whole Stated → After
+readAfter (passes x) = plans x
 readAfter (fails f) = over
 
 -- "A splitter refusal prints `framing` and its number, and ends it. An empty batch prints nothing."
 abbrev pub caseLines : List ℕ → Framed → List Line
 caseLines frame B.End = []
-caseLines frame (B.Message from until) = readLine (readCase (part frame from until)) ∷ []
+caseLines frame (B.Message from until) = readLine (statedIn batch (part frame from until)) ∷ []
 caseLines frame (B.Refused f) = framing (numberOf f) ∷ []
 
 abbrev pub caseAfter : List ℕ → Framed → After
 caseAfter frame B.End = over
-caseAfter frame (B.Message from until) = readAfter (readCase (part frame from until))
+caseAfter frame (B.Message from until) = readAfter (statedIn batch (part frame from until))
 caseAfter frame (B.Refused f) = over
 
 -- ---- each further frame: a plan
 
-abbrev pub planAnswers : Case → ℕ → List ℕ → Framed → List Line
-planAnswers c index frame B.End = []
-planAnswers c index frame (B.Message from until) = answer index (planVerdict c (readPlan (c .system) (part frame from until))) ∷ []
-planAnswers c index frame (B.Refused f) = framing (numberOf f) ∷ []
+abbrev pub planAnswers : Stated → ℕ → List ℕ → Framed → List Line
+planAnswers x index frame B.End = []
+planAnswers x index frame (B.Message from until) = answer index (planVerdict x (readPlan x (part frame from until))) ∷ []
+planAnswers x index frame (B.Refused f) = framing (numberOf f) ∷ []
 
 -- a batch goes on behind a plan
 abbrev pub moreOf : Framed → Bool
@@ -67,31 +67,31 @@ accepts (Accepted z) = true
 accepts (Broken b) = false
 accepts (Refused s f) = false
 
-abbrev pub acceptedOf : Case → List ℕ → Framed → Bool
-acceptedOf c frame B.End = false
-acceptedOf c frame (B.Message from until) = accepts (planVerdict c (readPlan (c .system) (part frame from until)))
-acceptedOf c frame (B.Refused f) = false
+abbrev pub acceptedOf : Stated → List ℕ → Framed → Bool
+acceptedOf x frame B.End = false
+acceptedOf x frame (B.Message from until) = accepts (planVerdict x (readPlan x (part frame from until)))
+acceptedOf x frame (B.Refused f) = false
 
 -- the result buffer afterwards, which holds the completion of a plan that was accepted
-abbrev pub resultOf : Case → List ℕ → List ℕ → Framed → List ℕ
-resultOf c frame buffer B.End = buffer
-resultOf c frame buffer (B.Message from until) = withPlan c buffer (readPlan (c .system) (part frame from until)) .result
-resultOf c frame buffer (B.Refused f) = buffer
+abbrev pub resultOf : Stated → List ℕ → List ℕ → Framed → List ℕ
+resultOf x frame buffer B.End = buffer
+resultOf x frame buffer (B.Message from until) = withPlan x buffer (readPlan x (part frame from until)) .result
+resultOf x frame buffer (B.Refused f) = buffer
 
 -- ---- what the functions promise; `before` and `after` are the buffer of the line, `buffer` and `left` that of the result
 
-abbrev pub afterOf : Bool → Case → After
-afterOf true c = plans c
-afterOf false c = over
+abbrev pub afterOf : Bool → Stated → After
+afterOf true x = plans x
+afterOf false x = over
 
--- the decoded case is left in the record and the table
-pub record AnswersCase (frame table before after : List ℕ) (r : CaseAnswer) : Type 0 where
+-- the decoded case is left in the first rows of the tables
+pub record AnswersCase (frame halves : List ℕ) (zones minima devices cells : List (List ℕ)) (before after : List ℕ) (r : CaseAnswer) : Type 0 where
   pub text : Writes (texts (caseLines frame (framed frame))) before after (r .bytes)
-  pub next : afterOf (r .more) (caseIn (r .case) table) ≡ caseAfter frame (framed frame)
-  pub decoded : r .more ≡ true → Decoded (r .case) table
+  pub next : afterOf (r .more) (statedFirst (r .front) (r .counts) halves zones minima devices cells) ≡ caseAfter frame (framed frame)
+  pub decoded : r .more ≡ true → DecodedFirst (r .front) (r .counts) halves zones minima devices cells batch
 
-pub record AnswersPlan (c : Case) (index : ℕ) (frame buffer left before after : List ℕ) (r : PlanAnswer) : Type 0 where
-  pub text : Writes (texts (planAnswers c index frame (framed frame))) before after (r .bytes)
+pub record AnswersPlan (x : Stated) (index : ℕ) (frame buffer left before after : List ℕ) (r : PlanAnswer) : Type 0 where
+  pub text : Writes (texts (planAnswers x index frame (framed frame))) before after (r .bytes)
   pub more : r .more ≡ moreOf (framed frame)
-  pub accepted : r .accepted ≡ acceptedOf c frame (framed frame)
-  pub result : left ≡ resultOf c frame buffer (framed frame)
+  pub accepted : r .accepted ≡ acceptedOf x frame (framed frame)
+  pub result : left ≡ resultOf x frame buffer (framed frame)

@@ -8,7 +8,8 @@ use borrow.Author.Tests.{le-leb}
 use lib.Dec.{leb}
 use lib.ListN.{length}
 use Rattle.numbers.specs.Base.{upTo}
-use Rattle.model.specs.Case.{Case, Plan, System, noDevice}
+use Rattle.model.specs.Case.{Plan, System, noDevice}
+use Rattle.model.specs.ByEdition.{Stated}
 use Rattle.model.specs.Forced.{intervals, devices, zones, device}
 use Rattle.layouts.specs.Layout.{Whole, passes, fails}
 use Rattle.ranges.specs.Ranges.{SystemRange, DeviceRange}
@@ -17,15 +18,15 @@ use Rattle.model.specs.Editions.{batch}
 use Rattle.model.specs.Ours.{ours}
 use Rattle.model.specs.Judgement.{energyWindows, ourSurplus, completionBytes, accepts, verdict, judged, withPlan}
 use Rattle.model.specs.Batch.{planVerdict}
-use Rattle.writing.specs.Size.{intervalWidth, written-needed}
+use Rattle.completion_writer.specs.Size.{intervalWidth, written-needed}
 
 abbrev pub resultRoom : ℕ
 resultRoom = 12288
 
 -- of a case whose counts the batch program takes
-module _ (c : Case) (r : SystemRange (c .system)) (few : devices (c .system) ≤ batch .devices) (short : intervals (c .system) ≤ batch .intervals) where
+module _ (x : Stated) (r : SystemRange (x .case .system)) (few : devices (x .case .system) ≤ batch .devices) (short : intervals (x .case .system) ≤ batch .intervals) where
   abbrev q : System
-  q = c .system
+  q = x .case .system
 
   windows-few : energyWindows q ≤ 64
   unfolding energyWindows
@@ -33,18 +34,18 @@ module _ (c : Case) (r : SystemRange (c .system)) (few : devices (c .system) ≤
       let s = sum-bound (λ i. length (device q i .energyWindows)) 4 (upTo (devices q)) (all-upTo _ (devices q) (λ i l. all-at (DeviceRange (length (q .halves))) noDevice (q .devices) (r .eachDevice) i l .energies)) in
       omega (arith, s, length-range 0 (devices q), few)
 
-  interval-few : intervalWidth (devices q) (zones q) ≤ 1983
+  interval-few : intervalWidth (x .edition) (devices q) (zones q) ≤ 1983
   interval-few = omega (arith, few, r .zones)
 
-  pub completion-fits : (p : Plan) → length (completionBytes c p) ≤ resultRoom
+  pub completion-fits : (p : Plan) → length (completionBytes x p) ≤ resultRoom
   unfolding completionBytes
-  completion-fits p = omega (arith, written-needed q (ours c p) (ourSurplus c p), mul-le-mul short interval-few, windows-few)
+  completion-fits p = omega (arith, written-needed (x .edition) q (ours (x .case) p) (ourSurplus (x .case) p), mul-le-mul short interval-few, windows-few)
 
 -- so every verdict is that of a buffer long enough
-module _ (c : Case) (buffer : List ℕ) (fits : (p : Plan) → length (completionBytes c p) ≤ length buffer) where
-  pub enough : (w : Whole Plan) → withPlan c buffer w .verdict ≡ planVerdict c w
+module _ (x : Stated) (buffer : List ℕ) (fits : (p : Plan) → length (completionBytes x p) ≤ length buffer) where
+  pub enough : (w : Whole Plan) → withPlan x buffer w .verdict ≡ planVerdict x w
   unfolding planVerdict judged verdict accepts
   enough (passes p) =
-      let n = length (completionBytes c p) in
+      let n = length (completionBytes x p) in
       rw (le-leb n (length buffer) (fits p), le-leb n n (omega arith)) refl
   enough (fails f) = refl

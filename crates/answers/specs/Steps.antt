@@ -13,25 +13,27 @@ use Rattle.layouts.specs.declared.Fault.{Fault}
 use Rattle.layouts.specs.declared.Framed.{Framed}
 use Rattle.layouts.specs.declared.Framed.the-variants as B
 use Rattle.layouts.proofs.Frames.{lies, some}
-use Rattle.model.specs.declared.CaseRecord.{CaseRecord}
 use Rattle.model.specs.declared.Subject.the-variants as S
 use Rattle.model.specs.declared.Verdict.{Verdict}
 use Rattle.model.specs.declared.Verdict.the-variants.{Refused}
 use Rattle.model.specs.Batch.{Line, caseLine, answer, framing, planVerdict}
-use Rattle.model.specs.Case.{Case, Plan}
+use Rattle.model.specs.Case.{Plan}
 use Rattle.model.specs.Editions.{batch}
-use Rattle.model.specs.Forced.{intervals, devices, zones}
-use Rattle.model.specs.Judgement.{readCase, readPlan, completionBytes}
+use Rattle.model.specs.ByEdition.{Stated, statedIn}
+use Rattle.model.specs.Forced as F
+use Rattle.model.specs.Judgement.{readPlan, completionBytes}
 use Rattle.layouts.specs.Layout.{Whole, passes, fails}
-use Rattle.ranges.specs.Views.{caseIn, halvesIn, minimaIn, cellsIn, Decoded}
-use Rattle.ranges.specs.Viewed.{devices-are, intervals-are}
+use Rattle.records.specs.declared.Front.{Front}
+use Rattle.records.specs.declared.Counts.{Counts}
+use Rattle.records.specs.Viewed.{devices-are, intervals-are}
 use Rattle.fields.specs.declared.Ending.{Ending}
 use Rattle.fields.specs.declared.Ending.the-variants.{Passes, Fails}
 use Rattle.fields.specs.Ended.{ended}
-use Rattle.cases.specs.Whole.{CaseDone}
+use Rattle.case_reader.specs.Whole.{CaseDone}
 use Rattle.plan_unit.specs.Inspection.{inspectedOf}
 use Rattle.plan_unit.specs.Judges.{JudgesPlan}
-use Rattle.plan_unit.specs.Steps.{inspect-passes}
+use Rattle.plan_unit.specs.Decoded.{Decoded, statedRows, statedFirst, DecodedFirst}
+use Rattle.plan_unit.specs.Read.{inspect-passes, decoded-first}
 use Rattle.lines.specs.Text.{text, texts}
 use Rattle.lines.specs.Writes.{Writes}
 use Rattle.answers.specs.Frames.{limit, frameBytes, frameRoom, framed}
@@ -71,55 +73,54 @@ one-line {l} {m} e w = let f : text l ≡ text m ++ [] = ap text e ∙ sym (appe
 pub never : {P : Type 0} → false ≡ true → P
 never k = let z : _≡_ {A = ℕ} 0 1 = cc in absurd (omega arith)
 
-module _ (frame table before : List ℕ) {x : Framed} (e : x ≡ framed frame) (case : CaseRecord) where
-  pub case-end : x ≡ B.End → AnswersCase frame table before before (record { bytes = 0; more = false; case = case })
+module _ (frame halves : List ℕ) (zones minima devices cells : List (List ℕ)) (before : List ℕ) {x : Framed} (e : x ≡ framed frame) (front : Front) (counts : Counts) where
+  abbrev held : Stated
+  held = statedFirst front counts halves zones minima devices cells
+
+  pub case-end : x ≡ B.End → AnswersCase frame halves zones minima devices cells before before (record { bytes = 0; more = false; front = front; counts = counts })
   case-end t =
       let f : framed frame ≡ B.End = sym e ∙ t in
       record { text = rw f (no-line before); next = rw f refl; decoded = never }
 
   pub case-framing : {f : Fault} {after : List ℕ} {n : ℕ} → x ≡ B.Refused f → Writes (text (framing (numberOf f))) before after n
-      → AnswersCase frame table before after (record { bytes = n; more = false; case = case })
+      → AnswersCase frame halves zones minima devices cells before after (record { bytes = n; more = false; front = front; counts = counts })
   case-framing {f} t w =
       let g : framed frame ≡ B.Refused f = sym e ∙ t in
       record { text = rw g (one-line refl w); next = rw g refl; decoded = never }
 
-  module _ {from until : ℕ} (t : x ≡ B.Message from until) {m : List ℕ} {end : Ending} (i : m ≡ messageAt limit frame 0) (d : CaseDone m end case table) where
+  module _ {from until : ℕ} (t : x ≡ B.Message from until) {m : List ℕ} {end : Ending} (i : m ≡ messageAt limit frame 0)
+      (d : CaseDone (batch .devices) (batch .intervals) m halves zones minima devices cells end front counts) where
     message-is : framed frame ≡ B.Message from until
     message-is = sym e ∙ t
 
-    read-is : readCase (part frame from until) ≡ ended (caseIn case table) end
-    read-is = ap readCase (some limit frame 0 e t ∙ sym i) ∙ sym (d .is)
+    read-is : statedIn batch (part frame from until) ≡ ended held end
+    read-is = ap (statedIn batch) (some limit frame 0 e t ∙ sym i) ∙ sym (d .is)
 
     pub case-fails : {f : Fault} {after : List ℕ} {n : ℕ} → end ≡ Fails f → Writes (text (answer 0 (Refused S.Case f))) before after n
-        → AnswersCase frame table before after (record { bytes = n; more = false; case = case })
+        → AnswersCase frame halves zones minima devices cells before after (record { bytes = n; more = false; front = front; counts = counts })
     case-fails {f} k w =
-        let g : readCase (part frame from until) ≡ fails f = read-is ∙ ap (ended (caseIn case table)) k in
+        let g : statedIn batch (part frame from until) ≡ fails f = read-is ∙ ap (ended held) k in
         record { text = rw (message-is, g) (one-line refl w); next = rw (message-is, g) refl; decoded = never }
 
     -- the counts are the decoded case's
-    counts-are : end ≡ Passes → caseLine 0 (case .ndevices) (case .nintervals) (case .nzones) ≡ readLine (passes (caseIn case table))
+    counts-are : end ≡ Passes → caseLine 0 (counts .devices) (counts .intervals) (counts .zones) ≡ readLine (passes held)
     counts-are k =
-        let j = inspect-passes m table case end d k ∙ ap inspectedOf (sym (d .is) ∙ ap (ended (caseIn case table)) k) in
+        let j = inspect-passes m halves zones minima devices cells end front counts d k ∙ ap inspectedOf (sym (d .is) ∙ ap (ended held) k) in
         cc
 
-    pub case-passes : {after : List ℕ} {n : ℕ} → end ≡ Passes → Writes (text (caseLine 0 (case .ndevices) (case .nintervals) (case .nzones))) before after n
-        → AnswersCase frame table before after (record { bytes = n; more = true; case = case })
+    pub case-passes : {after : List ℕ} {n : ℕ} → end ≡ Passes → Writes (text (caseLine 0 (counts .devices) (counts .intervals) (counts .zones))) before after n
+        → AnswersCase frame halves zones minima devices cells before after (record { bytes = n; more = true; front = front; counts = counts })
     case-passes k w =
-        let g : readCase (part frame from until) ≡ passes (caseIn case table) = read-is ∙ ap (ended (caseIn case table)) k in
-        record { text = rw (message-is, g) (one-line (counts-are k) w); next = rw (message-is, g) refl; decoded = λ _. d .decoded k }
+        let g : statedIn batch (part frame from until) ≡ passes held = read-is ∙ ap (ended held) k in
+        record {
+          text = rw (message-is, g) (one-line (counts-are k) w);
+          next = rw (message-is, g) refl;
+          decoded = λ _. decoded-first m halves zones minima devices cells end front counts d k;
+        }
 
 -- ---- a plan
 
--- a decoded case has counts that the batch program takes
-few-devices : (c : CaseRecord) (table : List ℕ) → Decoded c table → devices (caseIn c table .system) ≤ batch .devices
-few-devices c table d = omega (arith, devices-are c (halvesIn table) (minimaIn table) (cellsIn table), d .devices)
-
-few-intervals : (c : CaseRecord) (table : List ℕ) → Decoded c table → intervals (caseIn c table .system) ≤ batch .intervals
-few-intervals c table d =
-    let l : c .nintervals ≤ length (halvesIn table) = omega (arith, d .intervals, d .long, length-take 48 (drop 0 table)) in
-    omega (arith, intervals-are c (halvesIn table) (minimaIn table) (cellsIn table) l, d .intervals)
-
-module _ (c : Case) (index : ℕ) (frame buffer before : List ℕ) {x : Framed} (e : x ≡ framed frame) where
+module _ (c : Stated) (index : ℕ) (frame buffer before : List ℕ) {x : Framed} (e : x ≡ framed frame) where
   pub plan-end : x ≡ B.End → AnswersPlan c index frame buffer buffer before before (record { bytes = 0; more = false; accepted = false })
   plan-end t =
       let f : framed frame ≡ B.End = sym e ∙ t in
@@ -131,16 +132,24 @@ module _ (c : Case) (index : ℕ) (frame buffer before : List ℕ) {x : Framed} 
       let g : framed frame ≡ B.Refused f = sym e ∙ t in
       record { text = rw g (one-line refl w); more = rw g refl; accepted = rw g refl; result = rw g refl }
 
-module _ (c : CaseRecord) (table : List ℕ) (index : ℕ) (frame buffer before : List ℕ) {x : Framed} (e : x ≡ framed frame) where
-  pub plan-judged : {from until : ℕ} {m left after : List ℕ} {v : Verdict} {n : ℕ} {a : Bool} → Decoded c table → resultRoom ≤ length buffer → x ≡ B.Message from until
-      → m ≡ messageAt limit frame 0 → JudgesPlan c table m buffer left v → Writes (text (answer index v)) before after n → a ≡ accepts v
-      → AnswersPlan (caseIn c table) index frame buffer left before after (record { bytes = n; more = true; accepted = a })
-  plan-judged {from} {until} {m} {v = v} d room t i j w h =
-      let C = caseIn c table in
+module _ {front : Front} {halves : List ℕ} {zones minima devices cells : List (List ℕ)} (d : Decoded front halves zones minima devices cells)
+    (few : length devices ≤ batch .devices) (short : length halves ≤ batch .intervals) (index : ℕ) (frame buffer before : List ℕ) {x : Framed} (e : x ≡ framed frame) where
+  abbrev C : Stated
+  C = statedRows front halves zones minima devices cells
+
+  fits-here : resultRoom ≤ length buffer → (p : Plan) → length (completionBytes C p) ≤ length buffer
+  fits-here room p =
+      let n : F.devices (C .case .system) ≤ batch .devices = omega (arith, devices-are halves zones minima devices cells) in
+      let m : F.intervals (C .case .system) ≤ batch .intervals = omega (arith, intervals-are halves zones minima devices cells) in
+      omega (arith, completion-fits C (d .rows .range .system) n m p, room)
+
+  pub plan-judged : {from until : ℕ} {m left after : List ℕ} {v : Verdict} {n : ℕ} {a : Bool} → resultRoom ≤ length buffer → x ≡ B.Message from until
+      → m ≡ messageAt limit frame 0 → JudgesPlan front halves zones minima devices cells m buffer left v → Writes (text (answer index v)) before after n → a ≡ accepts v
+      → AnswersPlan C index frame buffer left before after (record { bytes = n; more = true; accepted = a })
+  plan-judged {from} {until} {m} {v = v} room t i j w h =
       let k : framed frame ≡ B.Message from until = sym e ∙ t in
       let p : m ≡ part frame from until = i ∙ sym (some limit frame 0 e t) in
-      let f : (p : Plan) → length (completionBytes C p) ≤ length buffer = λ p. omega (arith, completion-fits C (d .range .system) (few-devices c table d) (few-intervals c table d) p, room) in
-      let g : v ≡ planVerdict C (readPlan (C .system) (part frame from until)) = j .verdict ∙ rw p (enough C buffer f (readPlan (C .system) (part frame from until))) in
+      let g : v ≡ planVerdict C (readPlan C (part frame from until)) = j .verdict ∙ rw p (enough C buffer (fits-here room) (readPlan C (part frame from until))) in
       record { text = rw k (one-line (ap (answer index) g) w); more = rw k refl; accepted = rw k (h ∙ ap accepts g); result = rw k (j .result ∙ rw p refl) }
 
 -- a frame behind which the batch goes on has a byte

@@ -3,21 +3,21 @@ use mathlib.Core.List.{List, [], _++_}
 use Prim.Native.Nat.{ℕ, zero, suc}
 use lib.ListN.{length, drop}
 use Rattle.bits.specs.Pick.{pick}
-use Rattle.model.specs.Case.{Case}
+use Rattle.model.specs.ByEdition.{Stated}
 use Rattle.lines.specs.Text.{texts}
 use Rattle.answers.specs.Frames.{frameOf, framed}
 use Rattle.answers.specs.Answers.{After, over, plans, caseLines, caseAfter, planAnswers, moreOf}
 
 -- the plans, where these bytes of the batch are left; n bounds how many
-unfoldable pub plansText : Case → ℕ → ℕ → List ℕ → List ℕ
-plansText c zero index rest = []
-plansText c (suc n) index rest =
+unfoldable pub plansText : Stated → ℕ → ℕ → List ℕ → List ℕ
+plansText x zero index rest = []
+plansText x (suc n) index rest =
     let frame = frameOf rest in
-    texts (planAnswers c index frame (framed frame)) ++ pick (moreOf (framed frame)) (plansText c n (suc index) (drop (length frame) rest)) []
+    texts (planAnswers x index frame (framed frame)) ++ pick (moreOf (framed frame)) (plansText x n (suc index) (drop (length frame) rest)) []
 
 abbrev pub behindCase : After → ℕ → List ℕ → List ℕ
 behindCase over n rest = []
-behindCase (plans c) n rest = plansText c n 1 rest
+behindCase (plans x) n rest = plansText x n 1 rest
 
 unfoldable pub streamText : List ℕ → List ℕ
 streamText s =

@@ -1,13 +1,21 @@
 // The batch program's answers on slices: to a frame, which is a message behind its length as far as the batch goes, its lines as text and how the batch goes on.
 use fields::Ending;
 use layouts::Framed;
-use model::CaseRecord;
 use model::Subject;
 use model::Verdict;
+use records::CellRow;
+use records::Counts;
+use records::DeviceRow;
+use records::Front;
+use records::MinimaRow;
+use records::SettingRow;
+use records::ZoneRow;
 ghost use mathlib.Core.Path.{_≡_};
 ghost use Prim.Native.Nat.{_≤_};
 ghost use lib.ListN.{length};
-ghost use Rattle.ranges.specs.Views.{caseIn, Decoded};
+ghost use Rattle.model.specs.Editions.{batch};
+ghost use Rattle.case_reader.specs.Whole.{CaseRoom};
+ghost use Rattle.plan_unit.specs.Decoded.{Decoded, Work, statedRows};
 ghost use Rattle.lines.specs.Writes.{lineRoom};
 ghost use Rattle.answers.specs.Frames.{frameBytes, frameRoom};
 ghost use Rattle.answers.specs.Answers.{accepts, AnswersCase, AnswersPlan};
@@ -33,42 +41,87 @@ pub fn frame_bytes(head: &[u8]) -> usize
     HEAD + n as usize
 }
 
-// The line's bytes; whether plans may follow, and the case that they are for.
+// The largest counts that the batch program takes.
+const DEVICES: u32 = 16;
+
+const INTERVALS: u32 = 48;
+
+// The line's bytes; whether plans may follow, and the front and counts of the case that they are for.
 pub struct CaseAnswer {
     pub bytes: usize,
     pub more: bool,
-    pub case: CaseRecord,
+    pub front: Front,
+    pub counts: Counts,
 }
 
 // To a batch's first frame, of the case.
-pub fn answer_case(frame: &[u8], table: &mut [u32], out: &mut [u8]) -> CaseAnswer
-    requires { ⌜ (length (now table) ≡ 15792) × (lineRoom ≤ length (now out)) ⌝ }
-    ensures { λ r. ⌜ AnswersCase (now (frame .entry)) (now (table .exit)) (now (out .entry)) (now (out .exit)) r ⌝ }
+pub fn answer_case(
+    frame: &[u8],
+    halves: &mut [u32],
+    zones: &mut [ZoneRow],
+    minima: &mut [MinimaRow],
+    devices: &mut [DeviceRow],
+    cells: &mut [CellRow],
+    out: &mut [u8],
+) -> CaseAnswer
+    requires { ⌜ CaseRoom (batch .devices) (batch .intervals) (now halves) (now zones) (now minima) (now devices) (now cells) × (lineRoom ≤ length (now out)) ⌝ }
+    ensures { λ r. ⌜ AnswersCase (now (frame .entry)) (now (halves .exit)) (now (zones .exit)) (now (minima .exit)) (now (devices .exit)) (now (cells .exit)) (now (out .entry)) (now (out .exit)) r ⌝ }
 {
-    let read = cases::read_case(layouts::message_at(frame, 0, LIMIT), table);
+    let message = layouts::message_at(frame, 0, LIMIT);
+    let read = case_reader::read_case(
+        message,
+        DEVICES,
+        INTERVALS,
+        halves,
+        zones,
+        minima,
+        devices,
+        cells,
+    );
     let ending = read.ending;
-    let case = read.record;
+    let front = read.front;
+    let counts = read.counts;
     let more = false;
     match layouts::frame_at(frame, 0, LIMIT) {
         Framed::End => {
             let bytes = 0;
-            CaseAnswer { bytes, more, case }
+            CaseAnswer {
+                bytes,
+                more,
+                front,
+                counts,
+            }
         }
         Framed::Refused(f) => {
             let bytes = lines::put_framing(out, f);
-            CaseAnswer { bytes, more, case }
+            CaseAnswer {
+                bytes,
+                more,
+                front,
+                counts,
+            }
         }
         Framed::Message(_, _) => match ending {
             Ending::Fails(f) => {
                 let bytes = lines::put_answer(out, 0, Verdict::Refused(Subject::Case, f));
-                CaseAnswer { bytes, more, case }
+                CaseAnswer {
+                    bytes,
+                    more,
+                    front,
+                    counts,
+                }
             }
             Ending::Passes => {
-                let intervals = case.nintervals as u64;
-                let zones = case.nzones as u64;
-                let bytes = lines::put_case(out, case.ndevices as u64, intervals, zones);
+                let intervals = counts.intervals as u64;
+                let zones = counts.zones as u64;
+                let bytes = lines::put_case(out, counts.devices as u64, intervals, zones);
                 let more = true;
-                CaseAnswer { bytes, more, case }
+                CaseAnswer {
+                    bytes,
+                    more,
+                    front,
+                    counts,
+                }
             }
         },
     }
@@ -92,17 +145,25 @@ pub struct PlanAnswer {
     pub accepted: bool,
 }
 
-// To each further frame, of a plan.
+// To each further frame, of a plan, with tables lent to work in.
 pub fn answer_plan(
-    c: CaseRecord,
-    table: &[u32],
+    front: Front,
+    halves: &[u32],
+    zones: &[ZoneRow],
+    minima: &[MinimaRow],
+    devices: &[DeviceRow],
+    cells: &[CellRow],
+    settings: &mut [SettingRow],
+    starts: &mut [u32],
+    powers: &mut [u32],
     frame: &[u8],
     index: u64,
     result: &mut [u8],
     out: &mut [u8],
 ) -> PlanAnswer
-    requires { ⌜ Decoded c (now table) × (resultRoom ≤ length (now result)) × (lineRoom ≤ length (now out)) ⌝ }
-    ensures { λ r. ⌜ AnswersPlan (caseIn c (now (table .entry))) index (now (frame .entry)) (now (result .entry)) (now (result .exit)) (now (out .entry)) (now (out .exit)) r ⌝ }
+    requires { ⌜ Decoded front (now halves) (now zones) (now minima) (now devices) (now cells) × Work (now halves) (now devices) (now settings) (now starts) (now powers) ⌝ }
+    requires { ⌜ (length (now devices) ≤ batch .devices) × (length (now halves) ≤ batch .intervals) × (resultRoom ≤ length (now result)) × (lineRoom ≤ length (now out)) ⌝ }
+    ensures { λ r. ⌜ AnswersPlan (statedRows front (now (halves .entry)) (now (zones .entry)) (now (minima .entry)) (now (devices .entry)) (now (cells .entry))) index (now (frame .entry)) (now (result .entry)) (now (result .exit)) (now (out .entry)) (now (out .exit)) r ⌝ }
 {
     match layouts::frame_at(frame, 0, LIMIT) {
         Framed::End => PlanAnswer {
@@ -119,7 +180,20 @@ pub fn answer_plan(
             }
         }
         Framed::Message(_, _) => {
-            let v = plan_unit::judge_plan(c, table, layouts::message_at(frame, 0, LIMIT), result);
+            let message = layouts::message_at(frame, 0, LIMIT);
+            let v = plan_unit::judge_plan(
+                front,
+                halves,
+                zones,
+                minima,
+                devices,
+                cells,
+                message,
+                settings,
+                starts,
+                powers,
+                result,
+            );
             let bytes = lines::put_answer(out, index, v);
             PlanAnswer {
                 bytes,

@@ -1,23 +1,56 @@
-// The batch program: a batch by standard input, case first; a line for each message.
-use model::CaseRecord;
+// The batch program: a batch by standard input, case first; a line for each message. It owns the tables of a case of up to 16 devices and 48 intervals.
+use records::CellRow;
+use records::DeviceRow;
+use records::Front;
+use records::MinimaRow;
+use records::SettingRow;
+use records::ZoneRow;
 ghost use mathlib.Core.Path.{_≡_};
-ghost use Prim.Native.Nat.{_^_, _<_};
+ghost use Prim.Native.Nat.{_^_, _≤_, _<_};
 ghost use lib.ListN.{length};
-ghost use Rattle.ranges.specs.Views.{Decoded};
+ghost use Rattle.model.specs.Editions.{batch};
+ghost use Rattle.plan_unit.specs.Decoded.{Decoded, Work};
 ghost use Rattle.answers.specs.Frames.{frameRoom};
 
 // The most bytes of a batch: no machine holds more.
 const REACH: u64 = 0x1fff_ffff_ffff_ffff;
 
 // The plans of a batch of which `left` bytes are not read yet. Each takes a byte at least, so their count fits.
-fn run_plans(case: CaseRecord, table: &[u32], frame: &mut [u8], left: u64)
-    requires { ⌜ Decoded case (now table) × (length (now frame) ≡ frameRoom) × (left < 2 ^ 61) ⌝ }
+fn run_plans(
+    front: Front,
+    halves: &[u32],
+    zones: &[ZoneRow],
+    minima: &[MinimaRow],
+    devices: &[DeviceRow],
+    cells: &[CellRow],
+    settings: &mut [SettingRow],
+    starts: &mut [u32],
+    powers: &mut [u32],
+    frame: &mut [u8],
+    left: u64,
+)
+    requires { ⌜ Decoded front (now halves) (now zones) (now minima) (now devices) (now cells) × Work (now halves) (now devices) (now settings) (now starts) (now powers) × (length (now devices) ≤ batch .devices) × (length (now halves) ≤ batch .intervals) ⌝ }
+    requires { ⌜ (length (now frame) ≡ frameRoom) × (left < 2 ^ 61) ⌝ }
 {
     let mut result = runner::result_buffer();
     let mut rest = left;
     let mut index: u64 = 1;
     while 0 < rest {
-        let turn = runner::next(case, table, frame, &mut result, rest, index);
+        let turn = runner::next(
+            front,
+            halves,
+            zones,
+            minima,
+            devices,
+            cells,
+            settings,
+            starts,
+            powers,
+            frame,
+            &mut result,
+            rest,
+            index,
+        );
         if !turn.more {
             return;
         }
@@ -28,10 +61,49 @@ fn run_plans(case: CaseRecord, table: &[u32], frame: &mut [u8], left: u64)
 
 fn main() {
     let mut frame = runner::frame_buffer();
-    let mut table = runner::table_buffer();
-    let started = runner::start(&mut frame, &mut table, REACH);
-    let case = started.case;
+    let mut halves = [0u32; 48];
+    let zone = records::blank_zone();
+    let mut zones = [zone; 4];
+    let least = records::blank_minima();
+    let mut minima = [least; 192];
+    let device = records::blank_device();
+    let mut devices = [device; 16];
+    let cell = records::blank_cell();
+    let mut cells = [cell; 768];
+    let started = runner::start(
+        &mut frame,
+        &mut halves,
+        &mut zones,
+        &mut minima,
+        &mut devices,
+        &mut cells,
+        REACH,
+    );
+    let front = started.front;
+    let counts = started.counts;
+    let n = counts.devices;
+    let m = counts.intervals;
+    let z = counts.zones;
     if started.more {
-        run_plans(case, &table, &mut frame, started.rest);
+        let setting = records::blank_setting();
+        let mut settings = [setting; 768];
+        let mut starts = [0u32; 49];
+        let mut powers = [0u32; 768];
+        let k = n * m;
+        let j = z * m;
+        let e = m + 1;
+        run_plans(
+            front,
+            &halves[..m],
+            &zones[..z],
+            &minima[..j],
+            &devices[..n],
+            &cells[..k],
+            &mut settings[..k],
+            &mut starts[..e],
+            &mut powers[..k],
+            &mut frame,
+            started.rest,
+        );
     }
 }

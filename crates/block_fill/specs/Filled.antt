@@ -3,8 +3,10 @@ use mathlib.Core.Path.{_≡_, refl, sym, ap, ap₂, _∙_}
 use mathlib.Core.Logic.{_⊎_, inl, inr}
 use mathlib.Core.Bool.{Bool, true, false}
 use mathlib.Core.List.{List, [], _∷_, map}
-use Prim.Native.Nat.{ℕ, _+_, _-_, _≤_, _<_, min}
+use Prim.Native.Nat.{ℕ, zero, suc, _+_, _-_, _≤_, _<_, min}
 use native.Mathlib.Omega.{arith}
+use native.Mathlib.Decide.{decLe}
+use borrow.Author.Tests.{lt-ltb, le-ltb}
 use lib.Dec.{T, ltb, eqb}
 use lib.ListN.{getD}
 use lib.IntN.{ℤ, pos, negℤ, _-ℤ_}
@@ -87,26 +89,80 @@ pub record Filled (side p : ℕ) (caps : List Kw) (prices : List ℕ) (r : List 
   pub powers : (offset : ℕ) → r ≡ map (λ k. kw (filling (eqb side 1) (priceOf offset prices) (capOf caps) p k)) blocks
   pub total : p ≤ sumℕ (capOf caps) blocks → sumℕ (capOf r) blocks ≡ p
 
--- a side is consuming or not
-pub filled-side : (s side p : ℕ) {caps r : List Kw} {prices : List ℕ} → eqb side 1 ≡ eqb s 1 → Filled s p caps prices r → Filled side p caps prices r
-filled-side s side p {caps} {r} {prices} e h = record {
-  powers = λ o. h .powers o ∙ ap (λ (b : Bool). map (λ k. kw (filling b (priceOf o prices) (capOf caps) p k)) blocks) (sym e);
-  total = h .total;
-}
+-- ---- one order for both sides: the lowest key first
 
--- the code's four results
-module _ (side p : ℕ) (caps : List Kw) (prices : List ℕ) where
+-- the highest number of 32 bits
+abbrev pub highest : ℕ
+highest = 4294967295
+
+abbrev pub keyOf : Bool → ℕ → ℕ
+keyOf consuming price = pick consuming (highest - price) price
+
+turned-lower : (a b : ℕ) → a ≤ highest → b ≤ highest → ltb (highest - a) (highest - b) ≡ ltb b a
+turned-lower a b h i = go (decLe a b)
+  where
+    go : Dec (a ≤ b) → ltb (highest - a) (highest - b) ≡ ltb b a
+    go (yes l) = le-ltb (highest - a) (highest - b) (omega arith) ∙ sym (le-ltb b a l)
+    go (no l) = lt-ltb (highest - a) (highest - b) (omega arith) ∙ sym (lt-ltb b a (omega arith))
+
+key-ahead : (consuming : Bool) (a b : ℕ) (lower : Bool) → a ≤ highest → b ≤ highest → ahead false (keyOf consuming a) (keyOf consuming b) lower ≡ ahead consuming a b lower
+key-ahead false a b lower h i = refl
+key-ahead true a b lower h i = rw (turned-lower a b h i, turned-lower b a i h) refl
+
+-- the keys of four prices
+pub record Keyed (consuming : Bool) (prices keys : List ℕ) : Type 0 where
+  pub is : (k : ℕ) → k < 4 → getD keys k 0 ≡ keyOf consuming (getD prices k 0)
+  pub small : (k : ℕ) → k < 4 → getD prices k 0 ≤ highest
+
+pub keyed-of : (consuming : Bool) (prices : List ℕ) {a b c d : ℕ}
+    → (a ≡ keyOf consuming (getD prices 0 0)) × (getD prices 0 0 ≤ highest) → (b ≡ keyOf consuming (getD prices 1 0)) × (getD prices 1 0 ≤ highest)
+    → (c ≡ keyOf consuming (getD prices 2 0)) × (getD prices 2 0 ≤ highest) → (d ≡ keyOf consuming (getD prices 3 0)) × (getD prices 3 0 ≤ highest)
+    → Keyed consuming prices (a ∷ b ∷ c ∷ d ∷ [])
+keyed-of consuming prices {a} {b} {c} {d} e f g h = record { is = is; small = small }
+  where
+    is : (k : ℕ) → k < 4 → getD (a ∷ b ∷ c ∷ d ∷ []) k 0 ≡ keyOf consuming (getD prices k 0)
+    is zero l = e .0
+    is (suc zero) l = f .0
+    is (suc (suc zero)) l = g .0
+    is (suc (suc (suc zero))) l = h .0
+    is (suc (suc (suc (suc k)))) l = absurd (omega arith)
+
+    small : (k : ℕ) → k < 4 → getD prices k 0 ≤ highest
+    small zero l = e .1
+    small (suc zero) l = f .1
+    small (suc (suc zero)) l = g .1
+    small (suc (suc (suc zero))) l = h .1
+    small (suc (suc (suc (suc k)))) l = absurd (omega arith)
+
+-- the cap of block j, where it goes ahead of block k
+abbrev aheadAt : Bool → List Kw → List ℕ → ℕ → ℕ → ℕ
+aheadAt consuming caps prices k j = gate (ahead consuming (getD prices j 0) (getD prices k 0) (ltb j k)) (capOf caps j)
+
+pub keyed-block : (consuming : Bool) (p : ℕ) (caps : List Kw) {prices keys : List ℕ} → Keyed consuming prices keys → (k : ℕ) → k < 4
+    → blockOf false p caps keys k ≡ blockOf consuming p caps prices k
+unfolding blockOf
+keyed-block consuming p caps {prices} {keys} h k l =
+    ap (λ (n : ℕ). min (capOf caps k) (p - n)) (sumℕ-cong _ _ blocks (all-upTo (λ j. aheadAt false caps keys k j ≡ aheadAt consuming caps prices k j) 4 each))
+  where
+    each : (j : ℕ) → j < 4 → aheadAt false caps keys k j ≡ aheadAt consuming caps prices k j
+    each j m = ap (λ (b : Bool). gate b (capOf caps j))
+        (ap₂ (λ (x y : ℕ). ahead false x y (ltb j k)) (h .is j m) (h .is k l) ∙ key-ahead consuming (getD prices j 0) (getD prices k 0) (ltb j k) (h .small j m) (h .small k l))
+
+-- what the blocks ahead leave, taken off one by one
+module _ (p : ℕ) (caps : List Kw) (keys : List ℕ) where
   abbrev aheadOf : ℕ → ℕ → ℕ
-  aheadOf k j = gate (ahead (eqb side 1) (getD prices j 0) (getD prices k 0) (ltb j k)) (capOf caps j)
+  aheadOf k j = gate (rank (ltb (getD keys j 0) (getD keys k 0)) (ltb (getD keys k 0) (getD keys j 0)) (ltb j k)) (capOf caps j)
 
   pub block-of : (k : ℕ) {r w x y z a b c d : ℕ} → r ≡ min (capOf caps k) z → w ≡ p - a → x ≡ w - b → y ≡ x - c → z ≡ y - d
-      → a ≡ aheadOf k 0 → b ≡ aheadOf k 1 → c ≡ aheadOf k 2 → d ≡ aheadOf k 3 → r ≡ blockOf (eqb side 1) p caps prices k
+      → a ≡ aheadOf k 0 → b ≡ aheadOf k 1 → c ≡ aheadOf k 2 → d ≡ aheadOf k 3 → r ≡ blockOf false p caps keys k
   unfolding blockOf range
   block-of k {r} {w} {x} {y} {z} e fa fb fc fd ga gb gc gd = e ∙ ap (λ (n : ℕ). min (capOf caps k) n) s
     where
       s : z ≡ p - (aheadOf k 0 + (aheadOf k 1 + (aheadOf k 2 + (aheadOf k 3 + 0))))
       s = omega arith
 
+-- the code's four results
+module _ (side p : ℕ) (caps : List Kw) (prices : List ℕ) where
   pub filled-of : {a b c d : Kw} → a .0 ≡ blockOf (eqb side 1) p caps prices 0 → b .0 ≡ blockOf (eqb side 1) p caps prices 1
       → c .0 ≡ blockOf (eqb side 1) p caps prices 2 → d .0 ≡ blockOf (eqb side 1) p caps prices 3 → Filled side p caps prices (a ∷ b ∷ c ∷ d ∷ [])
   unfolding range
@@ -123,6 +179,17 @@ module _ (side p : ℕ) (caps : List Kw) (prices : List ℕ) where
 
       four : (o : ℕ) → a ∷ b ∷ c ∷ d ∷ [] ≡ map (λ k. kw (filling (eqb side 1) (priceOf o prices) (capOf caps) p k)) blocks
       four o = rw (each o 0 a e, each o 1 b f, each o 2 c g, each o 3 d h) refl
+
+  pub filled-keyed : {keys : List ℕ} {a b c d : Kw} → Keyed (eqb side 1) prices keys → a .0 ≡ blockOf false p caps keys 0 → b .0 ≡ blockOf false p caps keys 1
+      → c .0 ≡ blockOf false p caps keys 2 → d .0 ≡ blockOf false p caps keys 3 → Filled side p caps prices (a ∷ b ∷ c ∷ d ∷ [])
+  filled-keyed {keys} h e f g i = filled-of (e ∙ is 0 (omega arith)) (f ∙ is 1 (omega arith)) (g ∙ is 2 (omega arith)) (i ∙ is 3 (omega arith))
+    where
+      is : (k : ℕ) → k < 4 → blockOf false p caps keys k ≡ blockOf (eqb side 1) p caps prices k
+      is = keyed-block (eqb side 1) p caps h
+
+  pub filled-none : p ≡ 0 → Filled side p caps prices (kw 0 ∷ kw 0 ∷ kw 0 ∷ kw 0 ∷ [])
+  unfolding blockOf
+  filled-none e = filled-of (omega arith) (omega arith) (omega arith) (omega arith)
 
 -- ---- only the four caps matter, and the prices of blocks whose cap is not 0
 

@@ -1,5 +1,5 @@
 -- Our choices for one device in one interval, from its records and its settings.
-use mathlib.Core.Path.{_≡_, refl, sym, ap, ap₂, _∙_}
+use mathlib.Core.Path.{_≡_, refl, sym, ap, ap₂, subst, _∙_}
 use mathlib.Core.Bool.{Bool}
 use mathlib.Core.List.{List, map}
 use Prim.Native.Nat.{ℕ, zero, suc, _≤_}
@@ -105,16 +105,16 @@ module _ (d : Device) (cell : Cell) (settings : List (List ℕ)) (starts : List 
     pub state : (w : CellOf d cell settings starts p t) → x .state ≡ ours (caseOf w) (planOf w) .state t (w .i)
     pub blocks : (w : CellOf d cell settings starts p t) → x .blocks ≡ map (λ k. kw (ours (caseOf w) (planOf w) .block t (w .i) k)) blocks
 
-  pub choice-of : {s e x : ℕ} {b : List Kw} → s ≡ startedAt (d .on0) settings t → e ≡ stoppedAt (d .on0) settings t
-      → x ≡ pick (eqb s 1) (stateOf d (offSince d settings starts t t)) 0 → Filled (d .side) p (cell .caps) (cell .prices) b
+  pub choice-of : {on0 side s e x : ℕ} {b : List Kw} → on0 ≡ d .on0 → side ≡ d .side → s ≡ startedAt on0 settings t → e ≡ stoppedAt on0 settings t
+      → x ≡ pick (eqb s 1) (stateOf d (offSince d settings starts t t)) 0 → Filled side p (cell .caps) (cell .prices) b
       → ChoiceOf (record { started = s; stopped = e; state = x; blocks = b })
   unfolding ours
-  choice-of {s} {e} {x} {b} h j k l = record {
+  choice-of {s = s} {b = b} f g h j k l = record {
     started = begun;
-    stopped = λ w. j ∙ Cells.stop-is w;
+    stopped = λ w. j ∙ ap (λ (n : ℕ). stoppedAt n settings t) f ∙ Cells.stop-is w;
     state = λ w. chosen-is w (begun w) k;
-    blocks = λ w. blocks-are w l;
+    blocks = λ w. blocks-are w (subst (λ (n : ℕ). Filled n p (cell .caps) (cell .prices) b) g l);
   }
     where
       begun : (w : CellOf d cell settings starts p t) → s ≡ su (systemOf w) (planOf w) t (w .i)
-      begun w = h ∙ Cells.start-is w
+      begun w = h ∙ ap (λ (n : ℕ). startedAt n settings t) f ∙ Cells.start-is w

@@ -1,16 +1,22 @@
 // Our choices for a device in an interval: "lower-numbered block first; lowest-numbered cheapest state, and none unless it costs below 0".
 use records::Cell;
-use records::Device;
+use records::DeviceRow;
 use records::SettingRow;
 use records::State;
+use records::minutes0_at;
 use records::on_at;
+use records::on0_at;
+use records::side_at;
 use records::started_at;
+use records::states_at;
 use records::stopped_at;
 use units::Kw;
 ghost use mathlib.Core.Path.{_≡_};
-ghost use Prim.Native.Nat.{_≤_, _-_};
+ghost use Prim.Native.Nat.{_≤_, _<_, _-_};
 ghost use lib.Dec.{eqb};
+ghost use lib.ListN.{length};
 ghost use Rattle.bits.specs.Pick.{pick};
+ghost use Rattle.records.specs.Figures.{deviceAt};
 ghost use Rattle.choices.specs.Cells.{CellOf};
 ghost use Rattle.choices.specs.States.{chosen, stateOf};
 ghost use Rattle.choices.specs.Rests.{initial, offSince, Looks};
@@ -41,17 +47,18 @@ fn with_state(b: Chosen, s: State, n: u32, downtime: u32) -> Chosen
 }
 
 // The lowest-numbered cheapest state that lasts the downtime, and none unless it costs below 0.
-fn best_state(d: Device, downtime: u32) -> u32
-    requires { ⌜ d .nstates ≤ 4 ⌝ }
-    ensures { λ r. ⌜ r ≡ stateOf d downtime ⌝ }
+fn best_state(devices: &[DeviceRow], i: usize, downtime: u32) -> u32
+    requires { ⌜ (i < length (now devices)) × (deviceAt (now devices) i .nstates ≤ 4) ⌝ }
+    ensures { λ r. ⌜ r ≡ stateOf (deviceAt (now (devices .entry)) i) downtime ⌝ }
 {
+    let n = states_at(devices, i);
     let mut b = Chosen {
         state: 0,
         least: NO_COST,
     };
     let mut k = 0;
-    while k < d.nstates {
-        let s = d.states[k];
+    while k < n {
+        let s = records::state_at(devices, i, k);
         b = with_state(b, s, k as u32 + 1, downtime);
         k += 1;
     }
@@ -59,10 +66,15 @@ fn best_state(d: Device, downtime: u32) -> u32
 }
 
 // The minutes that a device was off before the day.
-fn initial_rest(d: Device) -> u32
-    ensures { λ r. ⌜ (r ≡ initial d) × (r ≤ d .minutes0) ⌝ }
+fn initial_rest(devices: &[DeviceRow], i: usize) -> u32
+    requires { ⌜ i < length (now devices) ⌝ }
+    ensures { λ r. ⌜ (r ≡ initial (deviceAt (now (devices .entry)) i)) × (r ≤ deviceAt (now (devices .entry)) i .minutes0) ⌝ }
 {
-    if d.on0 == 0 { d.minutes0 } else { 0 }
+    if on0_at(devices, i) == 0 {
+        minutes0_at(devices, i)
+    } else {
+        0
+    }
 }
 
 // The minutes from an interval's end to a later start.
@@ -73,9 +85,15 @@ fn since(start: u32, end: u32) -> u32
 }
 
 // "Downtime runs from the end of the last on interval; if none, S, plus minutes already so when initially off."
-fn downtime(d: Device, settings: &[SettingRow], starts: &[u32], t: usize) -> u32
-    requires { ⌜ Looks d (now settings) (now starts) t ⌝ }
-    ensures { λ r. ⌜ r ≡ offSince d (now (settings .entry)) (now (starts .entry)) t t ⌝ }
+fn downtime(
+    devices: &[DeviceRow],
+    i: usize,
+    settings: &[SettingRow],
+    starts: &[u32],
+    t: usize,
+) -> u32
+    requires { ⌜ (i < length (now devices)) × Looks (deviceAt (now devices) i) (now settings) (now starts) t ⌝ }
+    ensures { λ r. ⌜ r ≡ offSince (deviceAt (now (devices .entry)) i) (now (settings .entry)) (now (starts .entry)) t t ⌝ }
 {
     let start = starts[t];
     let mut k = t;
@@ -86,16 +104,23 @@ fn downtime(d: Device, settings: &[SettingRow], starts: &[u32], t: usize) -> u32
         }
         k = e;
     }
-    start + initial_rest(d)
+    start + initial_rest(devices, i)
 }
 
 // The startup state at a start, elsewhere none.
-fn state_at(d: Device, settings: &[SettingRow], starts: &[u32], t: usize, started: u32) -> u32
-    requires { ⌜ (d .nstates ≤ 4) × Looks d (now settings) (now starts) t ⌝ }
-    ensures { λ r. ⌜ r ≡ pick (eqb started 1) (stateOf d (offSince d (now (settings .entry)) (now (starts .entry)) t t)) 0 ⌝ }
+fn state_at(
+    devices: &[DeviceRow],
+    i: usize,
+    settings: &[SettingRow],
+    starts: &[u32],
+    t: usize,
+    started: u32,
+) -> u32
+    requires { ⌜ (i < length (now devices)) × (deviceAt (now devices) i .nstates ≤ 4) × Looks (deviceAt (now devices) i) (now settings) (now starts) t ⌝ }
+    ensures { λ r. ⌜ r ≡ pick (eqb started 1) (stateOf (deviceAt (now (devices .entry)) i) (offSince (deviceAt (now (devices .entry)) i) (now (settings .entry)) (now (starts .entry)) t t)) 0 ⌝ }
 {
     if started == 1 {
-        best_state(d, downtime(d, settings, starts, t))
+        best_state(devices, i, downtime(devices, i, settings, starts, t))
     } else {
         0
     }
@@ -109,24 +134,26 @@ pub struct Choice {
     pub blocks: [Kw; 4],
 }
 
-// The device's choices in interval t, from its cell there, its settings and its power p.
+// The choices of device i in interval t, from its cell there, its settings and its power p.
 pub fn choose(
-    d: Device,
+    devices: &[DeviceRow],
+    i: usize,
     cell: Cell,
     settings: &[SettingRow],
     starts: &[u32],
     p: Kw,
     t: usize,
 ) -> Choice
-    requires { ⌜ CellOf d cell (now settings) (now starts) (p .0) t ⌝ }
-    ensures { λ r. ⌜ ChoiceOf d cell (now (settings .entry)) (now (starts .entry)) (p .0) t r ⌝ }
+    requires { ⌜ (i < length (now devices)) × CellOf (deviceAt (now devices) i) cell (now settings) (now starts) (p .0) t ⌝ }
+    ensures { λ r. ⌜ ChoiceOf (deviceAt (now (devices .entry)) i) cell (now (settings .entry)) (now (starts .entry)) (p .0) t r ⌝ }
 {
-    let started = started_at(d.on0, settings, t);
-    let stopped = stopped_at(d.on0, settings, t);
-    let state = state_at(d, settings, starts, t, started);
+    let on0 = on0_at(devices, i);
+    let started = started_at(on0, settings, t);
+    let stopped = stopped_at(on0, settings, t);
+    let state = state_at(devices, i, settings, starts, t, started);
     let caps = cell.caps;
     let prices = cell.prices;
-    let blocks = block_fill::fill(p, d.side, caps, prices);
+    let blocks = block_fill::fill(p, side_at(devices, i), caps, prices);
     Choice {
         started,
         stopped,

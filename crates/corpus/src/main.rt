@@ -1,10 +1,16 @@
 // Runs the batches of a corpus, each behind a 32-bit byte length, with a line on each completion's bytes.
 use libc::STDOUT_FILENO;
-use model::CaseRecord;
+use records::CellRow;
+use records::DeviceRow;
+use records::Front;
+use records::MinimaRow;
+use records::SettingRow;
+use records::ZoneRow;
 ghost use mathlib.Core.Path.{_≡_};
 ghost use Prim.Native.Nat.{_^_, _≤_, _<_};
 ghost use lib.ListN.{length};
-ghost use Rattle.ranges.specs.Views.{Decoded};
+ghost use Rattle.model.specs.Editions.{batch};
+ghost use Rattle.plan_unit.specs.Decoded.{Decoded, Work};
 ghost use Rattle.answers.specs.Frames.{frameRoom};
 
 fn least(a: u64, b: u64) -> u64
@@ -52,27 +58,53 @@ fn print(word: &[u8], n: u64, end: &[u8]) {
 }
 
 // The length and the checksum of the completion that the result holds.
-fn print_completion(case: CaseRecord, result: &[u8])
-    requires { ⌜ (case .ndevices ≤ 16) × (case .nintervals ≤ 48) × (case .nzones ≤ 4) ⌝ }
-{
-    let n = least(completion::completion_bytes(case), result.len() as u64) as usize;
+fn print_completion(needed: u64, result: &[u8]) {
+    let n = least(needed, result.len() as u64) as usize;
     let bytes = &result[0..n];
     print(b"completion ", n as u64, b" ");
     print(b"", crc(bytes) as u64, b"\n");
 }
 
 // The plans of a batch of which `left` bytes are not read yet; answers how many were not read.
-fn run_plans(case: CaseRecord, table: &[u32], frame: &mut [u8], left: u64) -> u64
-    requires { ⌜ Decoded case (now table) × (length (now frame) ≡ frameRoom) × (left < 2 ^ 32) ⌝ }
+fn run_plans(
+    front: Front,
+    halves: &[u32],
+    zones: &[ZoneRow],
+    minima: &[MinimaRow],
+    devices: &[DeviceRow],
+    cells: &[CellRow],
+    settings: &mut [SettingRow],
+    starts: &mut [u32],
+    powers: &mut [u32],
+    frame: &mut [u8],
+    left: u64,
+) -> u64
+    requires { ⌜ Decoded front (now halves) (now zones) (now minima) (now devices) (now cells) × Work (now halves) (now devices) (now settings) (now starts) (now powers) × (length (now devices) ≤ batch .devices) × (length (now halves) ≤ batch .intervals) ⌝ }
+    requires { ⌜ (length (now frame) ≡ frameRoom) × (left < 2 ^ 32) ⌝ }
     ensures { λ r. ⌜ r < 2 ^ 32 ⌝ }
 {
+    let needed = completions::completion_bytes(front.edition, halves, zones, devices);
     let mut result = runner::result_buffer();
     let mut rest = left;
     let mut index: u64 = 1;
     while 0 < rest {
-        let turn = runner::next(case, table, frame, &mut result, rest, index);
+        let turn = runner::next(
+            front,
+            halves,
+            zones,
+            minima,
+            devices,
+            cells,
+            settings,
+            starts,
+            powers,
+            frame,
+            &mut result,
+            rest,
+            index,
+        );
         if turn.accepted {
-            print_completion(case, &result);
+            print_completion(needed, &result);
         }
         if !turn.more {
             return turn.rest;
@@ -83,17 +115,56 @@ fn run_plans(case: CaseRecord, table: &[u32], frame: &mut [u8], left: u64) -> u6
     rest
 }
 
-// A batch of `left` bytes; answers how many were not read.
+// A batch of `left` bytes; answers how many were not read. It owns the tables of a case of up to 16 devices and 48 intervals.
 fn run_batch(left: u64) -> u64
     requires { ⌜ left < 2 ^ 32 ⌝ }
     ensures { λ r. ⌜ r < 2 ^ 32 ⌝ }
 {
     let mut frame = runner::frame_buffer();
-    let mut table = runner::table_buffer();
-    let started = runner::start(&mut frame, &mut table, left);
-    let case = started.case;
+    let mut halves = [0u32; 48];
+    let zone = records::blank_zone();
+    let mut zones = [zone; 4];
+    let least = records::blank_minima();
+    let mut minima = [least; 192];
+    let device = records::blank_device();
+    let mut devices = [device; 16];
+    let cell = records::blank_cell();
+    let mut cells = [cell; 768];
+    let started = runner::start(
+        &mut frame,
+        &mut halves,
+        &mut zones,
+        &mut minima,
+        &mut devices,
+        &mut cells,
+        left,
+    );
+    let front = started.front;
+    let counts = started.counts;
+    let n = counts.devices;
+    let m = counts.intervals;
+    let z = counts.zones;
     if started.more {
-        run_plans(case, &table, &mut frame, started.rest)
+        let setting = records::blank_setting();
+        let mut settings = [setting; 768];
+        let mut starts = [0u32; 49];
+        let mut powers = [0u32; 768];
+        let k = n * m;
+        let j = z * m;
+        let e = m + 1;
+        run_plans(
+            front,
+            &halves[..m],
+            &zones[..z],
+            &minima[..j],
+            &devices[..n],
+            &cells[..k],
+            &mut settings[..k],
+            &mut starts[..e],
+            &mut powers[..k],
+            &mut frame,
+            started.rest,
+        )
     } else {
         started.rest
     }

@@ -5,7 +5,6 @@ use mathlib.Core.Bool.{Bool, true, false}
 use mathlib.Core.Logic.{⊎-elim}
 use mathlib.Core.List.{List, [], _∷_}
 use lib.Dec.{leb, ltb}
-use lib.ListN.{length, length-take, length-drop}
 use borrow.Author.Tests.{leb-true, leb-false, ltb-true, ltb-false}
 use native.Mathlib.Omega.{arith}
 use types.Run.{OneOf}
@@ -14,8 +13,7 @@ use Rattle.layouts.proofs.Framed.{the-type}
 use Rattle.bits.specs.Pick.{pick, at-most, not-at-most, below, not-below}
 use Rattle.bits.specs.Bits.{fieldAt, reach}
 use Rattle.layouts.specs.Framing.{framedAt, part, bytesOf, messageAt}
-use Rattle.layouts.specs.Split.{Lies, Refuses, length-cut, too-long, message-cut, Stands, Tells, Splits}
-use Rattle.layouts.specs.declared.Fault.{Fault}
+use Rattle.layouts.specs.Split.{Lies, length-cut, too-long, message-cut, Tells, Splits}
 use Rattle.layouts.specs.declared.Fault.the-variants.{Cut, OutOfRange}
 use Rattle.layouts.specs.declared.Framed.{Framed}
 use Rattle.layouts.specs.declared.Framed.the-variants.{End, Message, Refused}
@@ -85,14 +83,8 @@ splits {limit} {s} {at} e = record { is = e; tells = rw e (tells limit s at) }
 
 -- for a caller: what an answer of `frame_at` tells, by what a match told of it, and the bytes that `message_at` hands back
 module _ (limit : ℕ) (s : List ℕ) (at : ℕ) {r : Framed} (e : r ≡ framedAt limit s at) where
-  pub at-end : r ≡ End → reach s ≤ at
-  at-end t = subst (Tells limit s at) (sym e ∙ t) (tells limit s at)
-
   pub lies : {from until : ℕ} → r ≡ Message from until → Lies limit s at from until
   lies t = subst (Tells limit s at) (sym e ∙ t) (tells limit s at)
-
-  pub stands : {f : Fault} → r ≡ Refused f → Stands limit s at f
-  stands t = subst (Tells limit s at) (sym e ∙ t) (tells limit s at)
 
   pub some : {from until : ℕ} → r ≡ Message from until → part s from until ≡ messageAt limit s at
   unfolding messageAt
@@ -101,10 +93,3 @@ module _ (limit : ℕ) (s : List ℕ) (at : ℕ) {r : Framed} (e : r ≡ framedA
   pub none : OneOf (0 ∷ 2 ∷ []) (tagOf the-type r) → [] ≡ messageAt limit s at
   unfolding messageAt
   none k = sym (rw (sym e) (no-bytes s r k))
-
-  -- a message has as many bytes as its length says
-  pub long-as : {from until : ℕ} → r ≡ Message from until → length (messageAt limit s at) ≡ fieldAt s (8 * at) 24
-  long-as {from} {until} t =
-      let L = lies t in
-      let m : length (part s from until) ≡ until - from = simp (length-take, length-drop) (omega arith) in
-      ap length (sym (some t)) ∙ (m ∙ omega arith)

@@ -19,7 +19,7 @@ use Rattle.layouts.specs.declared.Clash.{Clash}
 use Rattle.layouts.specs.declared.Clash.the-variants.{Clear, At}
 use Rattle.layouts.specs.declared.Place.{Place}
 use Rattle.layouts.specs.Faults.{numberOf, returnedBy}
-use Rattle.layouts.specs.Layout.{Layout, Field, Whole, passes, fails, nat, int, figure, countOf, fixed, begin, settle, tailFault, readWhole}
+use Rattle.layouts.specs.Layout.{Layout, Field, Whole, fails, nat, int, figure, countOf, fixed, begin, settle, tailFault, readWhole}
 use Rattle.layouts.specs.Checked.{Outcome, stops, goes, Checked}
 
 -- a refusal by the paper's number, with what is returned

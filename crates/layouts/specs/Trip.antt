@@ -53,7 +53,9 @@ field-is s at zero v l h = omega arith
 field-is s at (suc w) v l h =
     let n : length (bitsOf w (v / 2)) ≡ w = length-bits w (v / 2) in
     let e : fieldAt s at w ≡ v / 2 = field-is s at w (v / 2) (omega (arith, two-pow-succ w)) (has-first s at (bitsOf w (v / 2)) (v % 2 ∷ []) h) in
-    let b : bitAt s (at + w) ≡ v % 2 = (let q = has-second s at (bitsOf w (v / 2)) (v % 2 ∷ []) h in let t : at + w ≡ at + length (bitsOf w (v / 2)) + 0 = omega arith in rw t (q .bits 0 (omega arith))) in
+    let q = has-second s at (bitsOf w (v / 2)) (v % 2 ∷ []) h in
+    let t : at + w ≡ at + length (bitsOf w (v / 2)) + 0 = omega arith in
+    let b : bitAt s (at + w) ≡ v % 2 = rw t (q .bits 0 (omega arith)) in
     rw (e, b) (omega arith)
 
 read-is : (s : List ℕ) (at w v : ℕ) → v < 2 ^ w → Has s at (bitsOf w v) → readField s at w ≡ Value v (record { at = at + w })

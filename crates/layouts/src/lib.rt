@@ -2,6 +2,7 @@
 use bits::bits_at;
 use bits::reached;
 ghost use mathlib.Core.Path.{_≡_};
+ghost use Rattle.layouts.specs.Faults.{numberOf, returnedBy};
 ghost use Rattle.layouts.specs.Framing.{messageAt};
 ghost use Rattle.layouts.specs.Split.{Splits};
 
@@ -14,6 +15,36 @@ pub enum Fault {
     Contradiction(u64),
     Tail(u64),
     TooShort(u64),
+}
+
+// A fault's number.
+pub fn number_of(f: Fault) -> u64
+    ensures { λ r. ⌜ r ≡ numberOf f ⌝ }
+{
+    match f {
+        Fault::Cut(_) => 1,
+        Fault::WrongKind(_) => 2,
+        Fault::WrongCount(_) => 3,
+        Fault::OutOfRange(_) => 4,
+        Fault::Contradiction(_) => 5,
+        Fault::Tail(_) => 6,
+        Fault::TooShort(_) => 7,
+    }
+}
+
+// A fault's bit or count of bytes.
+pub fn returned_by(f: Fault) -> u64
+    ensures { λ r. ⌜ r ≡ returnedBy f ⌝ }
+{
+    match f {
+        Fault::Cut(b) => b,
+        Fault::WrongKind(b) => b,
+        Fault::WrongCount(b) => b,
+        Fault::OutOfRange(b) => b,
+        Fault::Contradiction(b) => b,
+        Fault::Tail(b) => b,
+        Fault::TooShort(n) => n,
+    }
 }
 
 // The first contradiction met on the way to a place of a message.

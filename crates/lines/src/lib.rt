@@ -99,7 +99,7 @@ pub fn put_framing(out: &mut [u8], f: Fault) -> usize
     requires { ⌜ lineRoom ≤ length (now out) ⌝ }
     ensures { λ r. ⌜ Writes (textOf (framing (numberOf f))) (now (out .entry)) (now (out .exit)) r ⌝ }
 {
-    let figures = [plan_unit::number_of(f)];
+    let figures = [layouts::number_of(f)];
     put_word(out, 0, b"framing", &figures)
 }
 
@@ -127,7 +127,7 @@ fn put_accepted(out: &mut [u8], index: u64, surplus: i64) -> usize
     requires { ⌜ lineRoom ≤ length (now out) ⌝ }
     ensures { λ r. ⌜ Writes (answerText index (Verdict.Accepted surplus)) (now (out .entry)) (now (out .exit)) r ⌝ }
 {
-    let v = writing::twos(surplus);
+    let v = bits::twos(surplus);
     if v < 0x8000_0000_0000_0000 {
         put_surplus(out, index, b" accepted ", v)
     } else {
@@ -147,7 +147,7 @@ fn put_refused(out: &mut [u8], index: u64, s: Subject, f: Fault) -> usize
     requires { ⌜ lineRoom ≤ length (now out) ⌝ }
     ensures { λ r. ⌜ Writes (answerText index (Verdict.Refused s f)) (now (out .entry)) (now (out .exit)) r ⌝ }
 {
-    let figures = [plan_unit::number_of(f), plan_unit::returned_by(f)];
+    let figures = [layouts::number_of(f), layouts::returned_by(f)];
     put_indexed(out, index, b" refused", &figures)
 }
 

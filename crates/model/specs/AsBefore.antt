@@ -12,7 +12,8 @@ use Rattle.model.specs.Case.{Case, System}
 use Rattle.model.specs.Editions.{Largest, deviceLimit, intervalLimit, batch}
 use Rattle.model.specs.Messages as M
 use Rattle.model.specs.Messages.{edition1, Counts, Written}
-use Rattle.model.specs.Judgement.{readPlan, countsOf}
+use Rattle.model.specs.Judgement.{countsOf}
+use Rattle.model.specs.Before.{readPlan}
 use Rattle.model.specs.ByEdition.{Stated, counts, startWindow, device, content, caseLayout, caseKind, editionOf, editionField, planLayout, plannedIn, completionFront, completionLayout}
 
 -- a case with its edition beside it

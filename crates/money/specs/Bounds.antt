@@ -69,9 +69,12 @@ shortfallMost = shareMost * (loadMost + powerMost + powerMost)
 
 -- ---- money
 
--- a power over an interval at a price, kept from 0 or not
+-- a power at a price, kept from 0 or not: each minute, over an interval
+abbrev pub worthMost : ℕ
+worthMost = keptMost * powerMost
+
 abbrev pub valueMost : ℕ
-valueMost = powerMost * minutesMost * keptMost
+valueMost = minutesMost * worthMost
 
 -- blocks at their prices and p at the offset
 abbrev pub tradeMost : ℕ
@@ -86,15 +89,12 @@ stateMost = costOffset + (costOffset + costMost)
 abbrev pub changeMost : ℕ
 changeMost = costMost + costMost + stateMost
 
--- four of the eight
-abbrev pub fourMost : ℕ
-fourMost = 4 * valueMost
-
+-- the eight
 abbrev pub reservesMost : ℕ
-reservesMost = fourMost + fourMost
+reservesMost = 8 * valueMost
 
 abbrev pub cellMost : ℕ
-cellMost = tradeMost + onMost + changeMost + reservesMost
+cellMost = reservesMost + tradeMost + onMost + changeMost
 
 -- one shortfall, and the six of a zone
 abbrev pub shortMost : ℕ

@@ -7,6 +7,7 @@ use native.Mathlib.Nat.{mul-le-mul}
 use lib.ListN.{getD}
 use lib.IntN.{ℤ, pos, negℤ, _+ℤ_}
 use Rattle.numbers.specs.Laws as L
+use Rattle.units.specs.declared.Grains.{Grains}
 use Rattle.units.specs.declared.Ledger.{Ledger}
 use Rattle.units.specs.Units.{Ledgered}
 use Rattle.records.specs.declared.Device.{Device}
@@ -17,6 +18,7 @@ use Rattle.records.specs.Figures.{noState}
 use Rattle.choices.specs.States.{costOf}
 use Rattle.money.specs.Bounds.{powerMost, minutesMost, priceMost, rateMost, costMost, onMost, stateMost, changeMost}
 use Rattle.money.specs.Entries.{Entered, entered-none, entered-then, entered-as, earned, spent}
+use Rattle.money.specs.Worth.{Amounts}
 
 pub record CostsBelow (d : Device) : Type 0 where
   pub on : d .oncost ≤ rateMost
@@ -73,6 +75,10 @@ due-never cost zero h n = omega arith
 due-never cost (suc zero) h n = absurd (n refl)
 due-never cost (suc (suc k)) h n = absurd (omega arith)
 
+-- a device's cost g, as often as it is due
+pub due-of : (g : Grains) (times : ℕ) {cost : Grains} {r : ℕ} → cost ≡ g → g .0 ≤ costMost → (r ≡ cost .0 * times) × (r ≤ cost .0) → (r ≡ g .0 * times) × (r ≤ costMost)
+due-of g times e h d = (d .0 ∙ ap (λ (x : Grains). x .0 * times) e, omega (arith, d .1, ap (λ (x : Grains). x .0) e))
+
 pub on-cost : (rate on minutes : ℕ) {a g : ℕ} → rate ≤ rateMost → minutes ≤ minutesMost → a ≡ rate * minutes → g ≡ a * on → g ≤ a → (g ≡ minutes * (rate * on)) × (g ≤ onMost)
 on-cost rate on minutes {a} {g} h i e f l =
     let k : a ≤ onMost = omega (arith, mul-le-mul h i) in
@@ -91,14 +97,18 @@ state-cost d (suc j) {l} {m} {r} {x} n e s h k =
     let f : x ≡ getD (d .states) j noState .cost = e ∙ ap (λ (i : ℕ). getD (d .states) i noState .cost) z in
     entered-as (entered-then (earned h) (spent k)) (rw f (sym (L.neg-sub (pos (getD (d .states) j noState .cost)) (pos costOffset)))) (omega arith)
 
+-- start, stop and state costs, paid
+abbrev pub changesOf : Device → (started stopped state : ℕ) → ℤ
+changesOf d started stopped state = negℤ (pos (d .startcost .0 * started) +ℤ pos (d .stopcost .0 * stopped) +ℤ costOf d state)
+
 pub change-cost : (d : Device) (started stopped state : ℕ) {l a b r : Ledger} {x y : ℕ} → x ≡ d .startcost .0 * started → y ≡ d .stopcost .0 * stopped → x ≤ costMost → y ≤ costMost
     → Ledgered a (l .credit .0) (l .debit .0 + x) → Ledgered b (a .credit .0) (a .debit .0 + y) → Entered b r (negℤ (costOf d state)) stateMost
-    → Entered l r (negℤ (pos (d .startcost .0 * started) +ℤ pos (d .stopcost .0 * stopped) +ℤ costOf d state)) changeMost
+    → Entered l r (changesOf d started stopped state) changeMost
 change-cost d started stopped state {x = x} {y = y} e f s u h k j =
     entered-as (entered-then (entered-then (spent h) (spent k)) j) (rw (e, f) (both (pos (d .startcost .0 * started)) (pos (d .stopcost .0 * stopped)) (costOf d state))) (omega arith)
   where
     both : (x y z : ℤ) → negℤ x +ℤ negℤ y +ℤ negℤ z ≡ negℤ (x +ℤ y +ℤ z)
     both x y z = sym (L.neg-add (x +ℤ y) z ∙ ap (λ (w : ℤ). w +ℤ negℤ z) (L.neg-add x y))
 
-pub eight-cost : (minutes : ℕ) (b : ReservePrices) (a : Reserves) {x y z : ℕ} → x ≡ minutes * firstFour b a → y ≡ minutes * lastFour b a → z ≡ x + y → z ≡ minutes * eightCost b a
-eight-cost minutes b a e f g = rw (g, e, f) (omega arith)
+pub eight-rate : (b : ReservePrices) (a : Reserves) (most : ℕ) {x y z : ℕ} → Amounts (firstFour b a) most x → Amounts (lastFour b a) most y → z ≡ x + y → Amounts (eightCost b a) (2 * most) z
+eight-rate b a most e f g = (omega (arith, g, e .0, f .0), omega (arith, g, e .1, f .1))

@@ -9,7 +9,7 @@ use native.Mathlib.Nat.{mul-zero}
 use lib.Dec.{eqb}
 use lib.ListN.{getD}
 use lib.IntN.{ℤ, pos, negℤ, _+ℤ_, _-ℤ_, _*ℤ_}
-use Rattle.numbers.specs.Z.{nat, _⊕_, _⊝_, by≡}
+use Rattle.numbers.specs.Z.{at, nat, _⊕_, _⊝_, neg, by≡}
 use Rattle.numbers.specs.Laws as L
 use Rattle.numbers.specs.Sum.{sumℤ, sumℕ}
 use Rattle.units.specs.declared.Ledger.{Ledger}
@@ -34,7 +34,7 @@ use Rattle.choices.specs.Choices.{cost-is}
 use Rattle.money.specs.Bounds.{tradeMost, onMost, changeMost, reservesMost, cellMost}
 use Rattle.money.specs.Entries.{Entered, entered-then, entered-as}
 use Rattle.money.specs.Worth.{valueOf, tradeOf}
-use Rattle.money.specs.Costs.{eightCost}
+use Rattle.money.specs.Costs.{changesOf, eightCost}
 use Rattle.money.specs.Ruled as Ruled
 use Rattle.money.specs.Ruled.{Ruled}
 
@@ -115,7 +115,7 @@ module _ {d : Device} {cell : Cell} {s : Setting} {p minutes : ℕ} {x : Choice}
       (ap₂ (λ (a b : ℕ). a * b) (sym (ap (λ (y : M.DevicePrices). y .onCost) (Cells.prices-of (w .place))))
       (ap (λ (y : Setting). y .on) (w .setting-is) ∙ Cells.on-is (w .place) t (w .place .interval)))
 
-  change-is : negℤ (pos (d .startcost .0 * x .started) +ℤ pos (d .stopcost .0 * x .stopped) +ℤ costOf d (x .state)) ≡ negℤ (changeCost c plan (our c plan) t i)
+  change-is : changesOf d (x .started) (x .stopped) (x .state) ≡ negℤ (changeCost c plan (our c plan) t i)
   unfolding changeCost devicePricesIn whole ours
   change-is = ap negℤ (ap₂ (λ (y z : ℤ). y +ℤ z)
       (ap₂ (λ (y z : ℕ). pos y +ℤ pos z)
@@ -138,24 +138,28 @@ module _ {d : Device} {cell : Cell} {s : Setting} {p minutes : ℕ} {x : Choice}
 
 -- ---- all four
 
-four-entries : {l a b e r : Ledger} (c : Case) (p : Plan) (t i : ℕ) → Entered l a (blockWorth c p (our c p) t i) tradeMost → Entered a b (negℤ (onCost c p (our c p) t i)) onMost
-    → Entered b e (negℤ (changeCost c p (our c p) t i)) changeMost → Entered e r (negℤ (reservesCost c p (our c p) t i)) reservesMost → Entered l r (cellBalance c p t i) cellMost
+four-entries : {l a b e r : Ledger} (c : Case) (p : Plan) (t i : ℕ) → Entered l a (negℤ (reservesCost c p (our c p) t i)) reservesMost → Entered a b (blockWorth c p (our c p) t i) tradeMost
+    → Entered b e (negℤ (onCost c p (our c p) t i)) onMost → Entered e r (negℤ (changeCost c p (our c p) t i)) changeMost → Entered l r (cellBalance c p t i) cellMost
 unfolding cellBalance
-four-entries c p t i f g h j = entered-as (entered-then (entered-then (entered-then f g) h) j) refl (omega arith)
+four-entries c p t i f g h j =
+    entered-as (entered-then (entered-then (entered-then f g) h) j) (turn (blockWorth c p (our c p) t i) (onCost c p (our c p) t i) (changeCost c p (our c p) t i) (reservesCost c p (our c p) t i)) (omega arith)
+  where
+    turn : (w o k v : ℤ) → negℤ v +ℤ w +ℤ negℤ o +ℤ negℤ k ≡ w -ℤ o -ℤ k -ℤ v
+    turn w o k v = by≡ (neg (at v) ⊕ at w ⊕ neg (at o) ⊕ neg (at k)) (at w ⊝ at o ⊝ at k ⊝ at v) (omega arith)
 
 -- the code's answer
 pub record CellEntered (d : Device) (cell : Cell) (s : Setting) (p minutes : ℕ) (x : Choice) (l r : Ledger) : Type 0 where
   pub is : (w : Ruled d cell s p minutes x) → Entered l r (cellBalance (Ruled.case w) (Ruled.plan w) (w .t) (w .place .i)) cellMost
 
-pub cell-entered : (d : Device) (cell : Cell) (s : Setting) (p minutes : ℕ) (x : Choice) {l a b e r : Ledger}
-    → Entered l a (tradeOf (eqb (d .side) 1) minutes (valueOf (x .blocks) (cell .prices)) p) tradeMost
-    → Entered a b (negℤ (pos (minutes * (d .oncost * s .on)))) onMost
-    → Entered b e (negℤ (pos (d .startcost .0 * x .started) +ℤ pos (d .stopcost .0 * x .stopped) +ℤ costOf d (x .state))) changeMost
-    → Entered e r (negℤ (pos (minutes * eightCost (cell .reserves) (s .reserves)))) reservesMost → CellEntered d cell s p minutes x l r
-cell-entered d cell s p minutes x f g j k = record {
+pub cell-entered : (d : Device) (cell : Cell) (s : Setting) (p minutes : ℕ) (x : Choice) {side rate : ℕ} {l a b e r : Ledger} → side ≡ d .side → rate ≡ d .oncost
+    → Entered l a (negℤ (pos (minutes * eightCost (cell .reserves) (s .reserves)))) reservesMost
+    → Entered a b (tradeOf (eqb side 1) minutes (valueOf (x .blocks) (cell .prices)) p) tradeMost
+    → Entered b e (negℤ (pos (minutes * (rate * s .on)))) onMost
+    → Entered e r (changesOf d (x .started) (x .stopped) (x .state)) changeMost → CellEntered d cell s p minutes x l r
+cell-entered d cell s p minutes x es er k f g j = record {
   is = λ w. four-entries (Ruled.case w) (Ruled.plan w) (w .t) (w .place .i)
-      (entered-as f (trade-is w) (omega arith))
-      (entered-as g (on-is w) (omega arith))
-      (entered-as j (change-is w) (omega arith))
-      (entered-as k (reserves-is w) (omega arith));
+      (entered-as k (reserves-is w) (omega arith))
+      (entered-as f (ap (λ (n : ℕ). tradeOf (eqb n 1) minutes (valueOf (x .blocks) (cell .prices)) p) es ∙ trade-is w) (omega arith))
+      (entered-as g (ap (λ (n : ℕ). negℤ (pos (minutes * (n * s .on)))) er ∙ on-is w) (omega arith))
+      (entered-as j (change-is w) (omega arith));
 }

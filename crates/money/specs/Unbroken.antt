@@ -1,15 +1,13 @@
 -- A decoded case and a plan that breaks no rule.
 use mathlib.Core.Path.{sym, _∙_}
-use mathlib.Core.List.{List, [], _∷_, _++_}
-use Prim.Native.Nat.{ℕ, zero, suc, _≤_, _<_}
+use mathlib.Core.List.{List}
+use Prim.Native.Nat.{ℕ, _≤_}
 use native.Mathlib.Omega.{arith}
 use lib.ListN.{length}
-use Rattle.numbers.specs.Sum.{All}
 use Rattle.model.specs.Forced as F
 use Rattle.model.specs.Rules.{EveryRule}
 use Rattle.ranges.specs.Ranges.{SystemRange, PlanRange, SettingRange}
-use Rattle.ranges.specs.Views.{rows}
-use Rattle.ranges.specs.Viewed.{rows-long}
+use Rattle.numbers.specs.Rows.{rows-long, all-rows}
 use Rattle.records.specs.declared.Front.{Front}
 use Rattle.records.specs.Views.{mostDevices, mostIntervals, systemIn, planIn, Ready}
 use Rattle.records.specs.Viewed as Viewed
@@ -18,16 +16,6 @@ use Rattle.records.specs.Ranged as Ranged
 pub record Unbroken (front : Front) (halves : List ℕ) (zones minima devices cells settings : List (List ℕ)) (starts powers : List ℕ) : Type 0 where
   pub ready : Ready front halves zones minima devices cells settings starts powers
   pub rules : EveryRule (systemIn halves zones minima devices cells) (planIn (length devices) (length halves) settings)
-
--- for records: a decoded plan is within its ranges
-all-join : {A : Type 0} (P : A → Type 0) (xs ys : List A) → All P xs → All P ys → All P (xs ++ ys)
-all-join P [] ys a b = b
-all-join P (x ∷ xs) ys a b = (a .0, all-join P xs ys (a .1) b)
-
-all-rows : {A : Type 0} (P : A → Type 0) (f : ℕ → A) (n : ℕ) → ((k : ℕ) → k < n → P (f k)) → All P (rows f n)
-unfolding rows
-all-rows P f zero h = tt
-all-rows P f (suc n) h = all-join P (rows f n) (f n ∷ []) (all-rows P f n (λ k l. h k (omega arith))) (h n (omega arith), tt)
 
 module _ {front : Front} {halves : List ℕ} {zones minima devices cells settings : List (List ℕ)} {starts powers : List ℕ}
     (r : Ready front halves zones minima devices cells settings starts powers) where

@@ -1,5 +1,5 @@
 -- Blocks' worth with prices kept from 0: Σ kept·power and offset·p, each without a sign.
-use mathlib.Core.Path.{_≡_, refl, sym, _∙_}
+use mathlib.Core.Path.{_≡_, refl, sym, ap, _∙_}
 use mathlib.Core.Logic.{_⊎_, inl, inr}
 use mathlib.Core.Bool.{Bool, true, false}
 use mathlib.Core.List.{List}
@@ -15,7 +15,7 @@ use Rattle.units.specs.declared.Ledger.{Ledger}
 use Rattle.units.specs.Units.{Ledgered}
 use Rattle.model.specs.Completion.{bySide}
 use Rattle.records.specs.Views.{priceOffset, numberOf}
-use Rattle.money.specs.Bounds.{powerMost, minutesMost, keptMost, valueMost, blocksMost, tradeMost}
+use Rattle.money.specs.Bounds.{powerMost, minutesMost, keptMost, worthMost, valueMost, blocksMost, tradeMost}
 use Rattle.money.specs.Entries.{Entered, entered-then, entered-as, earned, spent}
 
 -- one block: it is empty or its price is known
@@ -31,34 +31,26 @@ pub record FourPriced (powers : List Kw) (kept : List ℕ) : Type 0 where
 abbrev pub valueOf : List Kw → List ℕ → ℕ
 valueOf powers kept = getD kept 0 0 * numberOf powers 0 + getD kept 1 0 * numberOf powers 1 + getD kept 2 0 * numberOf powers 2 + getD kept 3 0 * numberOf powers 3
 
-pub price-known : {power kept : ℕ} → Priced power kept → (power ≡ 0 → ⊥) → kept ≤ keptMost
-price-known (inl z) n = absurd (n z)
-price-known (inr h) n = h
+-- an amount: what it is, and its size
+abbrev pub Amounts : ℕ → ℕ → ℕ → Type 0
+Amounts is most r = (r ≡ is) × (r ≤ most)
 
--- the size of a price times an energy
-pub value-small : (power minutes kept : ℕ) {a r : ℕ} → power ≤ powerMost → minutes ≤ minutesMost → kept ≤ keptMost → a ≡ power * minutes → r ≡ a * kept
-    → (a ≤ powerMost * minutesMost) × (r ≤ valueMost)
-value-small power minutes kept {a} {r} h i j e f =
-    let k : a ≤ powerMost * minutesMost = omega (arith, mul-le-mul h i) in
-    (k, omega (arith, mul-le-mul k j))
+pub worth-small : (power kept : ℕ) → power ≤ powerMost → Priced power kept → kept * power ≤ worthMost
+worth-small power kept h (inl z) = rw (z, mul-zero kept) (omega arith)
+worth-small power kept h (inr l) = mul-le-mul l h
 
-pub empty-value : (minutes kept power : ℕ) → power ≡ 0 → 0 ≡ minutes * (kept * power)
-empty-value minutes kept power e = rw (e, mul-zero kept) (sym (mul-zero minutes))
+-- four of them added
+pub four-rates : (most a b c d : ℕ) {v w x y r s z : ℕ} → Amounts a most v → Amounts b most w → Amounts c most x → Amounts d most y
+    → r ≡ v + w → s ≡ r + x → z ≡ s + y → Amounts (a + b + c + d) (4 * most) z
+four-rates most a b c d f g h j k l m = (omega (arith, f .0, g .0, h .0, j .0), omega (arith, f .1, g .1, h .1, j .1))
 
-pub block-value : (minutes kept power : ℕ) {a r : ℕ} → a ≡ power * minutes → r ≡ a * kept → r ≡ minutes * (kept * power)
-block-value minutes kept power e f = rw (f, e) (omega arith)
+-- a rate over an interval's minutes
+pub over-most : (minutes rate most : ℕ) {v r : ℕ} → minutes ≤ minutesMost → Amounts rate most v → r ≡ minutes * v → Amounts (minutes * rate) (minutesMost * most) r
+over-most minutes rate most {v} {r} h a e = (e ∙ ap (λ (n : ℕ). minutes * n) (a .0), omega (arith, mul-le-mul h (a .1)))
 
 -- an amount of money over some minutes: what it is, and its size
 abbrev pub Comes : ℕ → ℕ → ℕ → ℕ → Type 0
 Comes minutes rate most r = (r ≡ minutes * rate) × (r ≤ most)
-
--- four of them added
-pub four-added : (minutes most a b c d : ℕ) {v w x y r s z : ℕ} → Comes minutes a most v → Comes minutes b most w → Comes minutes c most x → Comes minutes d most y
-    → r ≡ v + w → s ≡ r + x → z ≡ s + y → Comes minutes (a + b + c + d) (4 * most) z
-four-added minutes most a b c d {v} {w} {x} {y} {r} {s} {z} f g h j k l m = (e ∙ rw (f .0, g .0, h .0, j .0) (omega arith), omega (arith, f .1, g .1, h .1, j .1))
-  where
-    e : z ≡ v + w + x + y
-    e = omega arith
 
 -- worth of the blocks over an interval: earned by a consuming device, paid by a producing one
 abbrev pub tradeOf : Bool → ℕ → ℕ → ℕ → ℤ

@@ -1,27 +1,35 @@
 // The money of a day's completion, entered in a ledger: what a device brings in an interval; what shortfalls, mismatches and overruns cost.
 use choices::Choice;
 use records::Cell;
-use records::Device;
+use records::DeviceRow;
 use records::ReservePrices;
 use records::Reserves;
 use records::Setting;
 use records::Zone;
+use records::oncost_at;
+use records::side_at;
+use records::startcost_at;
+use records::state_at;
+use records::stopcost_at;
 use units::Grains;
 use units::Kw;
 use units::KwMin;
 use units::Ledger;
+use units::Rate;
 use units::Watts;
 use units::cost_over;
 ghost use mathlib.Core.Path.{_≡_};
-ghost use Prim.Native.Nat.{_+_, _*_, _≤_};
-ghost use lib.IntN.{pos, negℤ, _+ℤ_};
+ghost use Prim.Native.Nat.{_+_, _*_, _≤_, _<_};
+ghost use lib.IntN.{pos, negℤ};
 ghost use lib.Dec.{eqb};
+ghost use lib.ListN.{length};
+ghost use Rattle.records.specs.Figures.{deviceAt};
 ghost use Rattle.choices.specs.States.{costOf};
-ghost use Rattle.money.specs.Bounds.{powerMost, minutesMost, rateMost, shortPriceMost, shortfallMost, blocksMost};
-ghost use Rattle.money.specs.Bounds.{valueMost, tradeMost, onMost, stateMost, changeMost, fourMost, reservesMost, cellMost, shortMost, zoneMost};
+ghost use Rattle.money.specs.Bounds.{powerMost, minutesMost, rateMost, shortPriceMost, shortfallMost, blocksMost, worthMost};
+ghost use Rattle.money.specs.Bounds.{tradeMost, onMost, stateMost, changeMost, reservesMost, cellMost, shortMost, zoneMost};
 ghost use Rattle.money.specs.Entries.{Entered, Room};
-ghost use Rattle.money.specs.Worth.{Priced, FourPriced, valueOf, tradeOf};
-ghost use Rattle.money.specs.Costs.{CostsBelow, StateBelow, AmountsBelow, PricesBelow, firstFour, lastFour, eightCost};
+ghost use Rattle.money.specs.Worth.{Amounts, Priced, FourPriced, valueOf, tradeOf};
+ghost use Rattle.money.specs.Costs.{CostsBelow, StateBelow, changesOf, AmountsBelow, PricesBelow, firstFour, lastFour, eightCost};
 ghost use Rattle.money.specs.Ruled.{Ruled};
 ghost use Rattle.money.specs.Terms.{CellEntered};
 ghost use Rattle.money.specs.Charges.{SixSmall, sixCost, ZoneOf, ZoneEntered, IntervalOf, MismatchEntered, OverrunOf, OverrunEntered};
@@ -32,25 +40,22 @@ const PRICE_OFFSET: u32 = 10_000;
 // State costs are kept from 0, the cost and this.
 const COST_OFFSET: u64 = 1_000_000_000;
 
-// A power over some minutes at a price; nothing is worth 0 whatever its price.
-fn power_value(p: Kw, price: u32, minutes: u32) -> Grains
-    requires { ⌜ (p .0 ≤ powerMost) × (minutes ≤ minutesMost) × Priced (p .0) price ⌝ }
-    ensures { λ r. ⌜ (r .0 ≡ minutes * (price * p .0)) × (r .0 ≤ valueMost) ⌝ }
+// What a power is worth each minute at a price; nothing is worth 0 whatever its price.
+fn worth(p: Kw, price: u32) -> Rate
+    requires { ⌜ (p .0 ≤ powerMost) × Priced (p .0) price ⌝ }
+    ensures { λ r. ⌜ Amounts (price * p .0) worthMost (r .0) ⌝ }
 {
-    if p.0 == 0 {
-        return Grains(0);
-    }
-    p.over(minutes).priced(price)
+    p.at(price)
 }
 
-fn blocks_value(powers: [Kw; 4], kept: [u32; 4], minutes: u32) -> Grains
-    requires { ⌜ (minutes ≤ minutesMost) × FourPriced powers kept ⌝ }
-    ensures { λ r. ⌜ (r .0 ≡ minutes * valueOf powers kept) × (r .0 ≤ blocksMost * valueMost) ⌝ }
+fn blocks_worth(powers: [Kw; 4], kept: [u32; 4]) -> Rate
+    requires { ⌜ FourPriced powers kept ⌝ }
+    ensures { λ r. ⌜ Amounts (valueOf powers kept) (blocksMost * worthMost) (r .0) ⌝ }
 {
-    let a = power_value(powers[0], kept[0], minutes);
-    let b = power_value(powers[1], kept[1], minutes);
-    let c = power_value(powers[2], kept[2], minutes);
-    let d = power_value(powers[3], kept[3], minutes);
+    let a = worth(powers[0], kept[0]);
+    let b = worth(powers[1], kept[1]);
+    let c = worth(powers[2], kept[2]);
+    let d = worth(powers[3], kept[3]);
     a.plus(b).plus(c).plus(d)
 }
 
@@ -63,11 +68,11 @@ fn blocks_money(
     kept: [u32; 4],
     minutes: u32,
 ) -> Ledger
-    requires { ⌜ Room 0 l × (p .0 ≤ powerMost) × (minutes ≤ minutesMost) × FourPriced powers kept ⌝ }
+    requires { ⌜ Room reservesMost l × (p .0 ≤ powerMost) × (minutes ≤ minutesMost) × FourPriced powers kept ⌝ }
     ensures { λ r. ⌜ Entered l r (tradeOf (eqb side 1) minutes (valueOf powers kept) (p .0)) tradeMost ⌝ }
 {
-    let offset = power_value(p, PRICE_OFFSET, minutes);
-    let value = blocks_value(powers, kept, minutes);
+    let offset = worth(p, PRICE_OFFSET).over(minutes);
+    let value = blocks_worth(powers, kept).over(minutes);
     if side == 1 {
         l.earn(value).spend(offset)
     } else {
@@ -85,7 +90,7 @@ fn due(cost: Grains, times: u32) -> Grains
 
 // "d·on cost·u"
 fn on_money(l: Ledger, rate: u32, on: u32, minutes: u32) -> Ledger
-    requires { ⌜ Room tradeMost l × (rate ≤ rateMost) × (on ≤ 1) × (minutes ≤ minutesMost) ⌝ }
+    requires { ⌜ Room (reservesMost + tradeMost) l × (rate ≤ rateMost) × (on ≤ 1) × (minutes ≤ minutesMost) ⌝ }
     ensures { λ r. ⌜ Entered l r (negℤ (pos (minutes * (rate * on)))) onMost ⌝ }
 {
     l.spend(due(cost_over(rate, minutes), on))
@@ -98,82 +103,91 @@ fn money_of(x: u32) -> Grains
 }
 
 // A startup state's cost, which is kept from 0.
-fn state_money(l: Ledger, d: Device, state: u32) -> Ledger
-    requires { ⌜ Room cellMost l × (state ≤ 4) × StateBelow d state ⌝ }
-    ensures { λ r. ⌜ Entered l r (negℤ (costOf d state)) stateMost ⌝ }
+fn state_money(l: Ledger, devices: &[DeviceRow], i: usize, state: u32) -> Ledger
+    requires { ⌜ (i < length (now devices)) × Room cellMost l × (state ≤ 4) × StateBelow (deviceAt (now devices) i) state ⌝ }
+    ensures { λ r. ⌜ Entered l r (negℤ (costOf (deviceAt (now (devices .entry)) i) state)) stateMost ⌝ }
 {
     if state == 0 {
         return l;
     }
     let k = (state - 1) as usize;
-    let s = d.states[k];
+    let s = state_at(devices, i, k);
     l.earn(Grains(COST_OFFSET)).spend(money_of(s.cost))
 }
 
 // "start, stop and state costs"
-fn change_money(l: Ledger, d: Device, started: u32, stopped: u32, state: u32) -> Ledger
-    requires { ⌜ Room (tradeMost + onMost) l × CostsBelow d × (started ≤ 1) × (stopped ≤ 1) × (state ≤ 4) × StateBelow d state ⌝ }
-    ensures { λ r. ⌜ Entered l r (negℤ (pos (d .startcost .0 * started) +ℤ pos (d .stopcost .0 * stopped) +ℤ costOf d state)) changeMost ⌝ }
+fn change_money(
+    l: Ledger,
+    devices: &[DeviceRow],
+    i: usize,
+    started: u32,
+    stopped: u32,
+    state: u32,
+) -> Ledger
+    requires { ⌜ (i < length (now devices)) × Room (reservesMost + tradeMost + onMost) l × CostsBelow (deviceAt (now devices) i) × (started ≤ 1) × (stopped ≤ 1) ×
+        (state ≤ 4) × StateBelow (deviceAt (now devices) i) state ⌝ }
+    ensures { λ r. ⌜ Entered l r (changesOf (deviceAt (now (devices .entry)) i) started stopped state) changeMost ⌝ }
 {
-    let start = due(d.startcost, started);
-    let stop = due(d.stopcost, stopped);
+    let start = due(startcost_at(devices, i), started);
+    let stop = due(stopcost_at(devices, i), stopped);
     let m = l.spend(start).spend(stop);
-    state_money(m, d, state)
+    state_money(m, devices, i, state)
 }
 
-fn first_four(a: Reserves, b: ReservePrices, minutes: u32) -> Grains
-    requires { ⌜ (minutes ≤ minutesMost) × AmountsBelow a × PricesBelow b ⌝ }
-    ensures { λ r. ⌜ (r .0 ≡ minutes * firstFour b a) × (r .0 ≤ fourMost) ⌝ }
+fn first_four(a: Reserves, b: ReservePrices) -> Rate
+    requires { ⌜ AmountsBelow a × PricesBelow b ⌝ }
+    ensures { λ r. ⌜ Amounts (firstFour b a) (4 * worthMost) (r .0) ⌝ }
 {
-    let rgu = power_value(a.rgu, b.rgu, minutes);
-    let rgd = power_value(a.rgd, b.rgd, minutes);
-    let scr = power_value(a.scr, b.scr, minutes);
-    let nsc = power_value(a.nsc, b.nsc, minutes);
+    let rgu = worth(a.rgu, b.rgu);
+    let rgd = worth(a.rgd, b.rgd);
+    let scr = worth(a.scr, b.scr);
+    let nsc = worth(a.nsc, b.nsc);
     rgu.plus(rgd).plus(scr).plus(nsc)
 }
 
-fn last_four(a: Reserves, b: ReservePrices, minutes: u32) -> Grains
-    requires { ⌜ (minutes ≤ minutesMost) × AmountsBelow a × PricesBelow b ⌝ }
-    ensures { λ r. ⌜ (r .0 ≡ minutes * lastFour b a) × (r .0 ≤ fourMost) ⌝ }
+fn last_four(a: Reserves, b: ReservePrices) -> Rate
+    requires { ⌜ AmountsBelow a × PricesBelow b ⌝ }
+    ensures { λ r. ⌜ Amounts (lastFour b a) (4 * worthMost) (r .0) ⌝ }
 {
-    let rruon = power_value(a.rruon, b.rruon, minutes);
-    let rruoff = power_value(a.rruoff, b.rruoff, minutes);
-    let rrdon = power_value(a.rrdon, b.rrdon, minutes);
-    let rrdoff = power_value(a.rrdoff, b.rrdoff, minutes);
+    let rruon = worth(a.rruon, b.rruon);
+    let rruoff = worth(a.rruoff, b.rruoff);
+    let rrdon = worth(a.rrdon, b.rrdon);
+    let rrdoff = worth(a.rrdoff, b.rrdoff);
     rruon.plus(rruoff).plus(rrdon).plus(rrdoff)
 }
 
 // "d·reserve costs": the amounts a at the prices b.
 fn reserves_money(l: Ledger, a: Reserves, b: ReservePrices, minutes: u32) -> Ledger
-    requires { ⌜ Room (tradeMost + onMost + changeMost) l × (minutes ≤ minutesMost) × AmountsBelow a × PricesBelow b ⌝ }
+    requires { ⌜ Room 0 l × (minutes ≤ minutesMost) × AmountsBelow a × PricesBelow b ⌝ }
     ensures { λ r. ⌜ Entered l r (negℤ (pos (minutes * eightCost b a))) reservesMost ⌝ }
 {
-    let first = first_four(a, b, minutes);
-    let last = last_four(a, b, minutes);
-    l.spend(first.plus(last))
+    let first = first_four(a, b);
+    let last = last_four(a, b);
+    l.spend(first.plus(last).over(minutes))
 }
 
-// What one device brings in one interval of so many minutes: its blocks' worth less its costs.
+// What device i brings in one interval of so many minutes: its blocks' worth less its costs.
 pub fn cell_money(
     l: Ledger,
     x: Choice,
-    d: Device,
+    devices: &[DeviceRow],
+    i: usize,
     cell: Cell,
     setting: Setting,
     p: Kw,
     minutes: u32,
 ) -> Ledger
-    requires { ⌜ Room 0 l × Ruled d cell setting (p .0) minutes x ⌝ }
-    ensures { λ r. ⌜ CellEntered d cell setting (p .0) minutes x l r ⌝ }
+    requires { ⌜ (i < length (now devices)) × Room 0 l × Ruled (deviceAt (now devices) i) cell setting (p .0) minutes x ⌝ }
+    ensures { λ r. ⌜ CellEntered (deviceAt (now (devices .entry)) i) cell setting (p .0) minutes x l r ⌝ }
 {
-    let powers = x.blocks;
-    let kept = cell.prices;
-    let traded = blocks_money(l, d.side, p, powers, kept, minutes);
-    let running = on_money(traded, d.oncost, setting.on, minutes);
-    let changed = change_money(running, d, x.started, x.stopped, x.state);
     let amounts = setting.reserves;
     let prices = cell.reserves;
-    reserves_money(changed, amounts, prices, minutes)
+    let reserved = reserves_money(l, amounts, prices, minutes);
+    let powers = x.blocks;
+    let kept = cell.prices;
+    let traded = blocks_money(reserved, side_at(devices, i), p, powers, kept, minutes);
+    let running = on_money(traded, oncost_at(devices, i), setting.on, minutes);
+    change_money(running, devices, i, x.started, x.stopped, x.state)
 }
 
 // A shortfall over some minutes at its price.

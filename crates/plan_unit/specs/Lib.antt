@@ -1,3 +1,6 @@
+pub mod Decoded
 pub mod Judges
+pub mod Decided
 pub mod Inspection
-pub mod Steps
+pub mod Read
+pub mod Owned

@@ -1,87 +1,197 @@
 // Judging a plan against a case, on bytes. Nothing is required of the caller of `judge`; every judgement ends.
-use checks::Check;
+use breaches::Check;
 use fields::Ending;
 use layouts::Fault;
-use model::CaseRecord;
 use model::Subject;
 use model::Verdict;
+use records::CellRow;
+use records::DeviceRow;
+use records::Front;
+use records::MinimaRow;
+use records::SettingRow;
+use records::ZoneRow;
 ghost use mathlib.Core.Path.{_≡_};
-ghost use Rattle.layouts.specs.Faults.{numberOf, returnedBy};
-ghost use Rattle.model.specs.Judgement.{readCase};
-ghost use Rattle.ranges.specs.Views.{Decoded, Planned};
-ghost use Rattle.completion.specs.Unbroken.{Unbroken};
+ghost use Rattle.model.specs.Editions.{batch};
+ghost use Rattle.model.specs.ByEdition.{statedIn};
+ghost use Rattle.plan_unit.specs.Decoded.{Decoded, Planned, Work};
 ghost use Rattle.plan_unit.specs.Judges.{Judges, JudgesPlan};
-ghost use Rattle.plan_unit.specs.Steps.{Decides};
+ghost use Rattle.plan_unit.specs.Decided.{Decides, Kept};
 ghost use Rattle.plan_unit.specs.Inspection.{inspectedOf};
-
-// Room for the decoded case, the decoded plan and the forced figures.
-fn blank_table() -> [u32; 15792] {
-    [0u32; 15792]
-}
-
-fn blank_plan() -> [u32; 7680] {
-    [0u32; 7680]
-}
-
-fn blank_forced() -> [u32; 817] {
-    [0u32; 817]
-}
 
 // A plan that breaks no rule: its completion is written, or the bytes needed are told.
 fn complete(
-    c: CaseRecord,
-    table: &[u32],
-    plan: &[u32],
-    forced: &[u32],
+    front: Front,
+    halves: &[u32],
+    zones: &[ZoneRow],
+    minima: &[MinimaRow],
+    devices: &[DeviceRow],
+    cells: &[CellRow],
+    settings: &[SettingRow],
+    starts: &[u32],
+    powers: &[u32],
     result: &mut [u8],
 ) -> Verdict
-    requires { ⌜ Unbroken c (now table) (now plan) (now forced) ⌝ }
-    ensures { λ r. ⌜ Decides c (now (table .entry)) (now (plan .entry)) (now (result .entry)) (now (result .exit)) r ⌝ }
+    requires { ⌜ Kept front (now halves) (now zones) (now minima) (now devices) (now cells) (now settings) (now starts) (now powers) ⌝ }
+    ensures { λ r. ⌜ Decides front (now (halves .entry)) (now (zones .entry)) (now (minima .entry)) (now (devices .entry)) (now (cells .entry)) (now (settings .entry)) (now (result .entry)) (now (result .exit)) r ⌝ }
 {
-    let needed = completion::completion_bytes(c);
+    let needed = completions::completion_bytes(front.edition, halves, zones, devices);
     if (result.len() as u64) < needed {
         return Verdict::Refused(Subject::Result, Fault::TooShort(needed));
     }
-    let z = settlement::settle(c, table, plan, forced, result);
+    let z = completions::complete(
+        front,
+        halves,
+        zones,
+        minima,
+        devices,
+        cells,
+        settings,
+        starts,
+        powers,
+        result,
+    );
     Verdict::Accepted(z)
 }
 
 // A decoded plan: the first broken rule, or its completion.
-fn judge_settings(c: CaseRecord, table: &[u32], plan: &[u32], result: &mut [u8]) -> Verdict
-    requires { ⌜ Decoded c (now table) × Planned c (now plan) ⌝ }
-    ensures { λ r. ⌜ Decides c (now (table .entry)) (now (plan .entry)) (now (result .entry)) (now (result .exit)) r ⌝ }
+fn judge_settings(
+    front: Front,
+    halves: &[u32],
+    zones: &[ZoneRow],
+    minima: &[MinimaRow],
+    devices: &[DeviceRow],
+    cells: &[CellRow],
+    settings: &[SettingRow],
+    starts: &mut [u32],
+    powers: &mut [u32],
+    result: &mut [u8],
+) -> Verdict
+    requires { ⌜ Planned front (now halves) (now zones) (now minima) (now devices) (now cells) (now settings) (now starts) (now powers) ⌝ }
+    ensures { λ r. ⌜ Decides front (now (halves .entry)) (now (zones .entry)) (now (minima .entry)) (now (devices .entry)) (now (cells .entry)) (now (settings .entry)) (now (result .entry)) (now (result .exit)) r ⌝ }
 {
-    let mut forced = blank_forced();
-    forced::force(c, table, plan, &mut forced);
-    match rules::first_breach(c, table, plan, &forced) {
+    powers::force(halves, devices, cells, settings, starts, powers);
+    let first = breaches::first_breach(
+        front,
+        halves,
+        zones,
+        minima,
+        devices,
+        cells,
+        settings,
+        starts,
+        powers,
+    );
+    match first {
         Check::Broken(b) => Verdict::Broken(b),
-        Check::Held => complete(c, table, plan, &forced, result),
+        Check::Held => complete(
+            front,
+            halves,
+            zones,
+            minima,
+            devices,
+            cells,
+            settings,
+            starts,
+            powers,
+            result,
+        ),
     }
 }
 
-// A plan's bytes against a decoded case: for a stack of plans the case is decoded once.
-pub fn judge_plan(c: CaseRecord, table: &[u32], plan: &[u8], result: &mut [u8]) -> Verdict
-    requires { ⌜ Decoded c (now table) ⌝ }
-    ensures { λ r. ⌜ JudgesPlan c (now (table .entry)) (now (plan .entry)) (now (result .entry)) (now (result .exit)) r ⌝ }
+// A plan's bytes against a decoded case, with tables lent to work in: for a stack of plans the case is decoded once.
+pub fn judge_plan(
+    front: Front,
+    halves: &[u32],
+    zones: &[ZoneRow],
+    minima: &[MinimaRow],
+    devices: &[DeviceRow],
+    cells: &[CellRow],
+    plan: &[u8],
+    settings: &mut [SettingRow],
+    starts: &mut [u32],
+    powers: &mut [u32],
+    result: &mut [u8],
+) -> Verdict
+    requires { ⌜ Decoded front (now halves) (now zones) (now minima) (now devices) (now cells) × Work (now halves) (now devices) (now settings) (now starts) (now powers) ⌝ }
+    ensures { λ r. ⌜ JudgesPlan front (now (halves .entry)) (now (zones .entry)) (now (minima .entry)) (now (devices .entry)) (now (cells .entry)) (now (plan .entry)) (now (result .entry)) (now (result .exit)) r ⌝ }
 {
-    let mut settings = blank_plan();
-    match plans::read_plan(plan, c.ndevices, c.nintervals, &mut settings) {
+    let n = devices.len();
+    let m = halves.len();
+    match plan_reader::read_plan(plan, front.edition, n, m, settings) {
         Ending::Fails(f) => Verdict::Refused(Subject::Plan, f),
-        Ending::Passes => judge_settings(c, table, &settings, result),
+        Ending::Passes => judge_settings(
+            front,
+            halves,
+            zones,
+            minima,
+            devices,
+            cells,
+            settings,
+            starts,
+            powers,
+            result,
+        ),
     }
 }
+
+// The largest counts that this owner's tables hold.
+const DEVICES: u32 = 16;
+
+const INTERVALS: u32 = 48;
 
 // A plan's bytes against a case's bytes.
 pub fn judge(case: &[u8], plan: &[u8], result: &mut [u8]) -> Verdict
-    ensures { λ r. ⌜ Judges (now (case .entry)) (now (plan .entry)) (now (result .entry)) (now (result .exit)) r ⌝ }
+    ensures { λ r. ⌜ Judges batch (now (case .entry)) (now (plan .entry)) (now (result .entry)) (now (result .exit)) r ⌝ }
 {
-    let mut table = blank_table();
-    let read = cases::read_case(case, &mut table);
+    let mut halves = [0u32; 48];
+    let zone = records::blank_zone();
+    let mut zones = [zone; 4];
+    let least = records::blank_minima();
+    let mut minima = [least; 192];
+    let device = records::blank_device();
+    let mut devices = [device; 16];
+    let cell = records::blank_cell();
+    let mut cells = [cell; 768];
+    let read = case_reader::read_case(
+        case,
+        DEVICES,
+        INTERVALS,
+        &mut halves,
+        &mut zones,
+        &mut minima,
+        &mut devices,
+        &mut cells,
+    );
     let ending = read.ending;
-    let c = read.record;
+    let front = read.front;
+    let counts = read.counts;
+    let n = counts.devices;
+    let m = counts.intervals;
+    let z = counts.zones;
     match ending {
         Ending::Fails(f) => Verdict::Refused(Subject::Case, f),
-        Ending::Passes => judge_plan(c, &table, plan, result),
+        Ending::Passes => {
+            let setting = records::blank_setting();
+            let mut settings = [setting; 768];
+            let mut starts = [0u32; 49];
+            let mut powers = [0u32; 768];
+            let k = n * m;
+            let j = z * m;
+            let e = m + 1;
+            judge_plan(
+                front,
+                &halves[..m],
+                &zones[..z],
+                &minima[..j],
+                &devices[..n],
+                &cells[..k],
+                plan,
+                &mut settings[..k],
+                &mut starts[..e],
+                &mut powers[..k],
+                result,
+            )
+        }
     }
 }
 
@@ -93,46 +203,34 @@ pub enum Inspected {
 
 // What the batch program prints for message 0.
 pub fn inspect(case: &[u8]) -> Inspected
-    ensures { λ r. ⌜ r ≡ inspectedOf (readCase (now (case .entry))) ⌝ }
+    ensures { λ r. ⌜ r ≡ inspectedOf (statedIn batch (now (case .entry))) ⌝ }
 {
-    let mut table = blank_table();
-    let read = cases::read_case(case, &mut table);
+    let mut halves = [0u32; 48];
+    let zone = records::blank_zone();
+    let mut zones = [zone; 4];
+    let least = records::blank_minima();
+    let mut minima = [least; 192];
+    let device = records::blank_device();
+    let mut devices = [device; 16];
+    let cell = records::blank_cell();
+    let mut cells = [cell; 768];
+    let read = case_reader::read_case(
+        case,
+        DEVICES,
+        INTERVALS,
+        &mut halves,
+        &mut zones,
+        &mut minima,
+        &mut devices,
+        &mut cells,
+    );
     let ending = read.ending;
-    let c = read.record;
+    let counts = read.counts;
+    let n = counts.devices;
+    let m = counts.intervals;
+    let z = counts.zones;
     match ending {
         Ending::Fails(f) => Inspected::Refused(f),
-        Ending::Passes => {
-            Inspected::Counts(c.ndevices as u64, c.nintervals as u64, c.nzones as u64)
-        }
-    }
-}
-
-// A fault's number.
-pub fn number_of(f: Fault) -> u64
-    ensures { λ r. ⌜ r ≡ numberOf f ⌝ }
-{
-    match f {
-        Fault::Cut(_) => 1,
-        Fault::WrongKind(_) => 2,
-        Fault::WrongCount(_) => 3,
-        Fault::OutOfRange(_) => 4,
-        Fault::Contradiction(_) => 5,
-        Fault::Tail(_) => 6,
-        Fault::TooShort(_) => 7,
-    }
-}
-
-// A fault's bit or count of bytes.
-pub fn returned_by(f: Fault) -> u64
-    ensures { λ r. ⌜ r ≡ returnedBy f ⌝ }
-{
-    match f {
-        Fault::Cut(b) => b,
-        Fault::WrongKind(b) => b,
-        Fault::WrongCount(b) => b,
-        Fault::OutOfRange(b) => b,
-        Fault::Contradiction(b) => b,
-        Fault::Tail(b) => b,
-        Fault::TooShort(n) => n,
+        Ending::Passes => Inspected::Counts(n as u64, m as u64, z as u64),
     }
 }

@@ -1,3 +1,2 @@
 pub mod Ranges
-pub mod Views
-pub mod Viewed
+pub mod Kept

@@ -14,7 +14,7 @@ use Rattle.model.specs.Messages.{edition1}
 use Rattle.model.specs.ByEdition as B
 use Rattle.model.specs.ByEdition.{Stated, statedIn, plannedIn}
 use Rattle.model.specs.AsBefore.{first, first-as, plan-as}
-use Rattle.model.specs.Judgement.{readCase, readPlan}
+use Rattle.model.specs.Before.{readCase, readPlan}
 use Rattle.layouts.specs.As.{as-checked}
 use Rattle.layouts.specs.Checked.{Checked, nat-checked, int-checked, list-checked, such-checked, held-checked, then-checked, whole-checked, weaken}
 

@@ -1,8 +1,9 @@
 -- The figures of a row, by name: the one place in the proofs that knows where a figure stands.
-use mathlib.Core.Path.{_≡_}
+use mathlib.Core.Path.{_≡_, refl}
 use mathlib.Core.Bool.{Bool}
 use mathlib.Core.List.{List, [], _∷_}
-use Prim.Native.Nat.{ℕ, _+_, _-_, _*_, _/_, _%_, _^_, _<_}
+use Prim.Native.Nat.{ℕ, zero, suc, _+_, _-_, _*_, _/_, _%_, _^_, _<_}
+use native.Mathlib.Omega.{arith}
 use lib.Dec.{eqb, ltb}
 use lib.ListN.{getD}
 use Rattle.bits.specs.Pick.{pick}
@@ -225,11 +226,56 @@ onlineAt settings k = settingOf (getD settings k []) .online .0
 abbrev pub pminAt : List (List ℕ) → ℕ → ℕ
 pminAt cells k = cellOf (getD cells k []) .pmin .0
 
+abbrev pub deviceAt : List (List ℕ) → ℕ → Device
+deviceAt devices i = deviceOf (getD devices i [])
+
 abbrev pub sideAt : List (List ℕ) → ℕ → ℕ
 sideAt devices i = deviceOf (getD devices i []) .side
 
 abbrev pub zonebitsAt : List (List ℕ) → ℕ → ℕ
 zonebitsAt devices i = deviceOf (getD devices i []) .zonebits
+
+abbrev pub on0At : List (List ℕ) → ℕ → ℕ
+on0At devices i = deviceAt devices i .on0
+
+abbrev pub minutes0At : List (List ℕ) → ℕ → ℕ
+minutes0At devices i = deviceAt devices i .minutes0
+
+abbrev pub oncostAt : List (List ℕ) → ℕ → ℕ
+oncostAt devices i = deviceAt devices i .oncost
+
+abbrev pub startcostAt : List (List ℕ) → ℕ → Grains
+startcostAt devices i = deviceAt devices i .startcost
+
+abbrev pub stopcostAt : List (List ℕ) → ℕ → Grains
+stopcostAt devices i = deviceAt devices i .stopcost
+
+-- its startup states and energy windows: how many, and number k
+abbrev pub statesAt : List (List ℕ) → ℕ → ℕ
+statesAt devices i = deviceAt devices i .nstates
+
+abbrev pub stateAt : List (List ℕ) → ℕ → ℕ → State
+stateAt devices i k = getD (deviceAt devices i .states) k noState
+
+abbrev pub energiesAt : List (List ℕ) → ℕ → ℕ
+energiesAt devices i = deviceAt devices i .nenergies
+
+abbrev pub energyAt : List (List ℕ) → ℕ → ℕ → EnergyWindow
+energyAt devices i k = getD (deviceAt devices i .energies) k noEnergy
+
+pub state-of : (r : List ℕ) (k : ℕ) → k < 4 → stateOf r k ≡ getD (statesOf r) k noState
+state-of r zero h = refl
+state-of r (suc zero) h = refl
+state-of r (suc (suc zero)) h = refl
+state-of r (suc (suc (suc zero))) h = refl
+state-of r (suc (suc (suc (suc k)))) h = absurd (omega arith)
+
+pub energy-of : (r : List ℕ) (k : ℕ) → k < 4 → energyOf r k ≡ getD (energiesOf r) k noEnergy
+energy-of r zero h = refl
+energy-of r (suc zero) h = refl
+energy-of r (suc (suc zero)) h = refl
+energy-of r (suc (suc (suc zero))) h = refl
+energy-of r (suc (suc (suc (suc k)))) h = absurd (omega arith)
 
 -- u of the interval before; "before interval 1 the initial state stands"
 abbrev pub onBefore : ℕ → List (List ℕ) → ℕ → ℕ

@@ -4,3 +4,5 @@ pub mod Sums
 pub mod Views
 pub mod Viewed
 pub mod Ranged
+pub mod Stored
+pub mod Kept

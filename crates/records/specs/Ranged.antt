@@ -20,7 +20,7 @@ use Rattle.model.specs.Forced as F
 use Rattle.model.specs.Completion as C
 use Rattle.ranges.specs.Ranges.{CaseRange, DeviceRange, DevicePriceRange, CellRange, CellPriceRange, SettingRange, ZoneRange, SharesRange, MinimaRange, SixRange, Eight}
 use Rattle.numbers.specs.Every.{all-at, all-or, all-getD}
-use Rattle.ranges.specs.Viewed.{getD-map}
+use Rattle.numbers.specs.Rows.{getD-map}
 use Rattle.units.specs.declared.Kw.{Kw}
 use Rattle.units.specs.Units.{kw}
 use Rattle.records.specs.declared.State.{State}

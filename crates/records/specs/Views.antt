@@ -9,7 +9,7 @@ use Rattle.model.specs.Case as M
 use Rattle.model.specs.Case.{System, Prices, Case, Plan}
 use Rattle.model.specs.Forced.{startOf, power}
 use Rattle.ranges.specs.Ranges.{CaseRange, SettingRange}
-use Rattle.ranges.specs.Views.{rows}
+use Rattle.numbers.specs.Rows.{rows}
 use Rattle.units.specs.declared.Kw.{Kw}
 use Rattle.records.specs.declared.Reserves.{Reserves}
 use Rattle.records.specs.declared.ReservePrices.{ReservePrices}
@@ -20,18 +20,16 @@ use Rattle.records.specs.declared.Device.{Device}
 use Rattle.records.specs.declared.Front.{Front}
 use Rattle.records.specs.Figures.{cellOf, settingOf, deviceOf, zoneOf, minimaOf}
 use Rattle.records.specs.Parts.{part}
-
 -- ---- the model's figures, by the records' names
 
--- a figure kept from 0: what is kept less the offset
+pub use Rattle.ranges.specs.Kept.{less}
+
+-- the offsets of figures kept from 0
 abbrev pub priceOffset : ℕ
 priceOffset = 10000
 
 abbrev pub costOffset : ℕ
 costOffset = 1000000000
-
-abbrev pub less : ℕ → ℕ → ℤ
-less offset v = pos v -ℤ pos offset
 
 abbrev pub eightIn : Reserves → M.Reserves
 eightIn r = record { rgu = r .rgu .0; rgd = r .rgd .0; scr = r .scr .0; nsc = r .nsc .0; rruOn = r .rruon .0; rruOff = r .rruoff .0; rrdOn = r .rrdon .0; rrdOff = r .rrdoff .0 }
@@ -50,6 +48,10 @@ cellIn r = record { status = cellOf r .status; pmin = cellOf r .pmin .0; pmax = 
 
 abbrev pub cellPricesIn : List ℕ → M.CellPrices
 cellPricesIn r = record { blocks = map (less priceOffset) (take (cellOf r .blocks) (cellOf r .prices)); reserves = eightPricesIn (cellOf r .reserves) }
+
+-- a cell's quantities beside its prices, as a message has them
+abbrev pub cellPair : List ℕ → M.Cell × M.CellPrices
+cellPair r = (cellIn r, cellPricesIn r)
 
 abbrev pub settingIn : List ℕ → M.Setting
 settingIn r = record { on = settingOf r .on; online = settingOf r .online .0; reserves = eightIn (settingOf r .reserves) }

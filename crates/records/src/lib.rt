@@ -11,6 +11,7 @@ ghost use lib.ListN.{getD, length, set};
 ghost use Rattle.numbers.specs.Base.{bit};
 ghost use Rattle.units.specs.Units.{grains};
 ghost use Rattle.records.specs.Figures.{stateFigures, startFigures, energyFigures, EnergiesSmall, DeviceSmall, cellRow, settingRow, deviceRow, zoneRow, minimaRow, deviceWith, windowOf, statesOf, startsOf, energiesOf, limitsOf, cellOf, settingOf, deviceOf, stateOf, startOf, energyOf, zoneOf, minimaOf, pminAt, onAt, onlineAt, onBefore, startedAt, stoppedAt, sideAt, zonebitsAt};
+ghost use Rattle.records.specs.Figures.{on0At, minutes0At, oncostAt, startcostAt, stopcostAt, statesAt, stateAt, energiesAt, energyAt};
 
 // A device in one interval: status, pmin, pmax, count of blocks, four caps, four prices kept from −10,000, the prices of the eight.
 pub type CellRow = [u32; 20];
@@ -33,6 +34,27 @@ pub type ZoneRow = [u32; 10];
 
 // A zone's minima in one interval: rru, rrd.
 pub type MinimaRow = [u32; 2];
+
+// Rows of zeros, for an owner's tables: what a reader fills.
+pub fn blank_cell() -> CellRow {
+    [0u32; 20]
+}
+
+pub fn blank_setting() -> SettingRow {
+    [0u32; 10]
+}
+
+pub fn blank_device() -> DeviceRow {
+    [0u32; 61]
+}
+
+pub fn blank_zone() -> ZoneRow {
+    [0u32; 10]
+}
+
+pub fn blank_minima() -> MinimaRow {
+    [0u32; 2]
+}
 
 // "The eight, in order": amounts of a plan, limits of a device.
 pub struct Reserves {
@@ -138,6 +160,13 @@ pub struct Front {
     pub edition: u32,
     pub mismatch: u32,
     pub overrun: u32,
+}
+
+// How many of each a case has.
+pub struct Counts {
+    pub devices: usize,
+    pub intervals: usize,
+    pub zones: usize,
 }
 
 fn money_of(x: u32) -> Grains
@@ -368,6 +397,82 @@ pub fn zonebits_at(devices: &[DeviceRow], i: usize) -> u32
     ensures { λ r. ⌜ r ≡ zonebitsAt (now (devices .entry)) i ⌝ }
 {
     devices[i][1]
+}
+
+// Whether it is on before the day, and the minutes already so.
+pub fn on0_at(devices: &[DeviceRow], i: usize) -> u32
+    requires { ⌜ i < length (now devices) ⌝ }
+    ensures { λ r. ⌜ r ≡ on0At (now (devices .entry)) i ⌝ }
+{
+    devices[i][2]
+}
+
+pub fn minutes0_at(devices: &[DeviceRow], i: usize) -> u32
+    requires { ⌜ i < length (now devices) ⌝ }
+    ensures { λ r. ⌜ r ≡ minutes0At (now (devices .entry)) i ⌝ }
+{
+    devices[i][4]
+}
+
+pub fn oncost_at(devices: &[DeviceRow], i: usize) -> u32
+    requires { ⌜ i < length (now devices) ⌝ }
+    ensures { λ r. ⌜ r ≡ oncostAt (now (devices .entry)) i ⌝ }
+{
+    devices[i][11]
+}
+
+pub fn startcost_at(devices: &[DeviceRow], i: usize) -> Grains
+    requires { ⌜ i < length (now devices) ⌝ }
+    ensures { λ r. ⌜ r ≡ startcostAt (now (devices .entry)) i ⌝ }
+{
+    money_of(devices[i][12])
+}
+
+pub fn stopcost_at(devices: &[DeviceRow], i: usize) -> Grains
+    requires { ⌜ i < length (now devices) ⌝ }
+    ensures { λ r. ⌜ r ≡ stopcostAt (now (devices .entry)) i ⌝ }
+{
+    money_of(devices[i][13])
+}
+
+// How many startup states it has, and state k.
+pub fn states_at(devices: &[DeviceRow], i: usize) -> usize
+    requires { ⌜ i < length (now devices) ⌝ }
+    ensures { λ r. ⌜ r ≡ statesAt (now (devices .entry)) i ⌝ }
+{
+    counted(devices[i][STATES])
+}
+
+pub fn state_at(devices: &[DeviceRow], i: usize, k: usize) -> State
+    requires { ⌜ (i < length (now devices)) × (k < 4) ⌝ }
+    ensures { λ r. ⌜ r ≡ stateAt (now (devices .entry)) i k ⌝ }
+{
+    let a = STATES + 1 + 2 * k;
+    State {
+        longest: devices[i][a],
+        cost: devices[i][a + 1],
+    }
+}
+
+// How many energy windows it has, and window k.
+pub fn energies_at(devices: &[DeviceRow], i: usize) -> usize
+    requires { ⌜ i < length (now devices) ⌝ }
+    ensures { λ r. ⌜ r ≡ energiesAt (now (devices .entry)) i ⌝ }
+{
+    counted(devices[i][ENERGIES])
+}
+
+pub fn energy_at(devices: &[DeviceRow], i: usize, k: usize) -> EnergyWindow
+    requires { ⌜ (i < length (now devices)) × (k < 4) ⌝ }
+    ensures { λ r. ⌜ r ≡ energyAt (now (devices .entry)) i k ⌝ }
+{
+    let a = ENERGIES + 1 + 4 * k;
+    energy_window(
+        devices[i][a],
+        devices[i][a + 1],
+        devices[i][a + 2],
+        devices[i][a + 3],
+    )
 }
 
 pub fn pmin_at(cells: &[CellRow], k: usize) -> Kw

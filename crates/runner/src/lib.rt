@@ -4,12 +4,20 @@ use libc::EINTR;
 use libc::STDERR_FILENO;
 use libc::STDIN_FILENO;
 use libc::STDOUT_FILENO;
-use model::CaseRecord;
+use records::CellRow;
+use records::Counts;
+use records::DeviceRow;
+use records::Front;
+use records::MinimaRow;
+use records::SettingRow;
+use records::ZoneRow;
 ghost use mathlib.Core.Path.{_≡_};
 ghost use mathlib.Core.Bool.{true};
 ghost use Prim.Native.Nat.{_≤_, _<_};
 ghost use lib.ListN.{length};
-ghost use Rattle.ranges.specs.Views.{Decoded};
+ghost use Rattle.model.specs.Editions.{batch};
+ghost use Rattle.case_reader.specs.Whole.{CaseRoom};
+ghost use Rattle.plan_unit.specs.Decoded.{Decoded, DecodedFirst, Work};
 ghost use Rattle.answers.specs.Frames.{frameRoom};
 ghost use Rattle.answers.specs.Room.{resultRoom};
 
@@ -22,17 +30,11 @@ fn least(a: u64, b: u64) -> u64
     if a < b { a } else { b }
 }
 
-// Room for a frame, a decoded case and the longest completion.
+// Room for a frame and the longest completion.
 pub fn frame_buffer() -> [u8; 65539]
     ensures { λ r. ⌜ length r ≡ frameRoom ⌝ }
 {
     [0u8; 65539]
-}
-
-pub fn table_buffer() -> [u32; 15792]
-    ensures { λ r. ⌜ length r ≡ 15792 ⌝ }
-{
-    [0u32; 15792]
 }
 
 pub fn result_buffer() -> [u8; 12288]
@@ -130,26 +132,49 @@ fn told(got: Got) -> usize
     0
 }
 
-// A batch that has begun: its case, whether plans may follow, and how many of its bytes are not read yet.
+// A batch that has begun: the front and counts of its case, whether plans may follow, and how many of its bytes are not read yet.
 pub struct Started {
-    pub case: CaseRecord,
+    pub front: Front,
+    pub counts: Counts,
     pub more: bool,
     pub rest: u64,
 }
 
-// Reads a batch's first frame and tells the answer.
-pub fn start(frame: &mut [u8], table: &mut [u32], left: u64) -> Started
-    requires { ⌜ (length (now frame) ≡ frameRoom) × (length (now table) ≡ 15792) ⌝ }
-    ensures { λ r. ⌜ (r .rest ≤ left) × (r .more ≡ true → Decoded (r .case) (now (table .exit))) ⌝ }
+// Reads a batch's first frame and tells the answer; the case is left in the tables.
+pub fn start(
+    frame: &mut [u8],
+    halves: &mut [u32],
+    zones: &mut [ZoneRow],
+    minima: &mut [MinimaRow],
+    devices: &mut [DeviceRow],
+    cells: &mut [CellRow],
+    left: u64,
+) -> Started
+    requires { ⌜ (length (now frame) ≡ frameRoom) × CaseRoom (batch .devices) (batch .intervals) (now halves) (now zones) (now minima) (now devices) (now cells) ⌝ }
+    ensures { λ r. ⌜ (r .rest ≤ left) × (r .more ≡ true → DecodedFirst (r .front) (r .counts) (now (halves .exit)) (now (zones .exit)) (now (minima .exit)) (now (devices .exit)) (now (cells .exit)) batch) ⌝ }
 {
     let n = told(read_frame(frame, left));
     let mut line = lines::line_buffer();
-    let answer = answers::answer_case(&frame[0..n], table, &mut line);
+    let answer = answers::answer_case(
+        &frame[0..n],
+        halves,
+        zones,
+        minima,
+        devices,
+        cells,
+        &mut line,
+    );
     let bytes = answer.bytes;
-    let case = answer.case;
+    let front = answer.front;
+    let counts = answer.counts;
     let more = tell(&line[..bytes]) && answer.more;
     let rest = left - n as u64;
-    Started { case, more, rest }
+    Started {
+        front,
+        counts,
+        more,
+        rest,
+    }
 }
 
 // A batch that goes on: whether others may follow, whether the result is a completion, and how many bytes are not read yet.
@@ -161,19 +186,41 @@ pub struct Turn {
 
 // Reads a further frame and tells the answer.
 pub fn next(
-    case: CaseRecord,
-    table: &[u32],
+    front: Front,
+    halves: &[u32],
+    zones: &[ZoneRow],
+    minima: &[MinimaRow],
+    devices: &[DeviceRow],
+    cells: &[CellRow],
+    settings: &mut [SettingRow],
+    starts: &mut [u32],
+    powers: &mut [u32],
     frame: &mut [u8],
     result: &mut [u8],
     left: u64,
     index: u64,
 ) -> Turn
-    requires { ⌜ Decoded case (now table) × (length (now frame) ≡ frameRoom) × (resultRoom ≤ length (now result)) ⌝ }
+    requires { ⌜ Decoded front (now halves) (now zones) (now minima) (now devices) (now cells) × Work (now halves) (now devices) (now settings) (now starts) (now powers) ⌝ }
+    requires { ⌜ (length (now devices) ≤ batch .devices) × (length (now halves) ≤ batch .intervals) × (length (now frame) ≡ frameRoom) × (resultRoom ≤ length (now result)) ⌝ }
     ensures { λ r. ⌜ (r .rest ≤ left) × (r .more ≡ true → r .rest < left) ⌝ }
 {
     let n = told(read_frame(frame, left));
     let mut line = lines::line_buffer();
-    let answer = answers::answer_plan(case, table, &frame[0..n], index, result, &mut line);
+    let answer = answers::answer_plan(
+        front,
+        halves,
+        zones,
+        minima,
+        devices,
+        cells,
+        settings,
+        starts,
+        powers,
+        &frame[0..n],
+        index,
+        result,
+        &mut line,
+    );
     let bytes = answer.bytes;
     let more = tell(&line[..bytes]) && answer.more;
     let rest = left - n as u64;

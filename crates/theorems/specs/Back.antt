@@ -5,15 +5,13 @@ use native.Mathlib.Omega.{arith}
 use lib.ListN.{length}
 use lib.IntN.{natAbs}
 use Rattle.numbers.specs.Sum.{All}
-use Rattle.model.specs.Case.{Six, Case, Plan}
+use Rattle.model.specs.Case.{Six}
 use Rattle.layouts.specs.declared.Fault.{Fault}
 use Rattle.layouts.specs.Layout.{Layout, nat, _then_, _▸_, readWhole, passes, bytes, any, countOf}
 use Rattle.model.specs.Editions.{deviceBits, intervalBits}
 use Rattle.model.specs.ByEdition as B
 use Rattle.model.specs.ByEdition.{completionFront, completionKind}
-use Rattle.model.specs.Messages.{Edition, edition1, Counts, six, deviceChoice, intervalChoice, completionLayout, counts, DeviceChoice, IntervalChoice, Written}
-use Rattle.model.specs.Judgement.{written, countsOf, energyWindows, ourSurplus, completionBytes}
-use Rattle.model.specs.Ours.{ours}
+use Rattle.model.specs.Messages.{Counts, six, deviceChoice, intervalChoice, DeviceChoice, IntervalChoice, Written}
 use Rattle.layouts.specs.Trip.{Lawful, nat-law, int-law, then-law, held-law, list-law, weaken, whole-back, Fits}
 
 -- ---- what fits
@@ -108,50 +106,3 @@ completed-law e n windows k =
 pub completed-back : (e : ℕ) (n : Counts) (windows : ℕ) → Countable e n → (r : Written) → FitsWritten n windows r → length (B.completionLayout e n windows .write r) + 8 < 2 ^ 63
     → readWhole (B.completionLayout e n windows) (bytes (B.completionLayout e n windows .write r)) ≡ passes r
 completed-back e n windows k r fits small = whole-back _ _ (completed-law e n windows k) r fits small
-
--- ---- a completion of edition 1, as it was before there were others
-
--- its counts are within the edition's limits
-pub record Limited (e : Edition) (n : Counts) : Type 0 where
-  pub devices : (1 ≤ n .devices) × (n .devices ≤ e .mostDevices)
-  pub intervals : (1 ≤ n .intervals) × (n .intervals ≤ e .mostIntervals)
-  pub zones : n .zones ≤ 4
-
--- what an edition's widths must hold
-pub record Roomy (e : Edition) : Type 0 where
-  pub number : e .number < 2 ^ 4
-  pub devices : e .mostDevices < 2 ^ e .deviceBits
-  pub intervals : e .mostIntervals < 2 ^ e .intervalBits
-
-pub roomy1 : Roomy edition1
-roomy1 = omega arith
-
-counts-law : (kind : ℕ) (e : Edition) → kind < 2 ^ 4 → Roomy e
-    → Lawful (counts kind e) (Limited e)
-unfolding counts
-counts-law kind e k r =
-    weaken _ _ _ (held-law _ _ _ _
-    (pair-law _ _ _ _ (nat-law (record { width = 4; low = kind; high = kind; wrong = _ }) k)
-    (pair-law _ _ _ _ (nat-law (record { width = 4; low = e .number; high = e .number; wrong = _ }) (r .number))
-    (pair-law _ _ _ _ (nat-law (countOf (e .deviceBits) 1 (e .mostDevices)) (r .devices))
-    (pair-law _ _ _ _ (nat-law (countOf (e .intervalBits) 1 (e .mostIntervals)) (r .intervals))
-    (nat-law (countOf 3 0 4) (omega arith)))))))
-    (λ n ok. (((omega arith, omega arith), ((omega arith, omega arith), (ok .devices, (ok .intervals, (omega arith, ok .zones))))), refl))
-
-completion-law : (e : Edition) → Roomy e → (n : Counts) (windows : ℕ) → Lawful (completionLayout e n windows) (λ r. Limited e n × FitsWritten n windows r)
-unfolding completionLayout
-completion-law e r n windows =
-    weaken _ _ _ (held-law _ _ _ _
-    (pair-law _ _ _ _ (counts-law 3 e (omega arith) r)
-    (pair-law _ _ _ _ (list-law (n .intervals) (intervalChoice (n .devices) (n .zones)) (FitsInterval n) (interval-law n))
-    (pair-law _ _ _ _ (list-law windows (any 32) _ (any-law 32 (omega arith)))
-    (int-law 64 (2 ^ 63))))))
-    (λ x ok. let f = ok .1 in ((ok .0, ((f .length, f .each), ((f .count, f .overruns), (f .surplus, f .size)))), refl))
-
--- "exactly the completion's bytes": they read back as our completion with the surplus reported
-pub reads-back : (c : Case) (p : Plan) → Limited edition1 (countsOf (c .system))
-    → FitsWritten (countsOf (c .system)) (energyWindows (c .system)) (written (c .system) (ours c p) (ourSurplus c p))
-    → length (completionLayout edition1 (countsOf (c .system)) (energyWindows (c .system)) .write (written (c .system) (ours c p) (ourSurplus c p))) + 8 < 2 ^ 63
-    → readWhole (completionLayout edition1 (countsOf (c .system)) (energyWindows (c .system))) (completionBytes c p) ≡ passes (written (c .system) (ours c p) (ourSurplus c p))
-unfolding completionBytes
-reads-back c p limits fits small = whole-back _ _ (completion-law edition1 roomy1 (countsOf (c .system)) (energyWindows (c .system))) _ (limits, fits) small

@@ -24,15 +24,14 @@ use Rattle.bits.specs.Twos.{toTwos}
 use Rattle.layouts.specs.Numbers.{Tells, fails-tells}
 use Rattle.layouts.specs.Layout.{Layout, Field, nat, int, _then_, _▸_, list, held, readWhole, Whole, passes, fails, bytes, any}
 use Rattle.model.specs.Messages as M
-use Rattle.model.specs.Messages.{edition1, Counts, Written, caseLayout, planLayout}
-use Rattle.model.specs.Editions.{newest, Largest, batch, deviceBits, intervalBits, mostDevices, mostIntervals, mostZones, mostWindows}
+use Rattle.model.specs.Messages.{Counts, Written}
+use Rattle.model.specs.Editions.{newest, Largest, deviceBits, intervalBits, mostDevices, mostIntervals, mostZones, mostWindows}
 use Rattle.model.specs.ByEdition as B
-use Rattle.model.specs.ByEdition.{Stated}
-use Rattle.model.specs.AsBefore.{completion-as}
-use Rattle.model.specs.Judgement.{Judged, judged, verdict, bufferAfter, withPlan, withCase, readCase, readPlan, judgement, written, countsOf, completionOf, energyWindows, ourSurplus, completionBytes}
+use Rattle.model.specs.ByEdition.{Stated, statedIn, plannedIn}
+use Rattle.model.specs.Judgement.{Judged, judged, verdict, bufferAfter, withPlan, withCase, readPlan, judgement, written, countsOf, completionIn, energyWindows, ourSurplus, completionBytes}
 use Rattle.layouts.specs.Trip.{Fits, length-bits}
-use Rattle.theorems.specs.Back.{FitsDevice, FitsInterval, FitsSix, FitsWritten, Countable, completed-back, reads-back}
-use Rattle.ranges.specs.Ranges.{PricesRange, SixRange, DevicePriceRange, CellPriceRange, CaseRange, Taken, StatedRange, PlanRange, case-checked, plan-checked, case-taken, plan-range}
+use Rattle.theorems.specs.Back.{FitsDevice, FitsInterval, FitsSix, FitsWritten, Countable, completed-back}
+use Rattle.ranges.specs.Ranges.{PricesRange, SixRange, DevicePriceRange, CellPriceRange, CaseRange, Taken, StatedRange, PlanRange, stated-checked, stated-range, planned-checked, planned-range}
 use Rattle.theorems.specs.Sizes.{PriceRange, mostPrice, mostShortfallPrice, mostChange, mostBlocks, surplusLimit, fits, surplus-size, over-devices, device-at}
 use Rattle.numbers.specs.Every.{all-or}
 use Rattle.theorems.specs.Theorem.{Right, right-verdict, apart}
@@ -180,10 +179,6 @@ module _ (e : ℕ) (n : Counts) (d : n .devices ≤ mostDevices) (i : n .interva
 
 -- ---- our completion of every edition
 
--- how the completions of a case's plans are laid out
-abbrev pub completionIn : ℕ → System → Layout Written
-completionIn e q = B.completionLayout e (countsOf q) (energyWindows q)
-
 module _ (c : Case) (p : Plan) (g : CaseRange c) (rp : PlanRange (c .system) p) (ok : EveryRule (c .system) p) where
   abbrev our : Written
   our = written (c .system) (ours c p) (ourSurplus c p)
@@ -217,14 +212,14 @@ stated-back l x p g rp ok = our-back (x .case) p (g .case .range) rp ok (x .edit
 -- ---- the promises
 
 -- how the plans of a case are laid out
-abbrev pub planOf : System → Layout Plan
-planOf q = planLayout edition1 (length (q .devices)) (length (q .halves))
+abbrev pub planOf : Stated → Layout Plan
+planOf x = B.planLayout (x .edition) (devices (x .case .system)) (intervals (x .case .system))
 
 -- what acceptance leaves in the result buffer: our completion with the surplus reported, as its message, and the rest as it was
-pub record Wrote (c : Case) (p : Plan) (z : ℤ) (before after : List ℕ) : Type 0 where
-  pub reads : readWhole (completionOf (c .system)) (take (length (completionBytes c p)) after) ≡ passes (written (c .system) (ours c p) z)
-  pub bytes : take (length (completionBytes c p)) after ≡ completionBytes c p
-  pub rest : drop (length (completionBytes c p)) after ≡ drop (length (completionBytes c p)) before
+pub record Wrote (x : Stated) (p : Plan) (z : ℤ) (before after : List ℕ) : Type 0 where
+  pub reads : readWhole (completionIn (x .edition) (x .case .system)) (take (length (completionBytes x p)) after) ≡ passes (written (x .case .system) (ours (x .case) p) z)
+  pub bytes : take (length (completionBytes x p)) after ≡ completionBytes x p
+  pub rest : drop (length (completionBytes x p)) after ≡ drop (length (completionBytes x p)) before
   pub size : natAbs z < surplusLimit
 
 -- Item 1: a message s that does not pass reading is refused with its number and place, which `Tells` gives their meaning, and no byte of the result is touched
@@ -234,84 +229,103 @@ pub record RefusedBy {A : Type 0} (l : Layout A) (s : List ℕ) (which : Subject
   pub untouched : j .result ≡ before
 
 -- The same, and "Everything else, of any content, is judged", with items 2 and 3, for a plan's bytes against a case that passed reading; only acceptance writes.
-pub record PlanPromise (c : Case) (ps before : List ℕ) (j : Judged) : Type 0 where
-  pub plan-refused : (f : Fault) → readPlan (c .system) ps ≡ fails f → RefusedBy (planOf (c .system)) ps S.Plan f before j
-  pub judges : (p : Plan) → readPlan (c .system) ps ≡ passes p → j .verdict ≡ verdict c p (length before)
-  pub right : (p : Plan) → readPlan (c .system) ps ≡ passes p → Right c p (length before) (j .verdict)
-  pub wrote : (p : Plan) (z : ℤ) → readPlan (c .system) ps ≡ passes p → j .verdict ≡ Accepted z → Wrote c p z before (j .result)
+pub record PlanPromise (x : Stated) (ps before : List ℕ) (j : Judged) : Type 0 where
+  pub plan-refused : (f : Fault) → readPlan x ps ≡ fails f → RefusedBy (planOf x) ps S.Plan f before j
+  pub judges : (p : Plan) → readPlan x ps ≡ passes p → j .verdict ≡ verdict x p (length before)
+  pub right : (p : Plan) → readPlan x ps ≡ passes p → Right x p (length before) (j .verdict)
+  pub wrote : (p : Plan) (z : ℤ) → readPlan x ps ≡ passes p → j .verdict ≡ Accepted z → Wrote x p z before (j .result)
   pub broken-untouched : (b : Breach) → j .verdict ≡ Broken b → j .result ≡ before
   pub refused-untouched : (s : Subject) (f : Fault) → j .verdict ≡ Refused s f → j .result ≡ before
 
--- and for the bytes of a case and a plan: "case, then plan"
-pub record Promise (cs ps before : List ℕ) (j : Judged) : Type 0 where
-  pub case-refused : (f : Fault) → readCase cs ≡ fails f → RefusedBy (caseLayout edition1) cs S.Case f before j
-  pub case-passed : (c : Case) → readCase cs ≡ passes c → PlanPromise c ps before j
+-- and for the bytes of a case and a plan, by a reader that takes counts up to these: "case, then plan"
+pub record Promise (l : Largest) (cs ps before : List ℕ) (j : Judged) : Type 0 where
+  pub case-refused : (f : Fault) → statedIn l cs ≡ fails f → RefusedBy (B.caseLayout l) cs S.Case f before j
+  pub case-passed : (x : Stated) → statedIn l cs ≡ passes x → PlanPromise x ps before j
 
 untouched : (v : Verdict) (out before : List ℕ) → ((z : ℤ) → v ≡ Accepted z → ⊥) → bufferAfter v out before ≡ before
 untouched (Accepted z) out before h = absurd (h z refl)
 untouched (Broken b) out before h = refl
 untouched (Refused s f) out before h = refl
 
-module _ (c : Case) (ps : List ℕ) (p : Plan) (g : Taken 1 batch c) (rp : readPlan (c .system) ps ≡ passes p) (room : ℕ) where
-  -- the bytes of an acceptance read back as our completion
-  our-bytes : (z : ℤ) → verdict c p room ≡ Accepted z → readWhole (completionOf (c .system)) (completionBytes c p) ≡ passes (written (c .system) (ours c p) (ourSurplus c p))
-  our-bytes z e =
-      let q = plan-range (c .system) ps p rp in
-      let ok = right-verdict c p room .meets z e .rules in
-      let s = g .range .system in
-      let same = completion-as (countsOf (c .system)) (energyWindows (c .system)) (our c p (g .range) q ok) in
-      let n = our-size c p (g .range) q ok 1 in
-      reads-back c p (record { devices = (s .someDevice, omega (arith, g .devices)); intervals = (s .someInterval, omega (arith, g .intervals)); zones = s .zones }) (our-fits c p (g .range) q ok)
-      (rw same at (let m : length (completionIn 1 (c .system) .write (our c p (g .range) q ok)) + 8 < 2 ^ 63 = omega arith in m))
+-- a case within its ranges, whose counts fit their fields
+pub record Sound (x : Stated) : Type 0 where
+  pub range : CaseRange (x .case)
+  pub countable : Countable (x .edition) (countsOf (x .case .system))
 
-  wrote-by : (z : ℤ) (before after : List ℕ) → verdict c p room ≡ Accepted z → after ≡ completionBytes c p ++ drop (length (completionBytes c p)) before → Wrote c p z before after
+-- what any reader takes is
+pub stated-sound : (l : Largest) (x : Stated) → StatedRange l x → Sound x
+stated-sound l x g = record { range = g .case .range; countable = taken-countable (x .edition) l (x .case) (g .edition .1) (g .case) }
+
+module _ (x : Stated) (ps : List ℕ) (p : Plan) (g : Sound x) (rp : readPlan x ps ≡ passes p) (room : ℕ) where
+  abbrev c : Case
+  c = x .case
+
+  plan-in : PlanRange (c .system) p
+  plan-in = planned-range (x .edition) (c .system) ps p rp
+
+  -- the bytes of an acceptance read back as our completion
+  our-bytes : (z : ℤ) → verdict x p room ≡ Accepted z → readWhole (completionIn (x .edition) (c .system)) (completionBytes x p) ≡ passes (written (c .system) (ours c p) (ourSurplus c p))
+  unfolding completionBytes
+  our-bytes z e = our-back c p (g .range) plan-in (right-verdict x p room .meets z e .rules) (x .edition) (g .countable)
+
+  wrote-by : (z : ℤ) (before after : List ℕ) → verdict x p room ≡ Accepted z → after ≡ completionBytes x p ++ drop (length (completionBytes x p)) before → Wrote x p z before after
   unfolding ourSurplus
   wrote-by z before after e h =
-      let v = right-verdict c p room in
-      let t : take (length (completionBytes c p)) after ≡ completionBytes c p = ap (take (length (completionBytes c p))) h ∙ take-at (completionBytes c p) _ _ refl in
+      let v = right-verdict x p room in
+      let t : take (length (completionBytes x p)) after ≡ completionBytes x p = ap (take (length (completionBytes x p))) h ∙ take-at (completionBytes x p) _ _ refl in
       record {
-        reads = ap (readWhole (completionOf (c .system))) t ∙ our-bytes z e ∙ ap (λ (y : ℤ). passes (written (c .system) (ours c p) y)) (v .surplus z e);
+        reads = ap (readWhole (completionIn (x .edition) (c .system))) t ∙ our-bytes z e ∙ ap (λ (y : ℤ). passes (written (c .system) (ours c p) y)) (v .surplus z e);
         bytes = t;
-        rest = ap (drop (length (completionBytes c p))) h ∙ drop-at (completionBytes c p) _ _ refl;
-        size = rw (sym (v .surplus z e)) (small-surplus c p (g .range) (plan-range (c .system) ps p rp) (v .meets z e .rules));
+        rest = ap (drop (length (completionBytes x p))) h ∙ drop-at (completionBytes x p) _ _ refl;
+        size = rw (sym (v .surplus z e)) (small-surplus c p (g .range) plan-in (v .meets z e .rules));
       }
 
 -- what judging a plan that passes reading leaves
-judged-wrote : (c : Case) (p : Plan) (z : ℤ) (before : List ℕ) → judged c p before .verdict ≡ Accepted z → judged c p before .result ≡ completionBytes c p ++ drop (length (completionBytes c p)) before
+judged-wrote : (x : Stated) (p : Plan) (z : ℤ) (before : List ℕ) → judged x p before .verdict ≡ Accepted z → judged x p before .result ≡ completionBytes x p ++ drop (length (completionBytes x p)) before
 unfolding judged
-judged-wrote c p z before e = ap (λ (v : Verdict). bufferAfter v (completionBytes c p) before) e
+judged-wrote x p z before e = ap (λ (v : Verdict). bufferAfter v (completionBytes x p) before) e
 
-judged-verdict : (c : Case) (p : Plan) (before : List ℕ) → judged c p before .verdict ≡ verdict c p (length before)
+judged-verdict : (x : Stated) (p : Plan) (before : List ℕ) → judged x p before .verdict ≡ verdict x p (length before)
 unfolding judged
-judged-verdict c p before = refl
+judged-verdict x p before = refl
 
 -- only acceptance writes
-judged-else : (c : Case) (p : Plan) (before : List ℕ) → ((z : ℤ) → judged c p before .verdict ≡ Accepted z → ⊥) → judged c p before .result ≡ before
+judged-else : (x : Stated) (p : Plan) (before : List ℕ) → ((z : ℤ) → judged x p before .verdict ≡ Accepted z → ⊥) → judged x p before .result ≡ before
 unfolding judged
-judged-else c p before h = untouched (verdict c p (length before)) (completionBytes c p) before h
+judged-else x p before h = untouched (verdict x p (length before)) (completionBytes x p) before h
 
-plan-else : (c : Case) (before : List ℕ) (r : Whole Plan) → ((z : ℤ) → withPlan c before r .verdict ≡ Accepted z → ⊥) → withPlan c before r .result ≡ before
-plan-else c before (passes p) h = judged-else c p before h
-plan-else c before (fails f) h = refl
+plan-else : (x : Stated) (before : List ℕ) (r : Whole Plan) → ((z : ℤ) → withPlan x before r .verdict ≡ Accepted z → ⊥) → withPlan x before r .result ≡ before
+plan-else x before (passes p) h = judged-else x p before h
+plan-else x before (fails f) h = refl
+
+-- what a plan's refusal tells
+plan-tells : (x : Stated) (ps : List ℕ) (f : Fault) → readPlan x ps ≡ fails f → Tells (planOf x) ps f
+unfolding plannedIn
+plan-tells x ps f e = fails-tells (planOf x) (PlanRange (x .case .system)) (planned-checked (x .edition) (x .case .system)) ps f e
 
 -- a plan's bytes against a case within its ranges
-pub plan-promised : (c : Case) → Taken 1 batch c → (ps before : List ℕ) → PlanPromise c ps before (withPlan c before (readPlan (c .system) ps))
-unfolding readPlan
-plan-promised c g ps before = record {
-  plan-refused = λ f e. record { verdict = rw e refl; number = fails-tells (planOf (c .system)) (PlanRange (c .system)) (plan-checked (c .system)) ps f e; untouched = rw e refl };
-  judges = λ p e. rw e (judged-verdict c p before);
-  right = λ p e. rw (e, judged-verdict c p before) (right-verdict c p (length before));
+pub plan-promised : (x : Stated) → Sound x → (ps before : List ℕ) → PlanPromise x ps before (withPlan x before (readPlan x ps))
+plan-promised x g ps before = record {
+  plan-refused = λ f e. record { verdict = rw e refl; number = plan-tells x ps f e; untouched = rw e refl };
+  judges = λ p e. rw e (judged-verdict x p before);
+  right = λ p e. rw (e, judged-verdict x p before) (right-verdict x p (length before));
   wrote = λ p z e a.
-      let j : withPlan c before (readPlan (c .system) ps) ≡ judged c p before = rw e refl in
-      let v : judged c p before .verdict ≡ Accepted z = ap (λ (j : Judged). j .verdict) (sym j) ∙ a in
-      wrote-by c ps p g e (length before) z before _ (sym (judged-verdict c p before) ∙ v) (ap (λ (j : Judged). j .result) j ∙ judged-wrote c p z before v);
-  broken-untouched = λ b e. plan-else c before (readPlan (c .system) ps) (λ z h. apart (cc));
-  refused-untouched = λ s f e. plan-else c before (readPlan (c .system) ps) (λ z h. apart (cc));
+      let j : withPlan x before (readPlan x ps) ≡ judged x p before = rw e refl in
+      let v : judged x p before .verdict ≡ Accepted z = ap (λ (j : Judged). j .verdict) (sym j) ∙ a in
+      wrote-by x ps p g e (length before) z before _ (sym (judged-verdict x p before) ∙ v) (ap (λ (j : Judged). j .result) j ∙ judged-wrote x p z before v);
+  broken-untouched = λ b e. plan-else x before (readPlan x ps) (λ z h. apart (cc));
+  refused-untouched = λ s f e. plan-else x before (readPlan x ps) (λ z h. apart (cc));
 }
 
-pub promised : (cs ps before : List ℕ) → Promise cs ps before (judgement cs ps before)
-unfolding judgement readCase
-promised cs ps before = record {
-  case-refused = λ f e. record { verdict = rw e refl; number = fails-tells (caseLayout edition1) CaseRange case-checked cs f e; untouched = rw e refl };
-  case-passed = λ c e. subst (PlanPromise c ps before) (sym (ap (withCase ps before) e)) (plan-promised c (case-taken cs c e) ps before);
-}
+-- any reader that takes no more than the most
+module _ (l : Largest) (most : l .devices ≤ mostDevices) (long : l .intervals ≤ mostIntervals) where
+  case-tells : (cs : List ℕ) (f : Fault) → statedIn l cs ≡ fails f → Tells (B.caseLayout l) cs f
+  unfolding statedIn
+  case-tells cs f e = fails-tells (B.caseLayout l) (StatedRange l) (stated-checked l most long) cs f e
+
+  pub promised : (cs ps before : List ℕ) → Promise l cs ps before (judgement l cs ps before)
+  unfolding judgement
+  promised cs ps before = record {
+    case-refused = λ f e. record { verdict = rw e refl; number = case-tells cs f e; untouched = rw e refl };
+    case-passed = λ x e. subst (PlanPromise x ps before) (sym (ap (withCase ps before) e)) (plan-promised x (stated-sound l x (stated-range l most long cs x e)) ps before);
+  }

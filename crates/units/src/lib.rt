@@ -18,6 +18,9 @@ pub struct Watts(pub u64);
 // Money.
 pub struct Grains(pub u64);
 
+// Money each minute.
+pub struct Rate(pub u64);
+
 fn wide(x: u32) -> u64
     ensures { λ r. ⌜ (r ≡ x) × (r < 2 ^ 32) ⌝ }
 {
@@ -109,6 +112,13 @@ impl Kw {
         KwMin(product(self.0, minutes))
     }
 
+    // What it is worth each minute, at a price in grains per kW·min.
+    pub fn at(self, price: u32) -> Rate
+        ensures { λ r. ⌜ r .0 ≡ price * self .0 ⌝ }
+    {
+        Rate(product(price, self.0))
+    }
+
     // The same power.
     pub fn in_watts(self) -> Watts
         ensures { λ r. ⌜ r .0 ≡ 1000 * self .0 ⌝ }
@@ -169,6 +179,23 @@ impl Watts {
         ensures { λ r. ⌜ r .0 ≡ minutes * (price * self .0) ⌝ }
     {
         Grains(wide(minutes) * (wide(price) * self.0))
+    }
+}
+
+impl Rate {
+    pub fn plus(self, other: Rate) -> Rate
+        requires { ⌜ self .0 + other .0 < 2 ^ 64 ⌝ }
+        ensures { λ r. ⌜ r .0 ≡ self .0 + other .0 ⌝ }
+    {
+        Rate(self.0 + other.0)
+    }
+
+    // Over some minutes.
+    pub fn over(self, minutes: u32) -> Grains
+        requires { ⌜ (self .0 < 2 ^ 44) × (minutes < 2 ^ 20) ⌝ }
+        ensures { λ r. ⌜ r .0 ≡ minutes * self .0 ⌝ }
+    {
+        Grains(wide(minutes) * self.0)
     }
 }
 

@@ -1,4 +1,4 @@
--- `answers::answer_plan` meets its contract. Assumes nothing.
+-- By what the splitter finds: a message is judged.
 use Rattle.answers.specs.Steps.{plan-end, plan-framing, plan-judged}
 use borrow.Author.Needs.{needs}
 use Rattle.answers.proofs.answer_plan.Statement.{statement}
@@ -26,7 +26,7 @@ judge-plan-requires : tie.Need-judge-plan-requires
 judge-plan-requires c κs = search needs
 
 put-answer-requires : tie.Need-put-answer-requires
-put-answer-requires c κs = search needs
+put-answer-requires c κs = c .before .before .before .before .before .before .before .before .before .before .before .before .before .before .before .before .before .before .before .before .before .before .before .pre .1 .3
 
 accepted-requires : tie.Need-accepted-requires
 accepted-requires c κs = search needs
@@ -46,25 +46,17 @@ same-length-2 c = search needs
 same-length-3 : tie.Need-same-length-3
 same-length-3 c = search needs
 
+same-length-4 : tie.Need-same-length-4
+same-length-4 c = search needs
+
+same-length-5 : tie.Need-same-length-5
+same-length-5 c = search needs
+
+same-length-6 : tie.Need-same-length-6
+same-length-6 c = search needs
+
 returns-3 : tie.Need-returns-3
-returns-3 c = let s = c .before .before .before .before .before .before .before .before .before .before .before .before .before .before .before .before .before in plan-judged _ _ _ _ _ _ (c .before .before .before .before .before .before .before .before .before .before .before .before .frame-at .ensures .is) (s .pre .0) (s .pre .1) (c .before .before .before .before .before .before .before .before .before .before .enum-told2 .given .1) (c .before .before .before .before .before .before .before .before .before .message-at .ensures) (c .before .before .before .before .before .before .before .judge-plan .ensures) (c .before .before .before .put-answer .ensures) (c .accepted .ensures)
+returns-3 c = plan-judged (c .before .before .before .before .before .before .before .before .before .before .before .before .before .before .before .before .before .before .before .before .before .before .before .before .before .before .before .pre .0 .0) (c .before .before .before .before .before .before .before .before .before .before .before .before .before .before .before .before .before .before .before .before .before .before .before .before .before .before .before .pre .1 .0) (c .before .before .before .before .before .before .before .before .before .before .before .before .before .before .before .before .before .before .before .before .before .before .before .before .before .before .before .pre .1 .1) _ _ _ _ (c .before .before .before .before .before .before .before .before .before .before .before .before .before .before .before .before .before .before .before .before .frame-at .ensures .is) (c .before .before .before .before .before .before .before .before .before .before .before .before .before .before .before .before .before .before .before .before .before .before .before .before .before .before .before .pre .1 .2) (c .before .before .before .before .before .before .before .before .before .before .before .before .before .before .before .before .before .before .enum-told2 .given .1) (c .before .before .before .before .before .before .before .before .before .before .before .before .before .before .before .before .before .message-at .ensures) (c .before .before .before .before .before .before .before .before .before .before .before .before .judge-plan .ensures) (c .before .before .before .put-answer .ensures) (c .accepted .ensures)
 
 pub answer-plan-spec : {M : Type 1} → statement M
-answer-plan-spec =
-    tie.close
-    (tie.spec
-    frame-at-requires
-    enum-told
-    enum-known-f
-    put-framing-requires
-    enum-told-2
-    message-at-requires
-    judge-plan-requires
-    put-answer-requires
-    accepted-requires
-    returns
-    same-length
-    returns-2
-    same-length-2
-    same-length-3
-    returns-3)
+answer-plan-spec = tie.close (tie.spec frame-at-requires enum-told enum-known-f put-framing-requires enum-told-2 message-at-requires judge-plan-requires put-answer-requires accepted-requires returns same-length returns-2 same-length-2 same-length-3 same-length-4 same-length-5 same-length-6 returns-3)

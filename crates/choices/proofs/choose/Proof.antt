@@ -1,4 +1,5 @@
 -- The four parts of a choice, for whatever case the records are of.
+use Rattle.records.specs.Figures.{deviceAt}
 use Rattle.choices.specs.Cells.{sized}
 use Rattle.choices.specs.Rests.{looks}
 use Rattle.choices.specs.Choices.{choice-of}
@@ -6,21 +7,41 @@ use borrow.Author.Needs.{needs}
 use Rattle.choices.proofs.choose.Statement.{statement}
 use Rattle.choices.proofs.choose.Tie as tie
 
+on0-at-requires : tie.Need-on0-at-requires
+on0-at-requires c κs = search needs
+
 started-at-requires : tie.Need-started-at-requires
-started-at-requires c κs = looks (c .before .pre) .inside
+started-at-requires c κs = looks (c .before .before .pre .1) .inside
 
 stopped-at-requires : tie.Need-stopped-at-requires
-stopped-at-requires c κs = looks (c .before .before .pre) .inside
+stopped-at-requires c κs =
+    let start : _ = c .before .before .before in
+    looks (start .pre .1) .inside
 
 state-at-requires : tie.Need-state-at-requires
-state-at-requires c κs = (sized (c .before .before .before .pre) .few-states, looks (c .before .before .before .pre))
+state-at-requires c κs =
+    let start : _ = c .before .before .before .before in
+    (start .pre .0, sized (start .pre .1) .few-states, looks (start .pre .1))
+
+side-at-requires : tie.Need-side-at-requires
+side-at-requires c κs = search needs
 
 fill-requires : tie.Need-fill-requires
 fill-requires c κs = search needs
 
 returns : tie.Need-returns
-returns c = let a : _ = c .before .before .before .before .before .before .before .args in
-    choice-of (a .d) (a .cell) (a .settings .now) (a .starts .now) (a .p .0) (a .t) (c .before .before .before .before .before .started-at .ensures) (c .before .before .before .before .stopped-at .ensures) (c .before .before .before .state-at .ensures) (c .fill .ensures)
+returns c =
+    let at-fill : _ = c in
+    let at-side-at : _ = at-fill .before in
+    let at-state-at : _ = at-side-at .before .before .before in
+    let at-stopped-at : _ = at-state-at .before in
+    let at-started-at : _ = at-stopped-at .before in
+    let at-on0-at : _ = at-started-at .before in
+    let start : _ = at-on0-at .before .before in
+    let a : _ = start .args in
+    choice-of (deviceAt (a .devices .now) (a .i)) (a .cell) (a .settings .now) (a .starts .now) (a .p .0) (a .t)
+    (at-on0-at .on0-at .ensures) (at-side-at .side-at .ensures) (at-started-at .started-at .ensures) (at-stopped-at .stopped-at .ensures) (at-state-at .state-at .ensures)
+    (at-fill .fill .ensures)
 
 pub choose-spec : {M : Type 1} → statement M
-choose-spec = tie.close (tie.spec started-at-requires stopped-at-requires state-at-requires fill-requires returns)
+choose-spec = tie.close (tie.spec on0-at-requires started-at-requires stopped-at-requires state-at-requires side-at-requires fill-requires returns)

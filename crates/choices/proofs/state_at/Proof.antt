@@ -1,6 +1,7 @@
 -- By whether there is a start.
 use mathlib.Core.Path.{_∙_, ap}
 use borrow.Author.Tests.{eq-eqb, ne-eqb}
+use Rattle.records.specs.Figures.{deviceAt}
 use Rattle.choices.specs.States.{stateOf}
 use borrow.Author.Needs.{needs}
 use Rattle.choices.proofs.state_at.Statement.{statement}
@@ -13,7 +14,12 @@ best-state-requires : tie.Need-best-state-requires
 best-state-requires c κs = search needs
 
 returns : tie.Need-returns
-returns c = simp (eq-eqb _ _ (c .before .before .if1 .taken)) (c .best-state .ensures ∙ ap (stateOf (c .before .before .before .before .args .d)) (c .before .downtime .ensures))
+returns c =
+    let at-best-state : _ = c in
+    let at-downtime : _ = at-best-state .before in
+    let at-if1 : _ = at-downtime .before in
+    let start : _ = at-if1 .before .before in
+    simp (eq-eqb _ _ (at-if1 .if1 .taken)) (at-best-state .best-state .ensures ∙ ap (stateOf (deviceAt (start .args .devices .now) (start .args .i))) (at-downtime .downtime .ensures))
 
 returns-2 : tie.Need-returns-2
 returns-2 c = simp (ne-eqb _ _ (c .if1 .left))

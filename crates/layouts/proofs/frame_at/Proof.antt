@@ -1,4 +1,3 @@
--- `layouts::frame_at` meets its contract: each answer by its law. Assumes nothing.
 use native.Mathlib.Omega.{arith}
 use denote.Ref.{now}
 use borrow.Author.Needs.{needs}

@@ -1,12 +1,15 @@
 -- The offset earned and the kept cost spent.
+use mathlib.Core.Path.{ap, _∙_}
 use native.Mathlib.Omega.{arith}
+use Rattle.records.specs.declared.State.{State}
+use Rattle.records.specs.Figures.{deviceAt}
 use Rattle.money.specs.Costs.{cost-known, no-state, state-cost}
 use borrow.Author.Needs.{needs}
 use Rattle.money.proofs.state_money.Statement.{statement}
 use Rattle.money.proofs.state_money.Tie as tie
 
 returns : tie.Need-returns
-returns c = no-state (c .before .args .l) (c .before .args .t2) (c .before .args .state) (c .if1 .taken)
+returns c = let a : _ = c .before .args in no-state (a .l) (deviceAt (a .devices .now) (a .i)) (a .state) (c .if1 .taken)
 
 sub-k : tie.Need-sub-k
 sub-k c = search needs
@@ -14,24 +17,36 @@ sub-k c = search needs
 cast-k : tie.Need-cast-k
 cast-k c = search needs
 
-mul-s : tie.Need-mul-s
-mul-s c = search needs
-
-element-copy-out-s : tie.Need-element-copy-out-s
-element-copy-out-s c = search needs
+state-at-requires : tie.Need-state-at-requires
+state-at-requires c κs = search needs
 
 earn-requires : tie.Need-earn-requires
-earn-requires c κs = omega (arith, c .before .before .pre .0 .credit)
+earn-requires c κs = omega (arith, c .before .before .pre .1 .credit)
 
 money-of-requires : tie.Need-money-of-requires
 money-of-requires c κs = search needs
 
 spend-requires : tie.Need-spend-requires
-spend-requires c κs = omega (arith, c .before .before .before .before .pre .0 .debit, c .before .earn .ensures .debits, c .money-of .ensures, cost-known (c .before .before .before .before .args .t2) (c .before .before .before .before .args .state) (c .before .before .before .before .pre .2) (c .before .before .before .if1 .left))
+spend-requires c κs =
+    let at-money-of : _ = c in
+    let at-earn : _ = at-money-of .before in
+    let at-state-at : _ = at-earn .before in
+    let at-if1 : _ = at-state-at .before in
+    let start : _ = at-if1 .before in
+    let a : _ = start .args in let k : _ = cost-known (deviceAt (a .devices .now) (a .i)) (a .state) (start .pre .3) (at-if1 .if1 .left) in
+    omega (arith, start .pre .1 .debit, at-earn .earn .ensures .debits, at-money-of .money-of .ensures, ap (λ (s : State). s .cost) (at-state-at .state-at .ensures), k)
 
 returns-2 : tie.Need-returns-2
-returns-2 c = let a : _ = c .before .before .before .before .before .args in let k : _ = cost-known (a .t2) (a .state) (c .before .before .before .before .before .pre .2) (c .before .before .before .before .if1 .left) in
-    state-cost (a .t2) (a .state) (c .before .before .before .before .if1 .left) (c .before .money-of .ensures) (omega (arith, c .before .money-of .ensures, k)) (c .before .before .earn .ensures) (c .spend .ensures)
+returns-2 c =
+    let at-spend : _ = c in
+    let at-money-of : _ = at-spend .before in
+    let at-earn : _ = at-money-of .before in
+    let at-state-at : _ = at-earn .before in
+    let at-if1 : _ = at-state-at .before in
+    let start : _ = at-if1 .before in
+    let a : _ = start .args in let d : _ = deviceAt (a .devices .now) (a .i) in let k : _ = cost-known d (a .state) (start .pre .3) (at-if1 .if1 .left) in
+    let e : _ = at-money-of .money-of .ensures ∙ ap (λ (s : State). s .cost) (at-state-at .state-at .ensures) in
+    state-cost d (a .state) (at-if1 .if1 .left) e (omega (arith, e, k)) (at-earn .earn .ensures) (at-spend .spend .ensures)
 
 pub state-money-spec : {M : Type 1} → statement M
-state-money-spec = tie.close (tie.spec returns sub-k cast-k mul-s element-copy-out-s earn-requires money-of-requires spend-requires returns-2)
+state-money-spec = tie.close (tie.spec returns sub-k cast-k state-at-requires earn-requires money-of-requires spend-requires returns-2)

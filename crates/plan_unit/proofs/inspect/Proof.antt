@@ -1,14 +1,35 @@
--- `plan_unit::inspect` meets its contract. Assumes nothing.
-use Rattle.plan_unit.specs.Steps.{inspect-fails, inspect-passes}
+-- The counts are those of the case that was read.
+use Rattle.plan_unit.specs.Read.{inspect-fails, inspect-passes}
 use borrow.Author.Needs.{needs}
 use Rattle.plan_unit.proofs.inspect.Statement.{statement}
 use Rattle.plan_unit.proofs.inspect.Tie as tie
 
-blank-table-requires : tie.Need-blank-table-requires
-blank-table-requires c κs = search needs
+blank-zone-requires : tie.Need-blank-zone-requires
+blank-zone-requires c κs = search needs
+
+blank-minima-requires : tie.Need-blank-minima-requires
+blank-minima-requires c κs = search needs
+
+blank-device-requires : tie.Need-blank-device-requires
+blank-device-requires c κs = search needs
+
+blank-cell-requires : tie.Need-blank-cell-requires
+blank-cell-requires c κs = search needs
 
 slice-aggregate-read-case : tie.Need-slice-aggregate-read-case
 slice-aggregate-read-case c = search needs
+
+slice-aggregate-read-case-2 : tie.Need-slice-aggregate-read-case-2
+slice-aggregate-read-case-2 c = search needs
+
+slice-aggregate-read-case-3 : tie.Need-slice-aggregate-read-case-3
+slice-aggregate-read-case-3 c = search needs
+
+slice-aggregate-read-case-4 : tie.Need-slice-aggregate-read-case-4
+slice-aggregate-read-case-4 c = search needs
+
+slice-aggregate-read-case-5 : tie.Need-slice-aggregate-read-case-5
+slice-aggregate-read-case-5 c = search needs
 
 read-case-requires : tie.Need-read-case-requires
 read-case-requires c κs = search needs
@@ -20,19 +41,10 @@ enum-told : tie.Need-enum-told
 enum-told c = search needs
 
 returns : tie.Need-returns
-returns c = inspect-fails _ _ _ _ (c .before .before .before .before .before .read-case .ensures) (c .before .ending .given .1)
+returns c = inspect-fails _ _ _ _ _ _ _ _ _ (c .before .before .before .before .before .before .before .before .before .read-case .ensures) (c .before .ending .given .1)
 
 returns-2 : tie.Need-returns-2
-returns-2 c = inspect-passes _ _ _ _ (c .before .before .before .before .read-case .ensures) (c .enum-told .given .1)
+returns-2 c = inspect-passes _ _ _ _ _ _ _ _ _ (c .before .before .before .before .before .before .before .before .read-case .ensures) (c .enum-told .given .1)
 
 pub inspect-spec : {M : Type 1} → statement M
-inspect-spec =
-    tie.close
-    (tie.spec
-    blank-table-requires
-    slice-aggregate-read-case
-    read-case-requires
-    enum-known-ending
-    enum-told
-    returns
-    returns-2)
+inspect-spec = tie.close (tie.spec blank-zone-requires blank-minima-requires blank-device-requires blank-cell-requires slice-aggregate-read-case slice-aggregate-read-case-2 slice-aggregate-read-case-3 slice-aggregate-read-case-4 slice-aggregate-read-case-5 read-case-requires enum-known-ending enum-told returns returns-2)

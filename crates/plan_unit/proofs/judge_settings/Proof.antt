@@ -1,58 +1,44 @@
--- `plan_unit::judge_settings` meets its contract. Assumes nothing.
-use Rattle.plan_unit.specs.Steps.{unbroken-of, decides-broken}
+-- The forced figures are computed first; a plan that breaks no rule is completed.
+use Rattle.plan_unit.specs.Decided.{ready-of, kept-of, decides-broken}
 use borrow.Author.Needs.{needs}
 use Rattle.plan_unit.proofs.judge_settings.Statement.{statement}
 use Rattle.plan_unit.proofs.judge_settings.Tie as tie
 
-blank-forced-requires : tie.Need-blank-forced-requires
-blank-forced-requires c κs = search needs
-
-slice-aggregate-force : tie.Need-slice-aggregate-force
-slice-aggregate-force c = search needs
-
 force-requires : tie.Need-force-requires
 force-requires c κs = search needs
 
-slice-aggregate-first-breach : tie.Need-slice-aggregate-first-breach
-slice-aggregate-first-breach c = search needs
-
 first-breach-requires : tie.Need-first-breach-requires
-first-breach-requires c κs = search needs
+first-breach-requires c κs = ready-of _ _ _ _ _ _ _ (c .before .before .before .before .before .before .before .before .before .before .before .before .before .pre) (c .before .before .before .before .before .before .force .ensures)
 
-enum-known-b : tie.Need-enum-known-b
-enum-known-b c = search needs
+enum-known-first : tie.Need-enum-known-first
+enum-known-first c = search needs
 
 enum-told : tie.Need-enum-told
 enum-told c = search needs
 
-slice-aggregate-complete : tie.Need-slice-aggregate-complete
-slice-aggregate-complete c = search needs
-
 complete-requires : tie.Need-complete-requires
-complete-requires c κs = let s = c .before .before .before .before .before .before .before .before .before .before .before .before .before in unbroken-of _ _ _ _ (record { decoded = s .pre .0; planned = s .pre .1; forced-table = c .before .before .before .before .before .before .before .force .ensures }) (c .before .before .before .before .first-breach .ensures) (c .before .before .enum-told .given .1)
-
-returns : tie.Need-returns
-returns c = decides-broken _ _ _ _ (c .before .before .before .first-breach .ensures) (c .before .b .given .1)
+complete-requires c κs = kept-of _ _ _ _ _ _ _ (c .before .before .before .before .before .before .before .before .before .before .before .before .before .before .before .before .before .before .before .pre .decoded) (ready-of _ _ _ _ _ _ _ (c .before .before .before .before .before .before .before .before .before .before .before .before .before .before .before .before .before .before .before .pre) (c .before .before .before .before .before .before .before .before .before .before .before .before .force .ensures)) (c .before .before .before .before .before .first-breach .ensures) (c .before .before .before .enum-told .given .1)
 
 same-length : tie.Need-same-length
 same-length c = search needs
+
+same-length-2 : tie.Need-same-length-2
+same-length-2 c = search needs
+
+returns : tie.Need-returns
+returns c = decides-broken _ _ _ _ _ _ _ _ (c .before .before .before .first-breach .ensures) (c .before .first .given .1)
+
+same-length-3 : tie.Need-same-length-3
+same-length-3 c = search needs
+
+same-length-4 : tie.Need-same-length-4
+same-length-4 c = search needs
+
+same-length-5 : tie.Need-same-length-5
+same-length-5 c = search needs
 
 returns-2 : tie.Need-returns-2
 returns-2 c = search needs
 
 pub judge-settings-spec : {M : Type 1} → statement M
-judge-settings-spec =
-    tie.close
-    (tie.spec
-    blank-forced-requires
-    slice-aggregate-force
-    force-requires
-    slice-aggregate-first-breach
-    first-breach-requires
-    enum-known-b
-    enum-told
-    slice-aggregate-complete
-    complete-requires
-    returns
-    same-length
-    returns-2)
+judge-settings-spec = tie.close (tie.spec force-requires first-breach-requires enum-known-first enum-told complete-requires same-length same-length-2 returns same-length-3 same-length-4 same-length-5 returns-2)

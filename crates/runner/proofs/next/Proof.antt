@@ -1,6 +1,6 @@
--- `runner::next` meets its contract. Assumes nothing.
+-- Behind a frame that holds a message fewer bytes are left.
 use mathlib.Core.Path.{_≡_, sym, _∙_}
-use mathlib.Core.Bool.{Bool, true, false}
+use mathlib.Core.Bool.{Bool, true}
 use mathlib.Core.List.{List}
 use mathlib.Core.Logic.{⊎-elim}
 use Prim.Native.Nat.{ℕ, _-_, _≤_, _<_}
@@ -14,7 +14,6 @@ use borrow.Author.Needs.{needs}
 use Rattle.runner.proofs.next.Statement.{statement}
 use Rattle.runner.proofs.next.Tie as tie
 
--- behind a frame that holds a message fewer bytes are left
 progress : (frame : List ℕ) {m : Bool} {n left : ℕ} → m ≡ moreOf (framed frame) → length frame ≤ n → n ≤ left → m ≡ true → left - n < left
 progress frame e h l t = omega (arith, more-bytes frame (sym e ∙ t))
 
@@ -40,13 +39,13 @@ slice-aggregate-answer-plan : tie.Need-slice-aggregate-answer-plan
 slice-aggregate-answer-plan c = search needs
 
 answer-plan-requires : tie.Need-answer-plan-requires
-answer-plan-requires c κs = search needs
+answer-plan-requires c κs = ((c .before .before .before .before .before .before .before .before .before .before .before .before .before .before .before .before .before .before .pre .0 .0, c .before .before .before .before .before .before .before .before .before .before .before .before .before .before .before .before .before .before .pre .0 .1), (c .before .before .before .before .before .before .before .before .before .before .before .before .before .before .before .before .before .before .pre .1 .0, c .before .before .before .before .before .before .before .before .before .before .before .before .before .before .before .before .before .before .pre .1 .1, c .before .before .before .before .before .before .before .before .before .before .before .before .before .before .before .before .before .before .pre .1 .3, search needs))
 
 array-share-prefix-line : tie.Need-array-share-prefix-line
 array-share-prefix-line c = search needs
 
 slice-aggregate-tell : tie.Need-slice-aggregate-tell
-slice-aggregate-tell c = sym (length-take-le _ _ (omega (arith, c .before .before .before .before .answer-plan .ensures .text .short)))
+slice-aggregate-tell c = sym (length-take-le _ _ (omega (arith, c .before .before .before .before .before .before .before .before .before .answer-plan .ensures .text .short)))
 
 tell-requires : tie.Need-tell-requires
 tell-requires c κs = search needs
@@ -60,29 +59,17 @@ same-length c = search needs
 same-length-2 : tie.Need-same-length-2
 same-length-2 c = search needs
 
+same-length-3 : tie.Need-same-length-3
+same-length-3 c = search needs
+
+same-length-4 : tie.Need-same-length-4
+same-length-4 c = search needs
+
+same-length-5 : tie.Need-same-length-5
+same-length-5 c = search needs
+
 returns : tie.Need-returns
-returns c =
-    let e = c .before .before .before .before .before .before .answer-plan .ensures in (
-      omega arith,
-      λ h. ⊎-elim (λ w. progress _ (e .more) (simp length-take (omega arith)) (omega arith) (cc)) (λ w. never (cc)) (c .if1 .came),
-    )
+returns c = let e = c .before .before .before .before .before .before .before .before .before .before .before .answer-plan .ensures in let t = c .before .before .before .before .before .before .before .before .before .before .before .before .before .before .before .before .before .before .before .before .told .ensures in let r = c .before .before .before .before .before .before .before .before .before .before .before .before .before .before .before .before .before .before .before .before .before .before .before .read-frame .ensures .1 in (omega arith, λ h. ⊎-elim (λ w. progress _ (e .more) (simp length-take (omega arith)) (omega arith) (sym (w .1) ∙ h)) (λ w. never (sym (w .0 .left) ∙ (sym (w .1) ∙ h))) (c .if1 .came))
 
 pub next-spec : {M : Type 1} → statement M
-next-spec =
-    tie.close
-    (tie.spec
-    read-frame-requires
-    told-requires
-    line-buffer-requires
-    sub-answer-plan
-    part-answer-plan-start
-    part-answer-plan-end
-    slice-aggregate-answer-plan
-    answer-plan-requires
-    array-share-prefix-line
-    slice-aggregate-tell
-    tell-requires
-    sub-rest
-    same-length
-    same-length-2
-    returns)
+next-spec = tie.close (tie.spec read-frame-requires told-requires line-buffer-requires sub-answer-plan part-answer-plan-start part-answer-plan-end slice-aggregate-answer-plan answer-plan-requires array-share-prefix-line slice-aggregate-tell tell-requires sub-rest same-length same-length-2 same-length-3 same-length-4 same-length-5 returns)

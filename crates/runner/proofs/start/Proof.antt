@@ -1,5 +1,5 @@
--- `runner::start` meets its contract. Assumes nothing.
-use mathlib.Core.Path.{sym}
+-- Where plans may follow, the case is decoded.
+use mathlib.Core.Path.{sym, _∙_}
 use mathlib.Core.Logic.{⊎-elim}
 use native.Mathlib.Omega.{arith}
 use lib.Seq.{length-take-le}
@@ -36,13 +36,13 @@ array-share-prefix-line : tie.Need-array-share-prefix-line
 array-share-prefix-line c = search needs
 
 slice-aggregate-tell : tie.Need-slice-aggregate-tell
-slice-aggregate-tell c = sym (length-take-le _ _ (omega (arith, c .before .before .before .before .before .answer-case .ensures .text .short)))
+slice-aggregate-tell c = sym (length-take-le _ _ (omega (arith, c .before .before .before .before .before .before .before .before .before .before .answer-case .ensures .text .short)))
 
 tell-requires : tie.Need-tell-requires
 tell-requires c κs = search needs
 
 sub-rest : tie.Need-sub-rest
-sub-rest c = search needs
+sub-rest c = omega (arith, c .before .before .before .before .before .before .before .before .before .before .before .before .before .before .before .before .before .before .before .before .before .before .told .ensures, c .before .before .before .before .before .before .before .before .before .before .before .before .before .before .before .before .before .before .before .before .before .before .before .before .before .read-frame .ensures .1)
 
 same-length : tie.Need-same-length
 same-length c = search needs
@@ -50,29 +50,20 @@ same-length c = search needs
 same-length-2 : tie.Need-same-length-2
 same-length-2 c = search needs
 
+same-length-3 : tie.Need-same-length-3
+same-length-3 c = search needs
+
+same-length-4 : tie.Need-same-length-4
+same-length-4 c = search needs
+
+same-length-5 : tie.Need-same-length-5
+same-length-5 c = search needs
+
+same-length-6 : tie.Need-same-length-6
+same-length-6 c = search needs
+
 returns : tie.Need-returns
-returns c =
-    let e = c .before .before .before .before .before .before .before .answer-case .ensures in (
-      omega arith,
-      λ h. ⊎-elim (λ w. e .decoded (cc)) (λ w. never (cc)) (c .if1 .came),
-    )
+returns c = let e = c .before .before .before .before .before .before .before .before .before .before .before .before .answer-case .ensures in (omega (arith, c .before .before .before .before .before .before .before .before .before .before .before .before .before .before .before .before .before .before .before .before .before .before .told .ensures, c .before .before .before .before .before .before .before .before .before .before .before .before .before .before .before .before .before .before .before .before .before .before .before .before .before .read-frame .ensures .1), λ h. ⊎-elim (λ w. e .decoded (sym (w .1) ∙ h)) (λ w. never (sym (w .0 .left) ∙ (sym (w .1) ∙ h))) (c .if1 .came))
 
 pub start-spec : {M : Type 1} → statement M
-start-spec =
-    tie.close
-    (tie.spec
-    read-frame-requires
-    told-requires
-    line-buffer-requires
-    sub-answer-case
-    part-answer-case-start
-    part-answer-case-end
-    slice-aggregate-answer-case
-    answer-case-requires
-    array-share-prefix-line
-    slice-aggregate-tell
-    tell-requires
-    sub-rest
-    same-length
-    same-length-2
-    returns)
+start-spec = tie.close (tie.spec read-frame-requires told-requires line-buffer-requires sub-answer-case part-answer-case-start part-answer-case-end slice-aggregate-answer-case answer-case-requires array-share-prefix-line slice-aggregate-tell tell-requires sub-rest same-length same-length-2 same-length-3 same-length-4 same-length-5 same-length-6 returns)

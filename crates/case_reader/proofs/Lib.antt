@@ -1,0 +1,5 @@
+pub mod FrontSteps
+pub mod PartSteps
+pub mod DeviceSteps
+pub mod Body
+pub mod Ends

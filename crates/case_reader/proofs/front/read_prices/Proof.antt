@@ -1,0 +1,30 @@
+use mathlib.Core.Path.{refl}
+use Rattle.case_reader.proofs.FrontSteps.{prices-told}
+use borrow.Author.Needs.{needs}
+use Rattle.case_reader.proofs.front.read_prices.Statement.{statement}
+use Rattle.case_reader.proofs.front.read_prices.Tie as tie
+
+slice-aggregate-read-list : tie.Need-slice-aggregate-read-list
+slice-aggregate-read-list c = search needs
+
+read-list-requires : tie.Need-read-list-requires
+read-list-requires c κs = search needs
+
+array-read-t12 : tie.Need-array-read-t12
+array-read-t12 c = search needs
+
+array-read-t15 : tie.Need-array-read-t15
+array-read-t15 c = search needs
+
+returns : tie.Need-returns
+returns c =
+    let read-list : _ = c .before .read-list in
+    let start : _ = c .before .before .before .before in
+    record {
+      is = prices-told (start .args .s .now) (start .args .p) (read-list .result) (read-list .last .1 .1 .1 .1 .1 .1 .0) (search needs) (read-list .ensures);
+      edition-is = refl;
+      counts-are = refl;
+    }
+
+pub read-prices-spec : {M : Type 1} → statement M
+read-prices-spec = tie.close (tie.spec slice-aggregate-read-list read-list-requires array-read-t12 array-read-t15 returns)

@@ -1,3 +1,0 @@
-pub mod FleetLoop
-pub mod Body
-pub mod Ends

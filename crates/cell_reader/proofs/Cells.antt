@@ -1,0 +1,166 @@
+-- A cell of its groups, and the turns of the loop that reads a device's cells into rows.
+use mathlib.Core.Path.{_≡_, refl, ap, ap₂, sym, _∙_}
+use mathlib.Core.List.{List, [], _∷_, map}
+use Prim.Native.Nat.{ℕ, zero, suc, _+_, _≤_, _<_}
+use native.Mathlib.Omega.{arith}
+use native.Mathlib.Decide.{decLe}
+use lib.IntN.{ℤ}
+use lib.ListN.{length, getD, set, take, length-set}
+use lib.Seq.{take-all, getD-set-same, getD-set-other}
+use Rattle.layouts.specs.declared.Fault.{Fault}
+use Rattle.layouts.specs.declared.Place.{Place}
+use Rattle.layouts.specs.Layout.{_then_, held, list}
+use Rattle.model.specs.Case as M
+use Rattle.model.specs.Messages as L
+use Rattle.model.specs.Messages.{apart}
+use Rattle.model.specs.ByEdition.{cell}
+use Rattle.ranges.specs.Kept.{reservesOf}
+use Rattle.numbers.specs.Rows.{getD-map}
+use Rattle.units.specs.declared.Kw.{Kw}
+use Rattle.records.specs.declared.Cell.{Cell}
+use Rattle.records.specs.declared.ReservePrices.{ReservePrices}
+use Rattle.records.specs.Figures.{cellRow, kwAt}
+use Rattle.records.specs.Views.{less, priceOffset, eightPricesIn, Padded, cellPair}
+use Rattle.records.specs.Stored.{four, cell-stored, cell-prices-stored, cell-padded}
+use Rattle.fields.specs.declared.Went.{Went}
+use Rattle.fields.specs.declared.Went.the-variants as W
+use Rattle.fields.specs.Got.{good, bad, got, told, Natural, nat-natural, then-natural, such-natural, held-natural}
+use Rattle.fields.specs.Got.{goes-on, goes-off, mapped, told-off, went-good, went-bad}
+use Rattle.fields.specs.Each.{counted-natural}
+use Rattle.fields.specs.Going.{Storing, storing-none, storing-more, storing-off, storing-done}
+use Rattle.fields.proofs.Steps.{eight-natural}
+use Rattle.cell_reader.specs.declared.LimitsRead.{LimitsRead}
+use Rattle.cell_reader.specs.declared.Block.{Block}
+use Rattle.cell_reader.specs.declared.BlocksRead.{BlocksRead}
+use Rattle.cell_reader.specs.Groups.{limits, blocks, reservePrices, limitsIn, blockIn, noBlock, BlocksDone, pricesOf, cellWith}
+use Rattle.cell_reader.specs.Cells.{CellDone, CellsDone}
+use Rattle.cell_reader.proofs.Limits.{limits-natural}
+use Rattle.cell_reader.proofs.Blocks.{block-natural}
+
+-- ---- the layout
+
+blocks-natural : (e : ℕ) → Natural (blocks e)
+blocks-natural e = counted-natural _ (block-natural e)
+
+prices-natural : Natural reservePrices
+prices-natural = eight-natural (nat-natural _)
+
+pub cell-natural : (e : ℕ) → Natural (cell e)
+unfolding L.cell apart
+cell-natural e = held-natural _ _
+    (then-natural (nat-natural _) (λ a. then-natural (then-natural (nat-natural _) (λ low. such-natural _ (nat-natural _)))
+    (λ b. then-natural (held-natural _ _ (blocks-natural e)) (λ c. prices-natural))))
+
+-- the model's cell of its groups
+abbrev grouped : ℕ × (ℕ × ℕ) → List (ℕ × ℤ) → M.Reserves → M.Cell × M.CellPrices
+grouped h b r = (record { status = h .0; pmin = h .1 .0; pmax = h .1 .1; caps = map (λ x. x .0) b }, record { blocks = map (λ x. x .1) b; reserves = r })
+
+module _ (e : ℕ) (s : List ℕ) (p : Place) where
+  cell-is : got (cell e) s p ≡ limits .read s p bad (λ h p. blocks e .read s p bad (λ b p. reservePrices .read s p bad (λ r p. good (grouped h b r) p)))
+  unfolding L.cell held _then_ apart
+  cell-is = refl
+
+  cell-1 : {f : Fault} → got limits s p ≡ bad f → got (cell e) s p ≡ bad f
+  cell-1 t = cell-is ∙ goes-off limits-natural s p bad _ t
+
+  module _ {h : ℕ × (ℕ × ℕ)} {p₁ : Place} (t : got limits s p ≡ good h p₁) where
+    cell-2 : {f : Fault} → got (blocks e) s p₁ ≡ bad f → got (cell e) s p ≡ bad f
+    cell-2 g = cell-is ∙ goes-on limits-natural s p bad _ t ∙ goes-off (blocks-natural e) s p₁ bad _ g
+
+    cell-3 : {b : List (ℕ × ℤ)} {p₂ : Place} → got (blocks e) s p₁ ≡ good b p₂ → got (cell e) s p ≡ reservePrices .read s p₂ bad (λ r p. good (grouped h b r) p)
+    cell-3 g = cell-is ∙ goes-on limits-natural s p bad _ t ∙ goes-on (blocks-natural e) s p₁ bad _ g
+
+-- ---- the record of its groups
+
+-- a part of each of the n first, seen one way or another
+module _ {A B C D : Type 0} (f : A → B) (g : B → C) (h : A → D) (k : D → C) (same : (x : A) → g (f x) ≡ k (h x)) where
+  parts : (n : ℕ) (l : List A) → map g (take n (map f l)) ≡ map k (map h (take n l))
+  parts zero l = refl
+  parts (suc n) [] = refl
+  parts (suc n) (x ∷ l) = ap₂ (λ (y : C) (ys : List C). y ∷ ys) (same x) (parts n l)
+
+module _ (l : LimitsRead) (n : ℕ) (bs : List Block) (prices : ReservePrices) (long : length bs ≡ 4) where
+  abbrev c : Cell
+  c = cellWith l n bs prices
+
+  caps-are : c .caps ≡ map (λ b. b .cap) bs
+  caps-are = ap (map (λ (b : Block). b .cap)) (four bs noBlock long)
+
+  prices-are : c .prices ≡ map (λ b. b .price) bs
+  prices-are = ap (map (λ (b : Block). b .price)) (four bs noBlock long)
+
+  row-holds : cellPair (cellRow c) ≡ grouped (limitsIn l) (map blockIn (take n bs)) (eightPricesIn prices)
+  row-holds = ap₂ (λ (x : M.Cell) (y : M.CellPrices). (x, y)) (cell-stored c refl refl) (cell-prices-stored c refl refl)
+      ∙ ap₂ (λ (x : List ℕ) (y : List ℤ). (record { status = l .status; pmin = l .pmin .0; pmax = l .pmax .0; caps = x }, record { blocks = y; reserves = eightPricesIn prices }))
+      (ap (λ (x : List Kw). map (λ y. y .0) (take n x)) caps-are ∙ parts (λ b. b .cap) (λ x. x .0) blockIn (λ x. x .0) (λ b. refl) n bs)
+      (ap (λ (x : List ℕ). map (less priceOffset) (take n x)) prices-are ∙ parts (λ b. b .price) (less priceOffset) blockIn (λ x. x .1) (λ b. refl) n bs)
+
+  row-padded : n ≤ 4 → ((k : ℕ) → n ≤ k → k < 4 → getD bs k noBlock .cap .0 ≡ 0) → Padded (cellRow c)
+  row-padded few rest = cell-padded c refl refl few (λ k m o. ap (λ (x : List Kw). kwAt x k) caps-are ∙ ap (λ (x : Kw). x .0) (getD-map (λ (b : Block). b .cap) noBlock bs k) ∙ rest k m o)
+
+-- the eight, by name
+pub prices-told : (s : List ℕ) (p : Place) (w : Went) (v : List ℕ) {r : ReservePrices} → told w (reservesOf v) ≡ got reservePrices s p → r ≡ pricesOf v
+    → told w (eightPricesIn r) ≡ got reservePrices s p
+prices-told s p w v e t = ap (λ (x : ReservePrices). told w (eightPricesIn x)) t ∙ e
+
+-- ---- a cell, by how far its reading came
+
+module _ (e : ℕ) (s : List ℕ) (p : Place) (l : LimitsRead) (h : told (l .went) (limitsIn l) ≡ got limits s p) where
+  pub cell-no-limits : {w : Went} (c : Cell) {f : Fault} → l .went ≡ W.Off f → w ≡ l .went → CellDone e s p w c
+  cell-no-limits c t o = record {
+    is = told-off _ (o ∙ t) (cell-1 e s p (went-bad (limitsIn l) h t));
+    padded = λ q k. absurd (let z : _≡_ {A = ℕ} 0 1 = cc in omega (arith, z));
+  }
+
+  module _ {p₁ : Place} (t : l .went ≡ W.On p₁) (b : BlocksRead) (g : BlocksDone e s p₁ b) where
+    pub cell-no-blocks : {w : Went} (c : Cell) {f : Fault} → b .went ≡ W.Off f → w ≡ b .went → CellDone e s p w c
+    cell-no-blocks c k o = record {
+      is = told-off _ (o ∙ k) (cell-2 e s p (went-good (limitsIn l) h t) (went-bad _ (g .is) k));
+      padded = λ q m. absurd (let z : _≡_ {A = ℕ} 0 1 = cc in omega (arith, z));
+    }
+
+    pub cell-done : {p₂ : Place} {prices : ReservePrices} {w : Went} {c : Cell} → b .went ≡ W.On p₂ → told w (eightPricesIn prices) ≡ got reservePrices s p₂
+        → c ≡ cellWith l (b .count) (b .blocks) prices → CellDone e s p w c
+    cell-done {p₂} {prices} {w} k o m = rw m (record {
+      is = ap (told w) (row-holds l (b .count) (b .blocks) prices (g .long))
+          ∙ mapped prices-natural (grouped (limitsIn l) (map blockIn (take (b .count) (b .blocks)))) s p₂ w (eightPricesIn prices)
+          (cell-3 e s p (went-good (limitsIn l) h t) (went-good _ (g .is) k)) o;
+      padded = λ q n. let a = g .absent p₂ k in row-padded l (b .count) (b .blocks) prices (g .long) (a .few) (a .rest);
+    })
+
+-- ---- the cells
+
+-- i of n cells have been read, and stand in the first rows
+pub record Rowing (e : ℕ) (s : List ℕ) (n : ℕ) (start : Place) (i : ℕ) (cells : List (List ℕ)) (p : Place) : Type 0 where
+  pub long : length cells ≡ n
+  pub storing : Storing (cell e) cellPair s n start i cells p
+  pub padded : (k : ℕ) → k < i → Padded (getD cells k [])
+
+pub rowing-none : {e : ℕ} {s : List ℕ} {start : Place} {cells : List (List ℕ)} → Rowing e s (length cells) start 0 cells start
+rowing-none = record { long = refl; storing = storing-none (omega arith); padded = λ k h. absurd (omega arith) }
+
+module _ {e : ℕ} {s : List ℕ} {n : ℕ} {start : Place} {i : ℕ} {cells : List (List ℕ)} {p : Place} (u : Rowing e s n start i cells p) where
+  pub rowing-more : {w : Went} {c : Cell} {q : Place} {after : List (List ℕ)} → i < length cells → CellDone e s p w c → w ≡ W.On q
+      → after ≡ set cells i (cellRow c) → Rowing e s n start (i + 1) after q
+  rowing-more {c = c} {q = q} h g t a = rw a (record {
+    long = simp length-set (u .long);
+    storing = storing-more (u .storing) (cell-natural e) (omega (arith, u .long)) (went-good (cellPair (cellRow c)) (g .is) t);
+    padded = λ k l. elim (decLe (suc k) i) [
+      | yes m ↦ rw (getD-set-other cells i k (cellRow c) [] (λ z. omega (arith, z))) (u .padded k m)
+      | no m ↦ let z : k ≡ i = omega arith in rw (z, getD-set-same cells i (cellRow c) [] h) (g .padded q t)
+    ];
+  })
+
+  pub rowing-off : {w : Went} (c : Cell) {f : Fault} → i < length cells → CellDone e s p w c → w ≡ W.Off f → CellsDone e s start w cells
+  rowing-off c h g t = record {
+    is = told-off _ t (ap (λ (m : ℕ). got (list m (cell e)) s start) (u .long)
+        ∙ storing-off (u .storing) (cell-natural e) (omega (arith, u .long)) (went-bad (cellPair (cellRow c)) (g .is) t));
+    padded = λ q k. absurd (let z : _≡_ {A = ℕ} 0 1 = cc in omega (arith, z));
+  }
+
+  pub rowing-done : length cells ≤ i → CellsDone e s start (W.On p) cells
+  rowing-done h = record {
+    is = sym (ap (λ (m : ℕ). got (list m (cell e)) s start) (u .long) ∙ storing-done (u .storing) (omega (arith, u .long))
+        ∙ ap (λ (l : List (List ℕ)). good (map cellPair l) p) (take-all n cells (omega (arith, u .long))));
+    padded = λ q o k l. u .padded k (omega arith);
+  }

@@ -1,3 +1,0 @@
-pub mod BlockLoop
-pub mod CellSteps
-pub mod CellLoop

@@ -1,0 +1,4 @@
+pub mod Groups
+pub mod Fields
+pub mod Size
+pub mod Whole

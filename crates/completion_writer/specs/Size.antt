@@ -1,0 +1,160 @@
+-- The bits that a completion's parts take, and the bytes that it needs: its edition and its counts alone say how many.
+use mathlib.Core.Path.{_≡_, refl, _∙_, ap}
+use mathlib.Core.List.{List, [], _∷_, map}
+use Prim.Native.Nat.{ℕ, _+_, _*_, _≤_}
+use native.Mathlib.Omega.{arith}
+use native.Mathlib.Nat.{add-mul}
+use lib.IntN.{ℤ}
+use lib.ListN.{length, length-append, length-map}
+use Rattle.numbers.specs.Sum.{All, all, all-map, sumℕ}
+use Rattle.numbers.specs.Base.{upTo, gather}
+use Rattle.numbers.specs.Every.{length-range}
+use Rattle.layouts.specs.Layout.{bitsOf, bytes, bytesFor, nat, int, _then_, list, held, any}
+use Rattle.layouts.specs.Trip.{length-bits, length-bytes}
+use Rattle.model.specs.Case.{System, Six}
+use Rattle.model.specs.Completion.{Completion}
+use Rattle.model.specs.Editions as E
+use Rattle.model.specs.ByEdition as B
+use Rattle.model.specs.Forced.{intervals, devices, zones, device}
+use Rattle.model.specs.Judgement.{written, countsOf, energyWindows}
+use Rattle.model.specs.Messages as M
+use Rattle.model.specs.Messages.{Counts, DeviceChoice, IntervalChoice, Written}
+use Rattle.theorems.specs.Back.{FitsWritten}
+use Rattle.model.specs.Judgement.{completionIn}
+
+-- "kind 4 (3); edition 4; devices; intervals; zones 3"
+abbrev pub frontWidth : ℕ → ℕ
+frontWidth e = 4 + (4 + (E.deviceBits e + (E.intervalBits e + 3)))
+
+-- no edition has wider counts
+pub counts-few : (e : ℕ) → (E.deviceBits e ≤ 7) × (E.intervalBits e ≤ 7)
+counts-few e = omega arith
+
+-- "started 1, stopped 1, startup state 3, four block powers 17"
+abbrev pub deviceWidth : ℕ
+deviceWidth = 1 + (1 + (3 + 4 * 17))
+
+-- "six shortfalls in W .., 33 each"
+abbrev pub zoneWidth : ℕ
+zoneWidth = 6 * 33
+
+abbrev pub mismatchWidth : ℕ
+mismatchWidth = 23
+
+abbrev pub overrunWidth : ℕ
+overrunWidth = 32
+
+abbrev pub surplusWidth : ℕ
+surplusWidth = 64
+
+abbrev pub intervalWidth : ℕ → ℕ → ℕ → ℕ
+intervalWidth e devices zones = devices * deviceWidth + (zones * zoneWidth + mismatchWidth)
+
+abbrev pub completionWidth : ℕ → ℕ → ℕ → ℕ → ℕ → ℕ
+completionWidth e devices intervals zones windows = frontWidth e + (intervals * intervalWidth e devices zones + (windows * overrunWidth + surplusWidth))
+
+abbrev pub needed : ℕ → ℕ → ℕ → ℕ → ℕ → ℕ
+needed e devices intervals zones windows = bytesFor (completionWidth e devices intervals zones windows)
+
+-- ---- a completion's message has the shape of its counts
+
+pub record ShapedInterval (n : Counts) (r : IntervalChoice) : Type 0 where
+  pub each : length (r .devices) ≡ n .devices
+  pub four : All (λ d. length (d .blocks) ≡ 4) (r .devices)
+  pub every : length (r .zones) ≡ n .zones
+
+pub record Shaped (n : Counts) (windows : ℕ) (w : Written) : Type 0 where
+  pub length : length (w .intervals) ≡ n .intervals
+  pub each : All (ShapedInterval n) (w .intervals)
+  pub count : lib.ListN.length (w .overruns) ≡ windows
+
+-- what fits has it
+pub fits-shaped : (n : Counts) (windows : ℕ) (w : Written) → FitsWritten n windows w → Shaped n windows w
+fits-shaped n windows w f = record {
+  length = f .length;
+  each = all-map (λ r k. record { each = k .each; four = all-map (λ d j. j .four) (r .devices) (k .devices); every = k .every }) (w .intervals) (f .each);
+  count = f .count;
+}
+
+all-maps : {A B : Type 0} (P : B → Type 0) (f : A → B) → ((a : A) → P (f a)) → (xs : List A) → All P (map f xs)
+all-maps P f h [] = tt
+all-maps P f h (x ∷ xs) = (h x, all-maps P f h xs)
+
+maps-long : {A : Type 0} (f : ℕ → A) (n : ℕ) → length (map f (upTo n)) ≡ n
+maps-long f n = length-map (upTo n) f ∙ length-range 0 n
+
+overruns-long : (q : System) (x : Completion ℕ) (is : List ℕ)
+    → length (gather (λ i. map (x .overrun i) (upTo (length (device q i .energyWindows)))) is) ≡ sumℕ (λ i. length (device q i .energyWindows)) is
+unfolding gather
+overruns-long q x [] = refl
+overruns-long q x (i ∷ is) =
+    length-append (map (x .overrun i) (upTo (length (device q i .energyWindows)))) _
+    ∙ omega (arith, maps-long (x .overrun i) (length (device q i .energyWindows)), overruns-long q x is)
+
+-- the message of any choices has it
+pub written-shaped : (q : System) (x : Completion ℕ) (z : ℤ) → Shaped (countsOf q) (energyWindows q) (written q x z)
+unfolding written energyWindows
+written-shaped q x z = record {
+  length = maps-long _ _;
+  each = all-maps (ShapedInterval (countsOf q)) _
+      (λ t. record { each = maps-long _ _; four = all-maps (λ d. length (d .blocks) ≡ 4) _ (λ i. maps-long _ 4) (upTo (devices q)); every = maps-long _ _ }) (upTo _);
+  count = overruns-long q x (upTo (devices q));
+}
+
+-- ---- widths
+
+gather-wide : {A : Type 0} (f : A → List ℕ) (w : ℕ) (xs : List A) → All (λ x. length (f x) ≡ w) xs → length (gather f xs) ≡ length xs * w
+unfolding gather
+gather-wide f w [] h = omega arith
+gather-wide f w (x ∷ xs) h = omega (arith, length-append (f x) (gather f xs), h .0, gather-wide f w xs (h .1), add-mul 1 (length xs) w)
+
+pub device-wide : (d : DeviceChoice) → length (d .blocks) ≡ 4 → length (M.deviceChoice .write d) ≡ deviceWidth
+unfolding M.deviceChoice held _then_ nat list
+device-wide d h =
+    simp (length-append, length-bits) (omega (arith, h, gather-wide (bitsOf 17) 17 (d .blocks) (all (λ v. length-bits 17 v) (d .blocks))))
+
+pub six-wide : (s : Six) → length (M.six (any 33) .write s) ≡ zoneWidth
+unfolding M.six held _then_ nat
+six-wide s = simp (length-append, length-bits)
+
+pub front-wide : (e : ℕ) (n m : Counts) → length (B.completionFront e n .write m) ≡ frontWidth e
+unfolding B.completionFront held _then_ nat
+front-wide e n m = simp (length-append, length-bits)
+
+pub interval-wide : (e : ℕ) (n : Counts) (r : IntervalChoice) → ShapedInterval n r → length (B.intervalChoice e (n .devices) (n .zones) .write r) ≡ intervalWidth e (n .devices) (n .zones)
+unfolding M.intervalChoice held _then_ list nat
+interval-wide e n r s = simp (length-append, length-bits) (omega (
+  arith,
+  gather-wide (M.deviceChoice .write) deviceWidth (r .devices) (all-map (λ d h. device-wide d h) (r .devices) (s .four)),
+  gather-wide (M.six (any 33) .write) zoneWidth (r .zones) (all six-wide (r .zones)),
+  s .each,
+  s .every,
+))
+
+pub completion-wide : (e : ℕ) (n : Counts) (windows : ℕ) (w : Written) → Shaped n windows w
+    → length (B.completionLayout e n windows .write w) ≡ completionWidth e (n .devices) (n .intervals) (n .zones) windows
+unfolding B.completionLayout held _then_ list nat int
+completion-wide e n windows w s =
+    let i : length (gather (B.intervalChoice e (n .devices) (n .zones) .write) (w .intervals)) ≡ n .intervals * intervalWidth e (n .devices) (n .zones) =
+    gather-wide (B.intervalChoice e (n .devices) (n .zones) .write) (intervalWidth e (n .devices) (n .zones)) (w .intervals) (all-map (λ r h. interval-wide e n r h) (w .intervals) (s .each))
+    ∙ ap (λ (k : ℕ). k * intervalWidth e (n .devices) (n .zones)) (s .length) in
+    simp (length-append, length-bits) (omega (
+      arith,
+      i,
+      front-wide e n n,
+      gather-wide (bitsOf 32) 32 (w .overruns) (all (λ v. length-bits 32 v) (w .overruns)),
+      s .count,
+    ))
+
+-- the bytes that a completion of this shape takes
+pub bytes-wide : (e : ℕ) (n : Counts) (windows : ℕ) (w : Written) → Shaped n windows w
+    → length (bytes (B.completionLayout e n windows .write w)) ≡ needed e (n .devices) (n .intervals) (n .zones) windows
+bytes-wide e n windows w s = length-bytes (B.completionLayout e n windows .write w) ∙ ap bytesFor (completion-wide e n windows w s)
+
+-- a buffer of as many bytes has room for its bits
+pub needed-room : (e devices intervals zones windows room : ℕ) → needed e devices intervals zones windows ≤ room → completionWidth e devices intervals zones windows ≤ 8 * room
+needed-room e devices intervals zones windows room h = omega arith
+
+-- the bytes that the completions of a case's plans take
+pub written-needed : (e : ℕ) (q : System) (x : Completion ℕ) (z : ℤ) → length (bytes (completionIn e q .write (written q x z))) ≡ needed e (devices q) (intervals q) (zones q) (energyWindows q)
+written-needed e q x z = bytes-wide e (countsOf q) (energyWindows q) (written q x z) (written-shaped q x z)

@@ -1,0 +1,230 @@
+-- A completion's message as runs of writes: what loops over intervals, devices, zones and windows write.
+use mathlib.Core.Path.{_≡_, refl, sym, _∙_, ap}
+use mathlib.Core.List.{List, [], _∷_, _++_, map, append-assoc, append-nil}
+use Prim.Native.Nat.{ℕ, zero, suc, _+_, _-_, _*_, _^_, _≤_, _<_}
+use native.Mathlib.Omega.{arith}
+use native.Mathlib.Numerals.{add-one}
+use native.Mathlib.Nat.{zero-add, suc-add}
+use lib.IntN.{ℤ}
+use lib.ListN.{length, drop}
+use Rattle.numbers.specs.Sum.{sumℕ}
+use Rattle.numbers.specs.Base.{range, upTo, gather}
+use Rattle.layouts.specs.Layout.{bytes, int, _then_, list, held, any}
+use Rattle.units.specs.declared.Kw.{Kw}
+use Rattle.units.specs.declared.Watts.{Watts}
+use Rattle.units.specs.Units.{kw, watts}
+use Rattle.model.specs.Case.{System, Six}
+use Rattle.model.specs.Forced.{intervals, devices, zones, device}
+use Rattle.model.specs.Rules.{blocks}
+use Rattle.model.specs.Completion.{Completion, shortfalls, rgu, rgd, scr, nsc, rru, rrd}
+use Rattle.model.specs.Messages as M
+use Rattle.model.specs.Messages.{six, DeviceChoice, IntervalChoice}
+use Rattle.model.specs.ByEdition as B
+use Rattle.model.specs.ByEdition.{completionFront, deviceChoice}
+use Rattle.model.specs.Judgement.{written, countsOf, energyWindows}
+use Rattle.model.specs.Judgement.{completionIn}
+use Rattle.pen.specs.declared.Pen.{Pen}
+use Rattle.pen.specs.Pens.{Ready, Pushes, Finishes, pushes-then}
+use Rattle.pen.specs.Runs.{run, fresh, Room, pushes-as, pushes-whole, run-none, run-more}
+use Rattle.completion_writer.specs.Fields.{choiceIn, sixOf}
+use Rattle.completion_writer.specs.Size.{frontWidth, deviceWidth, zoneWidth, mismatchWidth, overrunWidth, surplusWidth, intervalWidth, needed}
+
+-- ---- lists written one element behind the other
+
+range-last : (k n : ℕ) → range k (suc n) ≡ range k n ++ ((k + n) ∷ [])
+unfolding range
+range-last k zero = let e : k + 0 ≡ k = omega arith in rw e refl
+range-last k (suc n) = let e : suc k + n ≡ k + suc n = omega arith in ap (λ (l : List ℕ). k ∷ l) (range-last (suc k) n ∙ rw e refl)
+
+upTo-last : (n : ℕ) → upTo (suc n) ≡ upTo n ++ (n ∷ [])
+upTo-last n = let e : 0 + n ≡ n = omega arith in range-last 0 n ∙ rw e refl
+
+gather-append : {A : Type 0} (g : A → List ℕ) (xs ys : List A) → gather g (xs ++ ys) ≡ gather g xs ++ gather g ys
+unfolding gather
+gather-append g [] ys = refl
+gather-append g (x ∷ xs) ys = ap (λ (l : List ℕ). g x ++ l) (gather-append g xs ys) ∙ sym (append-assoc (g x) (gather g xs) (gather g ys))
+
+gather-upTo : (g : ℕ → List ℕ) (n : ℕ) → gather g (upTo n) ≡ run g n
+unfolding run range gather
+gather-upTo g zero = refl
+gather-upTo g (suc n) = ap (gather g) (upTo-last n) ∙ (gather-append g (upTo n) (n ∷ []) ∙ rw (gather-upTo g n, append-nil (g n)) refl)
+
+gather-maps : {A : Type 0} (g : A → List ℕ) (f : ℕ → A) (ks : List ℕ) → gather g (map f ks) ≡ gather (λ k. g (f k)) ks
+unfolding gather
+gather-maps g f [] = refl
+gather-maps g f (k ∷ ks) = ap (λ (l : List ℕ). g (f k) ++ l) (gather-maps g f ks)
+
+pub gather-map : {A : Type 0} (g : A → List ℕ) (f : ℕ → A) (n : ℕ) → gather g (map f (upTo n)) ≡ run (λ k. g (f k)) n
+gather-map g f n = gather-maps g f (upTo n) ∙ gather-upTo (λ k. g (f k)) n
+
+gather-gather : {A : Type 0} (g : A → List ℕ) (f : ℕ → List A) (is : List ℕ) → gather g (gather f is) ≡ gather (λ i. gather g (f i)) is
+unfolding gather
+gather-gather g f [] = refl
+gather-gather g f (i ∷ is) = gather-append g (f i) (gather f is) ∙ ap (λ (l : List ℕ). gather g (f i) ++ l) (gather-gather g f is)
+
+run-same : (f g : ℕ → List ℕ) → ((k : ℕ) → f k ≡ g k) → (n : ℕ) → run f n ≡ run g n
+unfolding run
+run-same f g h zero = refl
+run-same f g h (suc n) = rw (run-same f g h n, h n) refl
+
+-- ---- a completion's parts
+
+abbrev pub deviceAt : Completion ℕ → ℕ → ℕ → DeviceChoice
+deviceAt x t i = record { started = x .started t i; stopped = x .stopped t i; state = x .state t i; blocks = map (x .block t i) blocks }
+
+abbrev pub sixAt : Completion ℕ → ℕ → ℕ → Six
+sixAt x t z = record { rgu = x .shortfall t z rgu; rgd = x .shortfall t z rgd; scr = x .shortfall t z scr; nsc = x .shortfall t z nsc; rru = x .shortfall t z rru; rrd = x .shortfall t z rrd }
+
+abbrev pub deviceBits : Completion ℕ → ℕ → ℕ → List ℕ
+deviceBits x t i = deviceChoice .write (deviceAt x t i)
+
+abbrev pub zoneBits : Completion ℕ → ℕ → ℕ → List ℕ
+zoneBits x t z = six (any 33) .write (sixAt x t z)
+
+unfoldable pub intervalBits : ℕ → System → Completion ℕ → ℕ → List ℕ
+intervalBits e q x t = run (deviceBits x t) (devices q) ++ (run (zoneBits x t) (zones q) ++ any 23 .write (x .mismatch t))
+
+abbrev pub windowsOf : System → ℕ → ℕ
+windowsOf q i = length (device q i .energyWindows)
+
+unfoldable pub overrunBits : System → Completion ℕ → ℕ → List ℕ
+overrunBits q x i = run (λ k. any 32 .write (x .overrun i k)) (windowsOf q i)
+
+unfoldable pub completionBits : ℕ → System → Completion ℕ → ℤ → List ℕ
+completionBits e q x s =
+    completionFront e (countsOf q) .write (countsOf q) ++ (run (intervalBits e q x) (intervals q) ++ (run (overrunBits q x) (devices q) ++ int 64 (2 ^ 63) .write s))
+
+-- a device's part from the code's choices, and a zone's from the code's shortfalls
+pub choice-at : (x : Completion ℕ) (t i : ℕ) {a b s : ℕ} {l : List Kw} → a ≡ x .started t i → b ≡ x .stopped t i → s ≡ x .state t i → l ≡ map (λ k. kw (x .block t i k)) blocks
+    → choiceIn a b s l ≡ deviceAt x t i
+unfolding range
+choice-at x t i ha hb hs hl = rw (ha, hb, hs, hl) refl
+
+pub six-at : (x : Completion ℕ) (t z : ℕ) {l : List Watts} → l ≡ map (λ k. watts (x .shortfall t z k)) shortfalls → sixOf l ≡ sixAt x t z
+six-at x t z h = rw h refl
+
+-- ---- the message is these runs
+
+module _ (e : ℕ) (q : System) (x : Completion ℕ) where
+  abbrev intervalAt : ℕ → IntervalChoice
+  intervalAt t = record { devices = map (deviceAt x t) (upTo (devices q)); zones = map (sixAt x t) (upTo (zones q)); mismatch = x .mismatch t }
+
+  pub interval-is : (t : ℕ) → B.intervalChoice e (devices q) (zones q) .write (intervalAt t) ≡ intervalBits e q x t
+  unfolding M.intervalChoice held _then_ list intervalBits
+  interval-is t = rw (gather-map (deviceChoice .write) (deviceAt x t) (devices q), gather-map (six (any 33) .write) (sixAt x t) (zones q)) refl
+
+  overruns-are : gather (any 32 .write) (gather (λ i. map (x .overrun i) (upTo (windowsOf q i))) (upTo (devices q))) ≡ run (overrunBits q x) (devices q)
+  unfolding overrunBits
+  overruns-are =
+      gather-gather (any 32 .write) (λ i. map (x .overrun i) (upTo (windowsOf q i))) (upTo (devices q))
+      ∙ (gather-upTo _ (devices q) ∙ run-same _ (overrunBits q x) (λ i. gather-map (any 32 .write) (x .overrun i) (windowsOf q i)) (devices q))
+
+  pub completion-is : (s : ℤ) → completionIn e q .write (written q x s) ≡ completionBits e q x s
+  unfolding B.completionLayout written held _then_ list completionBits
+  completion-is s =
+      rw (
+        gather-map (B.intervalChoice e (devices q) (zones q) .write) intervalAt (intervals q) ∙ run-same _ (intervalBits e q x) interval-is (intervals q),
+        overruns-are,
+      )
+      refl
+
+  -- an interval's devices, zones and mismatch
+  pub interval-pushes : (t : ℕ) {a b c d : List ℕ} {p l m n : Pen}
+      → Pushes (devices q * deviceWidth) (run (deviceBits x t) (devices q)) a b p l
+      → Pushes (zones q * zoneWidth) (run (zoneBits x t) (zones q)) b c l m
+      → Pushes mismatchWidth (any 23 .write (x .mismatch t)) c d m n
+      → Pushes (intervalWidth e (devices q) (zones q)) (intervalBits e q x t) a d p n
+  unfolding intervalBits
+  interval-pushes t i j k = pushes-then i (pushes-then j k)
+
+  -- the whole: "exactly the completion's bytes, the rest of the buffer unchanged"
+  pub completion-pushes : (s : ℤ) {u v w y : ℕ} {a b c d f g : List ℕ} {l m n o : Pen}
+      → Pushes u (completionFront e (countsOf q) .write (countsOf q)) a b fresh l
+      → Pushes v (run (intervalBits e q x) (intervals q)) b c l m
+      → Pushes w (run (overrunBits q x) (devices q)) c d m n
+      → Pushes y (int 64 (2 ^ 63) .write s) d f n o
+      → Finishes f g o
+      → g ≡ bytes (completionIn e q .write (written q x s)) ++ drop (length (bytes (completionIn e q .write (written q x s)))) a
+  unfolding completionBits
+  completion-pushes s h i j k z = pushes-whole (pushes-as (sym (completion-is s)) refl (pushes-then h (pushes-then i (pushes-then j k)))) z
+
+-- ---- energy windows
+
+-- those of the devices before the i-th
+unfoldable pub windowsTo : System → ℕ → ℕ
+windowsTo q i = sumℕ (windowsOf q) (upTo i)
+
+pub windows-none : (q : System) → windowsTo q 0 ≡ 0
+unfolding windowsTo range
+windows-none q = refl
+
+sum-append : (f : ℕ → ℕ) (xs ys : List ℕ) → sumℕ f (xs ++ ys) ≡ sumℕ f xs + sumℕ f ys
+sum-append f [] ys = omega arith
+sum-append f (x ∷ xs) ys = omega (arith, sum-append f xs ys)
+
+windows-suc : (q : System) (i : ℕ) → windowsTo q (suc i) ≡ windowsTo q i + windowsOf q i
+unfolding windowsTo
+windows-suc q i = ap (sumℕ (windowsOf q)) (upTo-last i) ∙ (sum-append (windowsOf q) (upTo i) (i ∷ []) ∙ omega arith)
+
+pub windows-more : (q : System) (i : ℕ) → windowsTo q (i + 1) ≡ windowsTo q i + windowsOf q i
+windows-more q i = ap (windowsTo q) (add-one i) ∙ windows-suc q i
+
+pub windows-all : (q : System) → windowsTo q (devices q) ≡ energyWindows q
+unfolding windowsTo energyWindows
+windows-all q = refl
+
+windows-up : (q : System) (i k : ℕ) → windowsTo q i ≤ windowsTo q (k + i)
+windows-up q i zero = omega (arith, ap (windowsTo q) (zero-add i))
+windows-up q i (suc k) = omega (arith, windows-up q i k, ap (windowsTo q) (suc-add k i), windows-suc q (k + i))
+
+pub windows-within : (q : System) (i : ℕ) → i < devices q → windowsTo q i + windowsOf q i ≤ energyWindows q
+windows-within q i h =
+    let e : devices q - suc i + suc i ≡ devices q = omega arith in
+    omega (arith, windows-suc q i, windows-up q (suc i) (devices q - suc i), ap (windowsTo q) e, windows-all q)
+
+-- ---- the overruns of devices: none, one device's more, all
+
+module _ (q : System) (x : Completion ℕ) where
+  pub overruns-none : (buffer : List ℕ) (p : Pen) → Ready p → Pushes (windowsTo q 0 * overrunWidth) (run (overrunBits q x) 0) buffer buffer p p
+  overruns-none buffer p h = pushes-as refl (omega (arith, windows-none q)) (run-none (overrunBits q x) buffer p h)
+
+  pub overruns-more : (i : ℕ) {a b c : List ℕ} {p m n : Pen}
+      → Pushes (windowsTo q i * overrunWidth) (run (overrunBits q x) i) a b p m
+      → Pushes (windowsOf q i * overrunWidth) (overrunBits q x i) b c m n
+      → Pushes (windowsTo q (i + 1) * overrunWidth) (run (overrunBits q x) (i + 1)) a c p n
+  overruns-more i h r = pushes-as refl (omega (arith, windows-more q i)) (run-more (overrunBits q x) i h r)
+
+  pub overruns-done : (k : ℕ) {a b : List ℕ} {p m : Pen} → k ≤ devices q → devices q ≤ k
+      → Pushes (windowsTo q k * overrunWidth) (run (overrunBits q x) k) a b p m
+      → Pushes (energyWindows q * overrunWidth) (run (overrunBits q x) (devices q)) a b p m
+  overruns-done k h l r = let e : k ≡ devices q = omega arith in pushes-as (ap (run (overrunBits q x)) e) (ap (λ (n : ℕ). n * overrunWidth) (ap (windowsTo q) e ∙ windows-all q)) r
+
+  -- where all fit, one device's fit behind those of the devices before it
+  pub overruns-room : (i : ℕ) {xs a b : List ℕ} {p m : Pen} → i < devices q → Pushes (windowsTo q i * overrunWidth) xs a b p m
+      → Room a p (energyWindows q * overrunWidth) → Room b m (windowsOf q i * overrunWidth)
+  overruns-room i h r o = omega (arith, r .moved, r .long, windows-within q i h)
+
+-- ---- where the bytes needed fit a buffer, each part fits behind those before it
+
+module _ (e d z : ℕ) where
+  pub zones-room : {xs a b : List ℕ} {p m : Pen} → Pushes (d * deviceWidth) xs a b p m → Room a p (intervalWidth e d z) → Room b m (z * zoneWidth)
+  zones-room h r = omega (arith, h .moved, h .long)
+
+  pub mismatch-room : {xs ys a b c : List ℕ} {p m n : Pen} → Pushes (d * deviceWidth) xs a b p m → Pushes (z * zoneWidth) ys b c m n
+      → Room a p (intervalWidth e d z) → Room c n mismatchWidth
+  mismatch-room h i r = omega (arith, h .moved, h .long, i .moved, i .long)
+
+  module _ (i w : ℕ) (a : List ℕ) (r : needed e d i z w ≤ length a) where
+    pub front-room : Room a fresh (frontWidth e)
+    front-room = omega arith
+
+    module _ {xs b : List ℕ} {l : Pen} (f : Pushes (frontWidth e) xs a b fresh l) where
+      pub intervals-room : Room b l (i * intervalWidth e d z)
+      intervals-room = omega (arith, f .moved, f .long)
+
+      module _ {ys c : List ℕ} {m : Pen} (g : Pushes (i * intervalWidth e d z) ys b c l m) where
+        pub windows-room : Room c m (w * overrunWidth)
+        windows-room = omega (arith, f .moved, f .long, g .moved, g .long)
+
+        pub surplus-room : {zs k : List ℕ} {n : Pen} → Pushes (w * overrunWidth) zs c k m n → Room k n surplusWidth
+        surplus-room h = omega (arith, f .moved, f .long, g .moved, g .long, h .moved, h .long)

@@ -1,0 +1,5 @@
+pub mod Windows
+pub mod Fits
+pub mod Advances
+pub mod Steps
+pub mod Whole

@@ -1,0 +1,51 @@
+-- The counts that the bytes of a completion are computed from.
+use mathlib.Core.Path.{_≡_, refl}
+use mathlib.Core.List.{List}
+use Prim.Native.Nat.{ℕ, _+_, _*_, _≤_, _<_}
+use native.Mathlib.Omega.{arith}
+use lib.ListN.{length}
+use Rattle.numbers.specs.Sum.{sumℕ}
+use Rattle.numbers.specs.Base.{range, upTo}
+use Rattle.records.specs.declared.Front.{Front}
+use Rattle.records.specs.Figures.{deviceAt, energiesAt}
+use Rattle.records.specs.Sums.{sum-next}
+use Rattle.records.specs.Views.{mostDevices, mostIntervals, Counted, CaseRows}
+use Rattle.money.specs.Bounds.{zonesMost, windowsMost}
+
+pub record Few (halves : List ℕ) (zones devices : List (List ℕ)) : Type 0 where
+  pub few-devices : length devices ≤ mostDevices
+  pub few-intervals : length halves ≤ mostIntervals
+  pub few-zones : length zones ≤ zonesMost
+  pub counted : (i : ℕ) → i < length devices → Counted (deviceAt devices i)
+
+pub few-of : {front : Front} {halves : List ℕ} {zones minima devices cells : List (List ℕ)} → CaseRows front halves zones minima devices cells → Few halves zones devices
+few-of known = record { few-devices = known .few-devices; few-intervals = known .few-intervals; few-zones = known .few-zones; counted = known .counted }
+
+-- few devices with few energy windows each
+pub record FewWindows (devices : List (List ℕ)) : Type 0 where
+  pub few : length devices ≤ mostDevices
+  pub each : (i : ℕ) → i < length devices → energiesAt devices i ≤ windowsMost
+
+pub few-windows : {halves : List ℕ} {zones devices : List (List ℕ)} → Few halves zones devices → FewWindows devices
+few-windows f = record { few = f .few-devices; each = λ i l. f .counted i l .few-energies }
+
+-- the energy windows of the first n devices
+unfoldable pub windowsUpTo : List (List ℕ) → ℕ → ℕ
+windowsUpTo devices n = sumℕ (energiesAt devices) (upTo n)
+
+-- what the loop over the devices has
+pub record CountedTo (devices : List (List ℕ)) (i n : ℕ) : Type 0 where
+  pub is : n ≡ windowsUpTo devices i
+  pub small : n ≤ i * windowsMost
+
+module _ (devices : List (List ℕ)) where
+  pub count-none : CountedTo devices 0 0
+  unfolding windowsUpTo range
+  count-none = record { is = refl; small = omega arith }
+
+  pub count-next : (i : ℕ) {n m : ℕ} → CountedTo devices i n → m ≡ energiesAt devices i → energiesAt devices i ≤ windowsMost → CountedTo devices (i + 1) (n + m)
+  unfolding windowsUpTo
+  count-next i h e l = record { is = sum-next (energiesAt devices) i (h .is) e; small = omega (arith, h .small) }
+
+  pub count-done : (i k : ℕ) {n : ℕ} → i ≤ k → k ≤ i → CountedTo devices i n → CountedTo devices k n
+  count-done i k h l c = let e : i ≡ k = omega arith in rw e at c

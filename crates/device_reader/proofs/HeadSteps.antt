@@ -1,0 +1,176 @@
+-- What stands ahead of a device's intervals, from the parts that the code reads: side and zone bits, single figures, three lists.
+use mathlib.Core.Path.{_≡_, refl, ap, sym, _∙_}
+use mathlib.Core.List.{List, [], _∷_, map, map-map}
+use Prim.Native.Nat.{ℕ, zero, suc}
+use native.Mathlib.Omega.{arith}
+use lib.IntN.{ℤ}
+use lib.ListN.{length, getD, take}
+use Rattle.layouts.specs.declared.Fault.{Fault}
+use Rattle.layouts.specs.declared.Place.{Place}
+use Rattle.layouts.specs.Layout.{Layout, _then_, _▸_, held}
+use Rattle.model.specs.Case as M
+use Rattle.model.specs.Messages.{head, costs, ramps, zoneBits, apart, eight, kW}
+use Rattle.units.specs.declared.Kw.{Kw}
+use Rattle.units.specs.declared.Grains.{Grains}
+use Rattle.records.specs.declared.State.{State}
+use Rattle.records.specs.declared.StartWindow.{StartWindow}
+use Rattle.records.specs.declared.EnergyWindow.{EnergyWindow}
+use Rattle.records.specs.declared.Device.{Device}
+use Rattle.records.specs.Views.{less, costOffset, startIn, energyIn}
+use Rattle.fields.specs.declared.Went.{Went}
+use Rattle.fields.specs.declared.Went.the-variants as W
+use Rattle.fields.specs.Got.{good, bad, got, told, Natural, nat-natural, then-natural, such-natural, mapped, told-off, goes-off}
+use Rattle.fields.specs.Each.{each, eachRead, row, row-natural, counted-natural}
+use Rattle.fields.proofs.Steps.{eight-natural}
+use Rattle.device_reader.specs.declared.Item.{Item}
+use Rattle.device_reader.specs.declared.Listed.{Listed}
+use Rattle.device_reader.specs.declared.Listed.the-variants.{States, Starts, Energies}
+use Rattle.device_reader.specs.declared.SidesRead.{SidesRead}
+use Rattle.device_reader.specs.declared.FiguresRead.{FiguresRead}
+use Rattle.device_reader.specs.declared.ItemsRead.{ItemsRead}
+use Rattle.device_reader.specs.Items.{itemIn, items, itemsIn, fours, stateFrom, startFrom, energyFrom, ItemsDone, EnergiesMade}
+use Rattle.device_reader.specs.Parts.{Figures, sides, initialRow, rampRow, costRow, figures, figuresIn, MoneyMade, limitsFrom, deviceWith, deviceFrom, DeviceMade}
+use Rattle.device_reader.specs.Heads.{Ahead, ahead, aheadOf, HeadDone}
+use Rattle.device_reader.specs.Devices.{item-natural}
+
+-- ---- the parts
+
+pub sides-natural : (zones : ℕ) → Natural (sides zones)
+unfolding zoneBits
+sides-natural zones = then-natural (nat-natural _) (λ a. such-natural _ (nat-natural _))
+
+pub costs-natural : Natural (row costRow 3 ▸ eight kW)
+costs-natural = then-natural (row-natural costRow 3) (λ a. eight-natural (nat-natural _))
+
+pub ramps-natural : Natural (row rampRow 4 ▸ row costRow 3 ▸ eight kW)
+ramps-natural = then-natural (row-natural rampRow 4) (λ a. costs-natural)
+
+pub figures-natural : Natural figures
+figures-natural = then-natural (row-natural initialRow 5) (λ a. ramps-natural)
+
+abbrev Lists : Type 0
+Lists = List (ℕ × ℤ) × (List M.StartWindow × List M.EnergyWindow)
+
+abbrev lists : ℕ → ℕ → Layout Lists
+lists e last = items States e last ▸ items Starts e last ▸ items Energies e last
+
+abbrev Parts : Type 0
+Parts = (ℕ × ℕ) × (Figures × Lists)
+
+abbrev parts : ℕ → ℕ → ℕ → Layout Parts
+parts e zones last = sides zones ▸ figures ▸ lists e last
+
+module _ (e last : ℕ) where
+  pub items-natural : (k : Listed) → Natural (items k e last)
+  items-natural k = counted-natural _ (item-natural k e last)
+
+  pub windows-natural : Natural (items Starts e last ▸ items Energies e last)
+  windows-natural = then-natural (items-natural Starts) (λ a. items-natural Energies)
+
+  pub lists-natural : Natural (lists e last)
+  lists-natural = then-natural (items-natural States) (λ a. windows-natural)
+
+  pub rest-natural : Natural (figures ▸ lists e last)
+  rest-natural = then-natural figures-natural (λ a. lists-natural)
+
+  parts-natural : (zones : ℕ) → Natural (parts e zones last)
+  parts-natural zones = then-natural (sides-natural zones) (λ a. rest-natural)
+
+-- ---- as what stands ahead
+
+abbrev aheadWith : ℕ × ℕ → Figures → List ℕ → List ℤ → List M.StartWindow → List M.EnergyWindow → Ahead
+aheadWith x f longest costs starts energies = (
+  record {
+    side = x .0;
+    zoneBits = x .1;
+    on0 = getD (f .0) 0 0;
+    power0 = getD (f .0) 1 0;
+    minutes0 = getD (f .0) 2 0;
+    minUp = getD (f .0) 3 0;
+    minDown = getD (f .0) 4 0;
+    ramps = record { up = getD (f .1 .0) 0 0; down = getD (f .1 .0) 1 0; starting = getD (f .1 .0) 2 0; stopping = getD (f .1 .0) 3 0 };
+  },
+  (record { on = getD (f .1 .1 .0) 0 0; start = getD (f .1 .1 .0) 1 0; stop = getD (f .1 .1 .0) 2 0 }, (f .1 .1 .1, ((longest, costs), (starts, energies)))),
+)
+
+abbrev aheadFrom : Parts → Ahead
+aheadFrom v = aheadWith (v .0) (v .1 .0) (map (λ s. s .0) (v .1 .1 .0)) (map (λ s. s .1) (v .1 .1 .0)) (v .1 .1 .1 .0) (v .1 .1 .1 .1)
+
+ahead-is : (e zones last : ℕ) (s : List ℕ) (p : Place) → got (ahead e zones last) s p ≡ parts e zones last .read s p bad (λ v q. good (aheadFrom v) q)
+unfolding head costs ramps apart held _then_ each eachRead
+ahead-is e zones last s p = refl
+
+-- four records, made of four items
+four-items : {B : Type 0} (f : Item → B) (l : List Item) → length l ≡ 4 → fours f l ≡ map f l
+four-items f [] h = absurd (omega arith)
+four-items f (a ∷ []) h = absurd (omega arith)
+four-items f (a ∷ b ∷ []) h = absurd (omega arith)
+four-items f (a ∷ b ∷ c ∷ []) h = absurd (omega arith)
+four-items f (a ∷ b ∷ c ∷ d ∷ []) h = refl
+four-items f (a ∷ b ∷ c ∷ d ∷ g ∷ l) h = absurd (omega arith)
+
+firsts-made : {A B : Type 0} (f : A → B) (n : ℕ) (l : List A) → take n (map f l) ≡ map f (take n l)
+firsts-made f zero l = refl
+firsts-made f (suc n) [] = refl
+firsts-made {B = B} f (suc n) (x ∷ l) = ap (λ (r : List B). f x ∷ r) (firsts-made f n l)
+
+seen : {A B : Type 0} (view : B → A) (f : Item → B) (n : ℕ) (l : List Item) → length l ≡ 4 → map view (take n (fours f l)) ≡ map (λ x. view (f x)) (take n l)
+seen {B = B} view f n l h = ap (λ (r : List B). map view (take n r)) (four-items f l h) ∙ ap (map view) (firsts-made f n l) ∙ map-map view f (take n l)
+
+with-same : (x : ℕ × ℕ) (f : Figures) {a a′ : List ℕ} {b b′ : List ℤ} {c c′ : List M.StartWindow} {d d′ : List M.EnergyWindow}
+    → a ≡ a′ → b ≡ b′ → c ≡ c′ → d ≡ d′ → aheadWith x f a b c d ≡ aheadWith x f a′ b′ c′ d′
+with-same x f h i j k = rw (h, i, j, k) refl
+
+-- what the parts that were read say
+abbrev pub partsIn : SidesRead → FiguresRead → ItemsRead → ItemsRead → ItemsRead → Parts
+partsIn x f a b c = ((x .side, x .zonebits), (figuresIn f, (itemsIn States a, (itemsIn Starts b, itemsIn Energies c))))
+
+device-seen : (x : SidesRead) (f : FiguresRead) (a b c : ItemsRead) → length (a .items) ≡ 4 → length (b .items) ≡ 4 → length (c .items) ≡ 4
+    → aheadOf (deviceFrom x f a b c) ≡ aheadFrom (partsIn x f a b c)
+device-seen x f a b c h i j =
+    let l = take (a .count) (a .items) in
+    with-same (x .side, x .zonebits) (figuresIn f)
+    (seen (λ s. s .longest) stateFrom (a .count) (a .items) h ∙ sym (map-map (λ (s : ℕ × ℤ). s .0) (itemIn States) l))
+    (seen (λ s. less costOffset (s .cost)) stateFrom (a .count) (a .items) h ∙ sym (map-map (λ (s : ℕ × ℤ). s .1) (itemIn States) l))
+    (seen startIn startFrom (b .count) (b .items) i)
+    (seen energyIn energyFrom (c .count) (c .items) j)
+
+-- ---- the answers
+
+pub device-made : (x : SidesRead) (f : FiguresRead) (a b c : ItemsRead) {g h : Grains} {limits : List Kw} {states : List State} {starts : List StartWindow} {energies : List EnergyWindow}
+    → MoneyMade (getD (f .costs) 1 0) g → MoneyMade (getD (f .costs) 2 0) h → limits ≡ limitsFrom (f .limits)
+    → states ≡ fours stateFrom (a .items) → starts ≡ fours startFrom (b .items) → EnergiesMade (c .items) energies
+    → DeviceMade x f a b c (deviceWith x f g h limits (a .count) states (b .count) starts (c .count) energies)
+device-made x f a b c m n l s t e = record {
+  is = rw (m .is, n .is, l, s, t, e .is) refl;
+  startcost = m .small;
+  stopcost = n .small;
+  small = e .small;
+}
+
+module _ (e zones last : ℕ) (s : List ℕ) (p : Place) where
+  pub head-none : (d : Device) {w v : Went} {f : Fault} → v ≡ W.Off f → w ≡ v → got (parts e zones last) s p ≡ bad f → HeadDone e s p zones last w d
+  head-none d t o h = record {
+    is = told-off (aheadOf d) (o ∙ t) (ahead-is e zones last s p ∙ goes-off (parts-natural e last zones) s p bad _ h);
+    counted = λ q k. absurd (let z : _≡_ {A = ℕ} 0 1 = cc in omega (arith, z));
+    small = λ q k. absurd (let z : _≡_ {A = ℕ} 0 1 = cc in omega (arith, z));
+    long = λ q k. absurd (let z : _≡_ {A = ℕ} 0 1 = cc in omega (arith, z));
+  }
+
+  module _ (x : SidesRead) (f : FiguresRead) (a b c : ItemsRead) {q₁ q₂ q₃ : Place}
+      (h : ItemsDone States e last s q₁ a) (i : ItemsDone Starts e last s q₂ b) (j : ItemsDone Energies e last s q₃ c) where
+    pub head-done : {d : Device} → told (c .went) (partsIn x f a b c) ≡ got (parts e zones last) s p → DeviceMade x f a b c d → HeadDone e s p zones last (c .went) d
+    head-done {d} t m = let k = m .is in record {
+      is = ap (λ (d : Device). told (c .went) (aheadOf d)) k ∙ ap (λ (v : Ahead). told (c .went) v) (device-seen x f a b c (h .long) (i .long) (j .long))
+          ∙ mapped (parts-natural e last zones) aheadFrom s p (c .went) (partsIn x f a b c) (ahead-is e zones last s p) t;
+      counted = λ q o. rw k (record { few-states = h .few; few-starts = i .few; few-energies = j .few });
+      small = λ q o. record {
+        startcost = m .startcost;
+        stopcost = m .stopcost;
+        nstates = omega (arith, ap (λ (d : Device). d .nstates) k, h .few);
+        nstarts = omega (arith, ap (λ (d : Device). d .nstarts) k, i .few);
+        nenergies = omega (arith, ap (λ (d : Device). d .nenergies) k, j .few);
+        energies = m .small;
+      };
+      long = λ q o. rw k (record { ramps = refl; limits = refl; states = refl; starts = refl; energies = refl });
+    }

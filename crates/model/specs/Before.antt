@@ -1,0 +1,43 @@
+-- Judging messages of edition 1 as it was before there were others: over the page of what they mean (`Messages`). The newest judgement of edition 1 messages
+-- is this one (`theorems/specs/AsBefore.antt`).
+use mathlib.Core.List.{List}
+use Prim.Native.Nat.{ℕ}
+use lib.ListN.{length}
+use Rattle.layouts.specs.Layout.{Layout, Whole, passes, fails, readWhole, bytes}
+use Rattle.model.specs.declared.Subject.the-variants as S
+use Rattle.model.specs.declared.Verdict.the-variants.{Refused}
+use Rattle.model.specs.Case.{Case, Plan, System}
+use Rattle.model.specs.Forced.{intervals, devices}
+use Rattle.model.specs.Breaches.{breaches}
+use Rattle.model.specs.Ours.{ours}
+use Rattle.model.specs.Messages.{edition1, Written, caseLayout, planLayout, completionLayout}
+use Rattle.model.specs.Judgement.{Judged, written, energyWindows, countsOf, ourSurplus, accepts, unlessBroken, bufferAfter, refusedAs}
+
+unfoldable pub readCase : List ℕ → Whole Case
+readCase s = readWhole (caseLayout edition1) s
+
+unfoldable pub readPlan : System → List ℕ → Whole Plan
+readPlan q s = readWhole (planLayout edition1 (devices q) (intervals q)) s
+
+abbrev pub completionOf : System → Layout Written
+completionOf q = completionLayout edition1 (countsOf q) (energyWindows q)
+
+unfoldable pub completionBytes : Case → Plan → List ℕ
+completionBytes c p = bytes (completionOf (c .system) .write (written (c .system) (ours c p) (ourSurplus c p)))
+
+unfoldable pub judged : Case → Plan → List ℕ → Judged
+judged c p buffer =
+    let out = completionBytes c p in
+    let v = unlessBroken (breaches (c .system) p) (accepts (ourSurplus c p) (length out) (length buffer)) in
+    record { verdict = v; result = bufferAfter v out buffer }
+
+abbrev pub withPlan : Case → List ℕ → Whole Plan → Judged
+withPlan c buffer (passes p) = judged c p buffer
+withPlan c buffer (fails f) = refusedAs (Refused S.Plan f) buffer
+
+abbrev pub withCase : List ℕ → List ℕ → Whole Case → Judged
+withCase ps buffer (passes c) = withPlan c buffer (readPlan (c .system) ps)
+withCase ps buffer (fails f) = refusedAs (Refused S.Case f) buffer
+
+unfoldable pub judgement : List ℕ → List ℕ → List ℕ → Judged
+judgement cs ps buffer = withCase ps buffer (readCase cs)

@@ -1,4 +1,0 @@
-pub mod Fleets
-pub mod Sides
-pub mod Zones
-pub mod Energies

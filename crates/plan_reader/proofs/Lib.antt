@@ -1,0 +1,5 @@
+pub mod Ranges
+pub mod Words
+pub mod Steps
+pub mod Turns
+pub mod Whole

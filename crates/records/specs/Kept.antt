@@ -1,0 +1,67 @@
+-- A device's row holds all of it: the device of its row is the device again.
+use mathlib.Core.Path.{_≡_, refl, ap}
+use mathlib.Core.List.{List, [], _∷_}
+use Prim.Native.Nat.{ℕ, zero, suc}
+use native.Mathlib.Omega.{arith}
+use lib.ListN.{length, getD}
+use Rattle.units.specs.declared.Kw.{Kw}
+use Rattle.units.specs.Units.{kw}
+use Rattle.records.specs.declared.State.{State}
+use Rattle.records.specs.declared.StartWindow.{StartWindow}
+use Rattle.records.specs.declared.EnergyWindow.{EnergyWindow}
+use Rattle.records.specs.declared.Device.{Device}
+use Rattle.records.specs.Figures.{deviceOf, deviceRow, noState, noStart, noEnergy}
+
+-- its arrays have their lengths
+pub record DeviceLong (d : Device) : Type 0 where
+  pub ramps : length (d .ramps) ≡ 4
+  pub limits : length (d .limits) ≡ 8
+  pub states : length (d .states) ≡ 4
+  pub starts : length (d .starts) ≡ 4
+  pub energies : length (d .energies) ≡ 4
+
+-- f 0, f 1, .., f (n − 1)
+abbrev tab : {A : Type 0} → (ℕ → A) → ℕ → List A
+tab f zero = []
+tab f (suc n) = f 0 ∷ tab (λ k. f (suc k)) n
+
+tabbed : {A : Type 0} (z : A) (n : ℕ) (l : List A) → length l ≡ n → tab (λ k. getD l k z) n ≡ l
+tabbed z zero [] h = refl
+tabbed z zero (x ∷ l) h = absurd (omega arith)
+tabbed z (suc n) [] h = absurd (omega arith)
+tabbed {A} z (suc n) (x ∷ l) h = ap (λ (r : List A). x ∷ r) (tabbed z n l (omega arith))
+
+-- the same device with these arrays
+abbrev with : Device → List ℕ → List Kw → List State → List StartWindow → List EnergyWindow → Device
+with d ramps limits states starts energies = record {
+  side = d .side;
+  zonebits = d .zonebits;
+  on0 = d .on0;
+  power0 = d .power0;
+  minutes0 = d .minutes0;
+  minup = d .minup;
+  mindown = d .mindown;
+  ramps = ramps;
+  oncost = d .oncost;
+  startcost = d .startcost;
+  stopcost = d .stopcost;
+  limits = limits;
+  nstates = d .nstates;
+  states = states;
+  nstarts = d .nstarts;
+  starts = starts;
+  nenergies = d .nenergies;
+  energies = energies;
+}
+
+with-same : (d : Device) {ramps : List ℕ} {limits : List Kw} {states : List State} {starts : List StartWindow} {energies : List EnergyWindow}
+    → ramps ≡ d .ramps → limits ≡ d .limits → states ≡ d .states → starts ≡ d .starts → energies ≡ d .energies → with d ramps limits states starts energies ≡ d
+with-same d a b c e f = rw (a, b, c, e, f) refl
+
+pub device-kept : (d : Device) → DeviceLong d → deviceOf (deviceRow d) ≡ d
+device-kept d h = with-same d
+    (tabbed 0 4 (d .ramps) (h .ramps))
+    (tabbed (kw 0) 8 (d .limits) (h .limits))
+    (tabbed noState 4 (d .states) (h .states))
+    (tabbed noStart 4 (d .starts) (h .starts))
+    (tabbed noEnergy 4 (d .energies) (h .energies))

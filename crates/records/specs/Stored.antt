@@ -1,0 +1,41 @@
+-- A record put into a row is what the row shows.
+use mathlib.Core.Path.{_≡_, refl, ap, ap₂, _∙_}
+use mathlib.Core.List.{List, [], _∷_, map}
+use Prim.Native.Nat.{ℕ, _≤_, _<_}
+use native.Mathlib.Omega.{arith}
+use lib.ListN.{length, getD, take}
+use Rattle.model.specs.Case as M
+use Rattle.units.specs.declared.Kw.{Kw}
+use Rattle.records.specs.declared.Cell.{Cell}
+use Rattle.records.specs.Figures.{kwAt, cellOf, cellRow}
+use Rattle.records.specs.Views.{less, priceOffset, eightPricesIn, cellIn, cellPricesIn, Padded}
+
+-- four figures, one by one
+pub four : {A : Type 0} (l : List A) (z : A) → length l ≡ 4 → getD l 0 z ∷ getD l 1 z ∷ getD l 2 z ∷ getD l 3 z ∷ [] ≡ l
+four [] z h = absurd (omega arith)
+four (a ∷ []) z h = absurd (omega arith)
+four (a ∷ b ∷ []) z h = absurd (omega arith)
+four (a ∷ b ∷ c ∷ []) z h = absurd (omega arith)
+four (a ∷ b ∷ c ∷ d ∷ []) z h = refl
+four (a ∷ b ∷ c ∷ d ∷ e ∷ l) z h = absurd (omega arith)
+
+-- the model's cell, by the record
+abbrev pub cellSaid : Cell → M.Cell
+cellSaid c = record { status = c .status; pmin = c .pmin .0; pmax = c .pmax .0; caps = map (λ x. x .0) (take (c .blocks) (c .caps)) }
+
+abbrev pub cellPricesSaid : Cell → M.CellPrices
+cellPricesSaid c = record { blocks = map (less priceOffset) (take (c .blocks) (c .prices)); reserves = eightPricesIn (c .reserves) }
+
+module _ (c : Cell) (caps : length (c .caps) ≡ 4) (prices : length (c .prices) ≡ 4) where
+  pub cell-back : cellOf (cellRow c) ≡ c
+  cell-back = ap₂ (λ (x : List Kw) (y : List ℕ). record { status = c .status; pmin = c .pmin; pmax = c .pmax; blocks = c .blocks; caps = x; prices = y; reserves = c .reserves })
+      (four (c .caps) (record { 0 = 0 }) caps) (four (c .prices) 0 prices)
+
+  pub cell-stored : cellIn (cellRow c) ≡ cellSaid c
+  cell-stored = ap cellSaid cell-back
+
+  pub cell-prices-stored : cellPricesIn (cellRow c) ≡ cellPricesSaid c
+  cell-prices-stored = ap cellPricesSaid cell-back
+
+  pub cell-padded : c .blocks ≤ 4 → ((k : ℕ) → c .blocks ≤ k → k < 4 → kwAt (c .caps) k ≡ 0) → Padded (cellRow c)
+  cell-padded few absent = record { few = few; absent = λ k l m. ap (λ (x : Cell). kwAt (x .caps) k) cell-back ∙ absent k l m }

@@ -1,3 +1,0 @@
-pub mod Spare
-pub mod Settled
-pub mod Steps

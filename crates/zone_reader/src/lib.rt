@@ -1,0 +1,128 @@
+// A zone of a case: its shares and prices by value, its minima in its part of the table.
+use fields::Went;
+use layouts::Place;
+use records::Minima;
+use records::MinimaRow;
+use records::Zone;
+use units::Kw;
+ghost use mathlib.Core.Path.{_≡_};
+ghost use mathlib.Core.List.{map};
+ghost use Prim.Native.Nat.{_≤_};
+ghost use lib.ListN.{length};
+ghost use Rattle.layouts.specs.Layout.{list};
+ghost use Rattle.model.specs.Messages as M;
+ghost use Rattle.records.specs.Figures.{minimaRow};
+ghost use Rattle.records.specs.Views.{minimaIn, mostIntervals};
+ghost use Rattle.fields.specs.Got.{got, told};
+ghost use Rattle.zone_reader.specs.Zones.{zoneFrom, terms, termsIn, ZoneDone};
+
+// "shares for rgu, rgd, scr, nsc 10 each (0..1,000 thousandths)"
+const SHARE_BITS: u64 = 10;
+
+const MOST_SHARE: u32 = 1000;
+
+// "shortfall prices .. 7 each (1..100 per W·min)"
+const PRICE_BITS: u64 = 7;
+
+const LEAST_PRICE: u32 = 1;
+
+const MOST_PRICE: u32 = 100;
+
+// "rru and rrd minima 23 each (0..6,400,000)"
+const MINIMUM_BITS: u64 = 23;
+
+const MOST_MINIMUM: u32 = 6400000;
+
+pub struct ZoneRead {
+    pub went: Went,
+    pub zone: Zone,
+}
+
+pub struct MinimaRead {
+    pub went: Went,
+    pub minima: Minima,
+}
+
+fn zone_of(shares: [u32; 4], prices: [u32; 6]) -> Zone
+    ensures { λ r. ⌜ r ≡ zoneFrom shares prices ⌝ }
+{
+    Zone {
+        rgu: shares[0],
+        rgd: shares[1],
+        scr: shares[2],
+        nsc: shares[3],
+        prices,
+    }
+}
+
+// Shares and prices, ahead of the intervals.
+fn read_terms(s: &[u8], p: Place) -> ZoneRead
+    ensures { λ r. ⌜ told (r .went) (termsIn (r .zone)) ≡ got terms (now (s .entry)) p ⌝ }
+{
+    let mut shares = [0u32; 4];
+    let mut prices = [0u32; 6];
+    let first = fields::read_list(s, p, 4, SHARE_BITS, 0, MOST_SHARE, &mut shares);
+    let Went::On(at_prices) = first else {
+        let zone = zone_of(shares, prices);
+        return ZoneRead { went: first, zone };
+    };
+    let went = fields::read_list(
+        s,
+        at_prices,
+        6,
+        PRICE_BITS,
+        LEAST_PRICE,
+        MOST_PRICE,
+        &mut prices,
+    );
+    let zone = zone_of(shares, prices);
+    ZoneRead { went, zone }
+}
+
+// The minima of one interval.
+fn read_pair(s: &[u8], p: Place) -> MinimaRead
+    ensures { λ r. ⌜ told (r .went) (minimaIn (minimaRow (r .minima))) ≡ got M.minima (now (s .entry)) p ⌝ }
+{
+    let mut v = [0u32; 2];
+    let went = fields::read_list(s, p, 2, MINIMUM_BITS, 0, MOST_MINIMUM, &mut v);
+    let minima = Minima {
+        rru: Kw(v[0]),
+        rrd: Kw(v[1]),
+    };
+    MinimaRead { went, minima }
+}
+
+// The minima of every interval.
+fn read_minima(s: &[u8], p: Place, minima: &mut [MinimaRow]) -> Went
+    ensures { λ r. ⌜ told r (map minimaIn (now (minima .exit))) ≡ got (list (length (now (minima .exit))) M.minima) (now (s .entry)) p ⌝ }
+{
+    let mut q = p;
+    let mut k: usize = 0;
+    while k < minima.len() {
+        let one = read_pair(s, q);
+        let went = one.went;
+        let x = one.minima;
+        let Went::On(next) = went else {
+            return went;
+        };
+        records::put_minima(minima, k, x);
+        q = next;
+        k += 1;
+    }
+    Went::On(q)
+}
+
+// A zone, in whatever edition; its minima for each interval into its part of the table.
+pub fn read_zone(s: &[u8], p: Place, edition: u32, minima: &mut [MinimaRow]) -> ZoneRead
+    requires { ⌜ length (now minima) ≤ mostIntervals ⌝ }
+    ensures { λ r. ⌜ ZoneDone edition (now (s .entry)) p (r .went) (r .zone) (now (minima .exit)) ⌝ }
+{
+    let ahead = read_terms(s, p);
+    let went = ahead.went;
+    let Went::On(at_minima) = went else {
+        return ahead;
+    };
+    let zone = ahead.zone;
+    let went = read_minima(s, at_minima, minima);
+    ZoneRead { went, zone }
+}

@@ -1,2 +1,0 @@
-pub mod ZoneSteps
-pub mod Parts
