@@ -25,7 +25,7 @@ use Rattle.records.specs.Figures.{deviceOf, zoneOf}
 use Rattle.records.specs.Views.{mostIntervals, zoneIn, sixIn, deviceIn, devicePricesIn, systemIn, pricesIn}
 use Rattle.fields.specs.declared.Went.{Went}
 use Rattle.fields.specs.declared.Went.the-variants as W
-use Rattle.fields.specs.Each.{list-natural}
+use Rattle.field_rows.specs.Each.{list-natural}
 use Rattle.fields.specs.Got.{Got, good, bad, got, told, Natural, nat-natural, goes-on, goes-off, mapped, told-off, went-good, went-bad}
 use Rattle.numbers.specs.Rows.{rows-same}
 use Rattle.zone_reader.proofs.ZoneSteps.{zone-natural}

@@ -22,7 +22,7 @@ use Rattle.fields.specs.declared.Went.the-variants as W
 use Rattle.fields.specs.declared.Ending.{Ending}
 use Rattle.fields.specs.declared.Ending.the-variants.{Passes, Fails}
 use Rattle.fields.specs.Got.{bad, got, Natural, Inside, nat-natural, then-natural, held-natural, goes-on, goes-off, told-off, went-good, went-bad}
-use Rattle.fields.specs.Each.{list-natural}
+use Rattle.field_rows.specs.Each.{list-natural}
 use Rattle.fields.specs.Ended.{ended, endingOf, whole-inside, whole-ended, whole-failed, ended-tells}
 use Rattle.zone_reader.proofs.ZoneSteps.{zone-natural}
 use Rattle.device_reader.specs.Devices.{device-natural}

@@ -20,7 +20,7 @@ use Rattle.fields.specs.declared.Went.{Went}
 use Rattle.fields.specs.declared.Went.the-variants as W
 use Rattle.fields.specs.Got.{Got, good, bad, got, told, figured, placed, Natural, nat-natural, then-natural, held-natural, goes-on, goes-off}
 use Rattle.fields.specs.Got.{nat-within, mapped, placed-off, told-off, went-good, went-bad}
-use Rattle.fields.specs.Each.{list-natural}
+use Rattle.field_rows.specs.Each.{list-natural}
 use Rattle.fields.specs.Since.{count-of}
 use Rattle.fields.proofs.Steps.{figure-on, figure-off}
 use Rattle.case_reader.specs.Fronts.{edition, countsIn, CountsDone, prices, PricesDone, front, frontIn, FrontDone}

@@ -13,7 +13,7 @@ use Rattle.records.specs.Parts.{part, part-inside, patched-long, patched-same, 
 use Rattle.fields.specs.declared.Went.{Went}
 use Rattle.fields.specs.declared.Went.the-variants as W
 use Rattle.fields.specs.Got.{good, got, told, Natural, told-off, went-good, went-bad}
-use Rattle.fields.specs.Going.{Reading, reading-none, reading-more, reading-off, reading-done}
+use Rattle.field_rows.specs.Going.{Reading, reading-none, reading-more, reading-off, reading-done}
 use Rattle.case_reader.specs.Tables.{Fits}
 
 -- what row k and its part of m hold

@@ -109,7 +109,7 @@ fn read_prices(s: &[u8], p: Place, edition: u32, counts: Counts) -> FrontRead
     ensures { λ r. ⌜ PricesDone edition counts (now (s .entry)) p (r .went) (r .front) (r .counts) ⌝ }
 {
     let mut v = [0u32; 2];
-    let went = fields::read_list(s, p, 2, PRICE_BITS, LEAST_PRICE, MOST_PRICE, &mut v);
+    let went = field_rows::read_list(s, p, 2, PRICE_BITS, LEAST_PRICE, MOST_PRICE, &mut v);
     let front = Front {
         edition,
         mismatch: v[0],

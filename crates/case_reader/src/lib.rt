@@ -45,7 +45,7 @@ fn read_body(
 {
     let edition = front.edition;
     let m = counts.intervals;
-    let durations = fields::read_list(s, p, m, HALF_BITS, LEAST_HALF, MOST_HALF, halves);
+    let durations = field_rows::read_list(s, p, m, HALF_BITS, LEAST_HALF, MOST_HALF, halves);
     let Went::On(at_zones) = durations else {
         return durations;
     };

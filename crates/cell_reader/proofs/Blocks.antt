@@ -17,7 +17,7 @@ use Rattle.fields.specs.declared.Went.the-variants as W
 use Rattle.records.specs.Views.{less, priceOffset}
 use Rattle.fields.specs.Got.{good, got, told, figured, kept, placed, Natural, nat-natural, int-natural, then-natural}
 use Rattle.fields.specs.Got.{nat-within, counted-on, counted-off, placed-off, told-off, went-good, went-bad}
-use Rattle.fields.specs.Going.{Storing, storing-none, storing-more, storing-off, storing-done}
+use Rattle.field_rows.specs.Going.{Storing, storing-none, storing-more, storing-off, storing-done}
 use Rattle.fields.proofs.Steps.{figure-on, figure-off, pair-no-first, pair-no-second, pair-both}
 use Rattle.cell_reader.specs.declared.Block.{Block}
 use Rattle.cell_reader.specs.Groups.{block, blockIn, noBlock, BlocksDone}

@@ -26,9 +26,9 @@ use Rattle.fields.specs.declared.Went.{Went}
 use Rattle.fields.specs.declared.Went.the-variants as W
 use Rattle.fields.specs.Got.{good, bad, got, told, Natural, nat-natural, then-natural, such-natural, held-natural}
 use Rattle.fields.specs.Got.{goes-on, goes-off, mapped, told-off, went-good, went-bad}
-use Rattle.fields.specs.Each.{counted-natural}
-use Rattle.fields.specs.Going.{Storing, storing-none, storing-more, storing-off, storing-done}
-use Rattle.fields.proofs.Steps.{eight-natural}
+use Rattle.field_rows.specs.Each.{counted-natural}
+use Rattle.field_rows.specs.Going.{Storing, storing-none, storing-more, storing-off, storing-done}
+use Rattle.field_rows.proofs.Steps.{eight-natural}
 use Rattle.cell_reader.specs.declared.LimitsRead.{LimitsRead}
 use Rattle.cell_reader.specs.declared.Block.{Block}
 use Rattle.cell_reader.specs.declared.BlocksRead.{BlocksRead}

@@ -215,7 +215,7 @@ fn prices_of(v: [u32; 8]) -> ReservePrices
 fn read_prices(s: &[u8], p: Place) -> PricesRead
     ensures { λ r. ⌜ told (r .went) (eightPricesIn (r .prices)) ≡ got reservePrices (now (s .entry)) p ⌝ }
 {
-    let eight = fields::read_eight(s, p, RESERVE_BITS, MOST_RESERVE_PRICE);
+    let eight = field_rows::read_eight(s, p, RESERVE_BITS, MOST_RESERVE_PRICE);
     let went = eight.went;
     let values = eight.values;
     let prices = prices_of(values);

@@ -12,7 +12,7 @@ use Rattle.fields.specs.declared.Figure.the-variants as F
 use Rattle.fields.specs.declared.Went.{Went}
 use Rattle.fields.specs.declared.Went.the-variants as W
 use Rattle.fields.specs.Got.{bad, got, told, figured, placed, nat-within, counted-on, counted-off, placed-off, told-off, went-good, went-bad}
-use Rattle.fields.specs.Going.{Storing, storing-none, storing-more, storing-off, storing-done}
+use Rattle.field_rows.specs.Going.{Storing, storing-none, storing-more, storing-off, storing-done}
 use Rattle.fields.proofs.Steps.{figure-on, figure-off}
 use Rattle.device_reader.specs.declared.Item.{Item}
 use Rattle.device_reader.specs.declared.ItemsRead.{ItemsRead}

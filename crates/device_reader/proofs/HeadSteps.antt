@@ -20,8 +20,8 @@ use Rattle.records.specs.Views.{less, costOffset, startIn, energyIn}
 use Rattle.fields.specs.declared.Went.{Went}
 use Rattle.fields.specs.declared.Went.the-variants as W
 use Rattle.fields.specs.Got.{good, bad, got, told, Natural, nat-natural, then-natural, such-natural, mapped, told-off, goes-off}
-use Rattle.fields.specs.Each.{each, eachRead, row, row-natural, counted-natural}
-use Rattle.fields.proofs.Steps.{eight-natural}
+use Rattle.field_rows.specs.Each.{each, eachRead, row, row-natural, counted-natural}
+use Rattle.field_rows.proofs.Steps.{eight-natural}
 use Rattle.device_reader.specs.declared.Item.{Item}
 use Rattle.device_reader.specs.declared.Listed.{Listed}
 use Rattle.device_reader.specs.declared.Listed.the-variants.{States, Starts, Energies}

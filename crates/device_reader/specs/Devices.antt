@@ -16,8 +16,8 @@ use Rattle.records.specs.declared.Device.{Device}
 use Rattle.records.specs.Views.{cellPair, deviceIn, devicePricesIn}
 use Rattle.fields.specs.declared.Went.{Went}
 use Rattle.fields.specs.Got.{good, bad, got, told, Natural, nat-natural, int-natural, then-natural, such-natural, held-natural, goes-on, goes-off, mapped}
-use Rattle.fields.specs.Each.{list-natural, counted-natural}
-use Rattle.fields.proofs.Steps.{eight-natural}
+use Rattle.field_rows.specs.Each.{list-natural, counted-natural}
+use Rattle.field_rows.proofs.Steps.{eight-natural}
 use Rattle.device_reader.specs.declared.Listed.{Listed}
 use Rattle.device_reader.specs.declared.Listed.the-variants.{States, Starts, Energies}
 use Rattle.device_reader.specs.Items.{item}

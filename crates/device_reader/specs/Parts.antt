@@ -1,7 +1,7 @@
 -- A device's single figures, as the code reads and keeps them, and the record that they make with its lists.
 use mathlib.Core.Path.{_≡_}
 use mathlib.Core.List.{List, [], _∷_}
-use Prim.Native.Nat.{ℕ, _^_, _<_}
+use Prim.Native.Nat.{ℕ, zero, suc, _^_, _<_}
 use lib.ListN.{getD}
 use Rattle.layouts.specs.Layout.{Layout, _▸_, any}
 use Rattle.model.specs.Case as M
@@ -15,8 +15,7 @@ use Rattle.records.specs.declared.StartWindow.{StartWindow}
 use Rattle.records.specs.declared.EnergyWindow.{EnergyWindow}
 use Rattle.records.specs.declared.Device.{Device}
 use Rattle.records.specs.Figures.{EnergiesSmall}
-use Rattle.fields.specs.Each.{row}
-use Rattle.fields.proofs.Lists.{tab}
+use Rattle.field_rows.specs.Each.{row}
 use Rattle.device_reader.specs.declared.SidesRead.{SidesRead}
 use Rattle.device_reader.specs.declared.FiguresRead.{FiguresRead}
 use Rattle.device_reader.specs.declared.ItemsRead.{ItemsRead}
@@ -37,6 +36,10 @@ rampRow = 17 ∷ 1 ∷ 100000 ∷ 17 ∷ 1 ∷ 100000 ∷ 17 ∷ 1 ∷ 100000 �
 -- "on cost per minute 17 (0..100,000); start, stop cost 30 each (0..10^9)"
 abbrev pub costRow : List ℕ
 costRow = 17 ∷ 0 ∷ 100000 ∷ 30 ∷ 0 ∷ 1000000000 ∷ 30 ∷ 0 ∷ 1000000000 ∷ []
+
+abbrev tab : (ℕ → ℕ) → ℕ → List ℕ
+tab f zero = []
+tab f (suc n) = f 0 ∷ tab (λ k. f (suc k)) n
 
 -- the first n of the numbers that a group keeps
 abbrev pub firsts : ℕ → List ℕ → List ℕ

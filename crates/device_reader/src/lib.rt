@@ -18,7 +18,7 @@ ghost use Rattle.layouts.specs.Layout.{noted};
 ghost use Rattle.model.specs.Messages.{windowEnds, energyWindow};
 ghost use Rattle.model.specs.ByEdition.{startWindow};
 ghost use Rattle.fields.specs.Got.{got, told};
-ghost use Rattle.fields.specs.Each.{row, narrow};
+ghost use Rattle.field_rows.specs.Each.{row, narrow};
 ghost use Rattle.device_reader.specs.Items.{state, item, stateItem, startItem, energyItem, itemIn, ItemsNone, ItemsDone, stateFrom, startFrom, fours, EnergyMade, EnergiesMade};
 ghost use Rattle.device_reader.specs.Parts.{sides, firsts, figures, figuresIn, MoneyMade, limitsFrom, DeviceMade};
 ghost use Rattle.device_reader.specs.Heads.{HeadDone};
@@ -414,7 +414,7 @@ fn read_group(s: &[u8], p: Place, n: usize, fields: &[u32]) -> GroupRead
     ensures { λ r. ⌜ told (r .went) (firsts n (r .values)) ≡ got (row (now (fields .entry)) n) (now (s .entry)) p ⌝ }
 {
     let mut values = [0u32; 5];
-    let went = fields::read_row(s, p, n, fields, &mut values);
+    let went = field_rows::read_row(s, p, n, fields, &mut values);
     GroupRead { went, values }
 }
 
@@ -459,7 +459,7 @@ fn read_figures(s: &[u8], p: Place) -> FiguresRead
     let Went::On(at_limits) = went else {
         return no_figures(went);
     };
-    let eight = fields::read_eight(s, at_limits, 17, MOST_KW);
+    let eight = field_rows::read_eight(s, at_limits, 17, MOST_KW);
     let went = eight.went;
     let initial = initial.values;
     let ramps = ramps.values;

@@ -24,7 +24,8 @@ use Rattle.fields.specs.declared.Figure.{Figure}
 use Rattle.fields.specs.declared.Figure.the-variants as G
 use Rattle.fields.specs.declared.Went.{Went}
 use Rattle.fields.specs.Got.{good, bad, got, figured, placed, placed-off, told, told-off, Natural, nat-natural, then-natural, held-natural, goes-on, goes-off, mapped}
-use Rattle.fields.proofs.Steps.{raw-on, figure-on, figure-off, eight-natural}
+use Rattle.fields.proofs.Steps.{raw-on, figure-on, figure-off}
+use Rattle.field_rows.proofs.Steps.{eight-natural}
 use Rattle.plan_reader.specs.declared.Active.{Active}
 use Rattle.plan_reader.specs.Settings.{active, activeIn, activeBits, activeAt, powerAt, kwBits, mostKw, Found}
 

@@ -18,9 +18,9 @@ use Rattle.records.specs.Parts.{next-part, part-inside, place-inside, table-sma
 use Rattle.records.specs.Views.{mostDevices, mostIntervals, settingIn}
 use Rattle.fields.specs.declared.Went.{Went}
 use Rattle.fields.specs.declared.Went.the-variants as W
-use Rattle.fields.specs.Each.{list-natural}
+use Rattle.field_rows.specs.Each.{list-natural}
 use Rattle.numbers.specs.Rows.{rows-same}
-use Rattle.fields.specs.Going.{Reading, reading-none, reading-more, reading-off, reading-done}
+use Rattle.field_rows.specs.Going.{Reading, reading-none, reading-more, reading-off, reading-done}
 use Rattle.fields.specs.Got.{good, got, told, told-off, went-good, went-bad}
 use Rattle.plan_reader.specs.Settings.{settingHeld}
 use Rattle.plan_reader.specs.Rows.{rowAt, intervalAt, IntervalDone}

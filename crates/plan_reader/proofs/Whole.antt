@@ -23,7 +23,7 @@ use Rattle.fields.specs.declared.Figure.the-variants as G
 use Rattle.fields.specs.declared.Went.{Went}
 use Rattle.fields.specs.declared.Ending.{Ending}
 use Rattle.fields.specs.Ended.{ended, ended-tells}
-use Rattle.fields.specs.Each.{list-natural}
+use Rattle.field_rows.specs.Each.{list-natural}
 use Rattle.numbers.specs.Rows.{rows-same}
 use Rattle.fields.specs.Got.{good, bad, got, figured, placed, placed-off, told, told-off, Natural, nat-natural, then-natural, held-natural, goes-on, goes-off, mapped}
 use Rattle.fields.proofs.Steps.{figure-on, figure-off}

@@ -221,7 +221,7 @@ fn exact_active(s: &[u8], p: Place) -> ActiveRead
     let Figure::Good(online, p2) = second else {
         return refused(second);
     };
-    let eight = fields::read_eight(s, p2, KW_BITS, MOST_KW);
+    let eight = field_rows::read_eight(s, p2, KW_BITS, MOST_KW);
     let values = eight.values;
     let reserves = reserves_of(values);
     let active = Active {

@@ -18,8 +18,8 @@ use Rattle.records.specs.Views.{minimaIn, zoneIn, sixIn}
 use Rattle.fields.specs.declared.Went.{Went}
 use Rattle.fields.specs.declared.Went.the-variants as W
 use Rattle.fields.specs.Got.{good, bad, got, told, Natural, nat-natural, then-natural, held-natural, goes-on, goes-off, mapped, told-off, went-good, went-bad}
-use Rattle.fields.specs.Each.{list-natural}
-use Rattle.fields.specs.Going.{Storing, storing-none, storing-more, storing-off, storing-done}
+use Rattle.field_rows.specs.Each.{list-natural}
+use Rattle.field_rows.specs.Going.{Storing, storing-none, storing-more, storing-off, storing-done}
 use Rattle.zone_reader.specs.Zones.{zoneFrom, terms, termsIn, zonePair, ZoneDone}
 
 -- ---- any reader goes on from a zone

@@ -61,12 +61,12 @@ fn read_terms(s: &[u8], p: Place) -> ZoneRead
 {
     let mut shares = [0u32; 4];
     let mut prices = [0u32; 6];
-    let first = fields::read_list(s, p, 4, SHARE_BITS, 0, MOST_SHARE, &mut shares);
+    let first = field_rows::read_list(s, p, 4, SHARE_BITS, 0, MOST_SHARE, &mut shares);
     let Went::On(at_prices) = first else {
         let zone = zone_of(shares, prices);
         return ZoneRead { went: first, zone };
     };
-    let went = fields::read_list(
+    let went = field_rows::read_list(
         s,
         at_prices,
         6,
@@ -84,7 +84,7 @@ fn read_pair(s: &[u8], p: Place) -> MinimaRead
     ensures { λ r. ⌜ told (r .went) (minimaIn (minimaRow (r .minima))) ≡ got M.minima (now (s .entry)) p ⌝ }
 {
     let mut v = [0u32; 2];
-    let went = fields::read_list(s, p, 2, MINIMUM_BITS, 0, MOST_MINIMUM, &mut v);
+    let went = field_rows::read_list(s, p, 2, MINIMUM_BITS, 0, MOST_MINIMUM, &mut v);
     let minima = Minima {
         rru: Kw(v[0]),
         rrd: Kw(v[1]),

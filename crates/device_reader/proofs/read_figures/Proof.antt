@@ -1,7 +1,7 @@
 -- `device_reader::read_figures`, group by group. Assumes nothing.
 use Rattle.fields.specs.Got.{nat-natural, went-good, went-bad}
-use Rattle.fields.specs.Each.{row-natural}
-use Rattle.fields.proofs.Steps.{eight-natural}
+use Rattle.field_rows.specs.Each.{row-natural}
+use Rattle.field_rows.proofs.Steps.{eight-natural}
 use Rattle.ranges.specs.Kept.{reservesOf}
 use Rattle.device_reader.specs.Parts.{initialRow, rampRow, costRow, firsts}
 use Rattle.device_reader.proofs.HeadSteps.{ramps-natural, costs-natural}
