@@ -5,52 +5,23 @@ use Prim.Native.Nat.{ℕ}
 use lib.ListN.{length}
 use Rattle.layouts.specs.declared.Fault.{Fault}
 use Rattle.layouts.specs.declared.Place.{Place}
-use Rattle.layouts.specs.Layout.{list, _then_, _▸_, held, figure, any}
+use Rattle.layouts.specs.Layout.{list, _then_, held}
 use Rattle.model.specs.Case as M
-use Rattle.model.specs.Editions.{startsBits, mostStarts}
 use Rattle.model.specs.Messages as L
-use Rattle.model.specs.Messages.{Head, windowEnds, energyWindow, apart, head, costs, ramps, zoneBits}
+use Rattle.model.specs.Messages.{Head, apart, head, costs, ramps, zoneBits}
 use Rattle.model.specs.ByEdition as B
-use Rattle.model.specs.ByEdition.{startWindow, cell}
+use Rattle.model.specs.ByEdition.{cell}
 use Rattle.records.specs.declared.Device.{Device}
 use Rattle.records.specs.Views.{cellPair, deviceIn, devicePricesIn}
 use Rattle.fields.specs.declared.Went.{Went}
 use Rattle.fields.specs.Got.{good, bad, got, told, Natural, nat-natural, int-natural, then-natural, such-natural, held-natural, goes-on, goes-off, mapped}
 use Rattle.field_rows.specs.Each.{list-natural, counted-natural}
 use Rattle.field_rows.proofs.Steps.{eight-natural}
-use Rattle.device_reader.specs.declared.Listed.{Listed}
-use Rattle.device_reader.specs.declared.Listed.the-variants.{States, Starts, Energies}
-use Rattle.device_reader.specs.Items.{item}
+use Rattle.list_reader.specs.declared.Listed.the-variants.{States, Starts, Energies}
+use Rattle.list_reader.specs.Naturals.{item-natural}
 use Rattle.device_reader.specs.Heads.{Ahead, ahead, aheadOf}
 
 -- ---- any reader goes on from its parts
-
-pub ends-natural : (last : ℕ) → Natural (windowEnds last)
-unfolding windowEnds
-ends-natural last = then-natural (nat-natural _) (λ a. such-natural _ (nat-natural _))
-
-pub start-fields : (e last : ℕ) → Natural (windowEnds last ▸ figure (startsBits e) 0 (mostStarts e))
-start-fields e last = then-natural (ends-natural last) (λ a. nat-natural _)
-
-start-natural : (e last : ℕ) → Natural (startWindow e last)
-unfolding startWindow
-start-natural e last = held-natural _ _ (start-fields e last)
-
--- behind the kind, and all
-pub limit-fields : (last : ℕ) → Natural (windowEnds last ▸ figure 32 0 4000000000)
-limit-fields last = then-natural (ends-natural last) (λ a. nat-natural _)
-
-pub energy-fields : (last : ℕ) → Natural (any 1 ▸ windowEnds last ▸ figure 32 0 4000000000)
-energy-fields last = then-natural (nat-natural _) (λ k. limit-fields last)
-
-energy-natural : (last : ℕ) → Natural (energyWindow last)
-unfolding energyWindow
-energy-natural last = held-natural _ _ (energy-fields last)
-
-pub item-natural : (k : Listed) (e last : ℕ) → Natural (item k e last)
-item-natural States e last = then-natural (nat-natural _) (λ a. int-natural _ _)
-item-natural Starts e last = start-natural e last
-item-natural Energies e last = energy-natural last
 
 ramps-natural : Natural ramps
 unfolding ramps
@@ -74,7 +45,7 @@ pub ahead-natural : (e zones last : ℕ) → Natural (ahead e zones last)
 unfolding apart
 ahead-natural e zones last =
     then-natural (head-natural zones) (λ a. then-natural costs-natural (λ b. then-natural (eight-natural (nat-natural _)) (λ c.
-    then-natural (held-natural _ _ (counted-natural _ (item-natural States e last))) (λ d. then-natural (counted-natural _ (start-natural e last)) (λ f. counted-natural _ (energy-natural last))))))
+    then-natural (held-natural _ _ (counted-natural _ (item-natural States e last))) (λ d. then-natural (counted-natural _ (item-natural Starts e last)) (λ f. counted-natural _ (item-natural Energies e last))))))
 
 pub cell-natural : (e : ℕ) → Natural (cell e)
 unfolding L.cell apart
@@ -118,8 +89,8 @@ module _ (e n zones last : ℕ) where
   unfolding B.device apart
   device-natural = held-natural _ _
       (then-natural (head-natural zones) (λ a. then-natural costs-natural (λ b. then-natural (eight-natural (nat-natural _)) (λ c.
-      then-natural (held-natural _ _ (counted-natural _ (item-natural States e last))) (λ d. then-natural (counted-natural _ (start-natural e last)) (λ f.
-      then-natural (counted-natural _ (energy-natural last)) (λ g. held-natural _ _ (list-natural n (cell-natural e)))))))))
+      then-natural (held-natural _ _ (counted-natural _ (item-natural States e last))) (λ d. then-natural (counted-natural _ (item-natural Starts e last)) (λ f.
+      then-natural (counted-natural _ (item-natural Energies e last)) (λ g. held-natural _ _ (list-natural n (cell-natural e)))))))))
 
   pub device-off : (s : List ℕ) (p : Place) {f : Fault} → got (ahead e zones last) s p ≡ bad f → got (B.device e n zones last) s p ≡ bad f
   device-off s p h = device-is s p ∙ goes-off (ahead-natural e zones last) s p bad _ h

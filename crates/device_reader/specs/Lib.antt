@@ -1,4 +1,3 @@
-pub mod Items
 pub mod Parts
 pub mod Heads
 pub mod Devices

@@ -5,7 +5,7 @@ use Rattle.field_rows.proofs.Steps.{eight-natural}
 use Rattle.ranges.specs.Kept.{reservesOf}
 use Rattle.device_reader.specs.Parts.{initialRow, rampRow, costRow, firsts}
 use Rattle.device_reader.proofs.HeadSteps.{ramps-natural, costs-natural}
-use Rattle.device_reader.proofs.Steps.{pass, then-off, then-late, then-told}
+use Rattle.fields.proofs.Chains.{pass, then-off, then-late, then-told}
 use borrow.Author.Needs.{needs}
 use Rattle.device_reader.proofs.read_figures.Statement.{statement}
 use Rattle.device_reader.proofs.read_figures.Tie as tie

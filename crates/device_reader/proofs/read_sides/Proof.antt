@@ -3,7 +3,7 @@ use mathlib.Core.Path.{sym}
 use Rattle.model.specs.Messages.{zoneBits}
 use Rattle.fields.specs.Got.{nat-natural, such-natural}
 use Rattle.fields.proofs.Steps.{figure-on, figure-off}
-use Rattle.device_reader.proofs.Steps.{stop, then-off, then-late, then-on, such-off, such-on}
+use Rattle.fields.proofs.Chains.{stop, then-off, then-late, then-on, such-off, such-on}
 use borrow.Author.Needs.{needs}
 use Rattle.device_reader.proofs.read_sides.Statement.{statement}
 use Rattle.device_reader.proofs.read_sides.Tie as tie

@@ -1,13 +1,13 @@
--- `device_reader::read_energy`: the kind, start and end, then the energy. Assumes nothing.
+-- The kind, start and end, then the energy.
 use mathlib.Core.Path.{sym}
 use Rattle.model.specs.Messages.{energyWindow}
 use Rattle.fields.specs.Got.{nat-natural, went-good, went-bad}
 use Rattle.fields.proofs.Steps.{figure-on, figure-off}
-use Rattle.device_reader.specs.Devices.{ends-natural, limit-fields, energy-fields}
-use Rattle.device_reader.proofs.Steps.{stop, pass, held-off, held-on, then-off, then-late, then-on}
+use Rattle.list_reader.specs.Naturals.{ends-natural, limit-fields, energy-fields}
+use Rattle.fields.proofs.Chains.{stop, pass, held-off, held-on, then-off, then-late, then-on}
 use borrow.Author.Needs.{needs}
-use Rattle.device_reader.proofs.read_energy.Statement.{statement}
-use Rattle.device_reader.proofs.read_energy.Tie as tie
+use Rattle.list_reader.proofs.read_energy.Statement.{statement}
+use Rattle.list_reader.proofs.read_energy.Tie as tie
 
 read-figure-requires : tie.Need-read-figure-requires
 read-figure-requires c κs = search needs

@@ -1,12 +1,12 @@
--- `device_reader::read_ends`: the start, then the end with its test. Assumes nothing.
+-- The start, then the end with its test.
 use mathlib.Core.Path.{sym}
 use Rattle.model.specs.Messages.{windowEnds}
 use Rattle.fields.specs.Got.{nat-natural, such-natural}
 use Rattle.fields.proofs.Steps.{figure-on, figure-off}
-use Rattle.device_reader.proofs.Steps.{stop, then-off, then-late, then-on, such-off, such-on}
+use Rattle.fields.proofs.Chains.{stop, then-off, then-late, then-on, such-off, such-on}
 use borrow.Author.Needs.{needs}
-use Rattle.device_reader.proofs.read_ends.Statement.{statement}
-use Rattle.device_reader.proofs.read_ends.Tie as tie
+use Rattle.list_reader.proofs.read_ends.Statement.{statement}
+use Rattle.list_reader.proofs.read_ends.Tie as tie
 
 read-figure-requires : tie.Need-read-figure-requires
 read-figure-requires c κs = search needs

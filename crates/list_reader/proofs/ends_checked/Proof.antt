@@ -1,8 +1,8 @@
--- `device_reader::ends_checked`, by the two tests. Assumes nothing.
-use Rattle.device_reader.proofs.Steps.{ends-crossed, ends-late, ends-fine}
+-- By the two tests.
+use Rattle.list_reader.proofs.Steps.{ends-crossed, ends-late, ends-fine}
 use borrow.Author.Needs.{needs}
-use Rattle.device_reader.proofs.ends_checked.Statement.{statement}
-use Rattle.device_reader.proofs.ends_checked.Tie as tie
+use Rattle.list_reader.proofs.ends_checked.Statement.{statement}
+use Rattle.list_reader.proofs.ends_checked.Tie as tie
 
 note-requires : tie.Need-note-requires
 note-requires c κs = search needs

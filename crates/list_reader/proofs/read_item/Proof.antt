@@ -1,8 +1,8 @@
--- `device_reader::read_item`, by what is listed. Assumes nothing.
-use Rattle.device_reader.proofs.Steps.{item-as}
+-- By what is listed.
+use Rattle.list_reader.proofs.Steps.{item-as}
 use borrow.Author.Needs.{needs}
-use Rattle.device_reader.proofs.read_item.Statement.{statement}
-use Rattle.device_reader.proofs.read_item.Tie as tie
+use Rattle.list_reader.proofs.read_item.Statement.{statement}
+use Rattle.list_reader.proofs.read_item.Tie as tie
 
 enum-told : tie.Need-enum-told
 enum-told c = search needs

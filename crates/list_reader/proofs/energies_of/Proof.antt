@@ -1,8 +1,8 @@
--- `device_reader::energies_of`: each energy comes from 32 bits. Assumes nothing.
-use Rattle.device_reader.proofs.Steps.{energies-made}
+-- Each energy comes from 32 bits.
+use Rattle.list_reader.proofs.Steps.{energies-made}
 use borrow.Author.Needs.{needs}
-use Rattle.device_reader.proofs.energies_of.Statement.{statement}
-use Rattle.device_reader.proofs.energies_of.Tie as tie
+use Rattle.list_reader.proofs.energies_of.Statement.{statement}
+use Rattle.list_reader.proofs.energies_of.Tie as tie
 
 array-copy-out-energy-of : tie.Need-array-copy-out-energy-of
 array-copy-out-energy-of c = search needs

@@ -17,10 +17,10 @@ use Rattle.records.specs.Figures.{windowOf, EnergiesSmall}
 use Rattle.records.specs.Views.{less, costOffset}
 use Rattle.fields.specs.declared.Went.{Went}
 use Rattle.fields.specs.Got.{got, told}
-use Rattle.device_reader.specs.declared.Item.{Item}
-use Rattle.device_reader.specs.declared.ItemsRead.{ItemsRead}
-use Rattle.device_reader.specs.declared.Listed.{Listed}
-use Rattle.device_reader.specs.declared.Listed.the-variants.{States, Starts, Energies}
+use Rattle.list_reader.specs.declared.Item.{Item}
+use Rattle.list_reader.specs.declared.ItemsRead.{ItemsRead}
+use Rattle.list_reader.specs.declared.Listed.{Listed}
+use Rattle.list_reader.specs.declared.Listed.the-variants.{States, Starts, Energies}
 
 -- "startup states 3 (0..4)"; "start windows 3 (0..4)"; "energy windows 3 (0..4)"
 abbrev pub mostItems : ℕ

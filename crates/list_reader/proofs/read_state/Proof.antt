@@ -1,11 +1,11 @@
--- `device_reader::read_state`: the longest downtime, then the cost. Assumes nothing.
+-- The longest downtime, then the cost.
 use mathlib.Core.Path.{sym}
 use Rattle.fields.specs.Got.{nat-natural, int-natural}
 use Rattle.fields.proofs.Steps.{figure-on, figure-off}
-use Rattle.device_reader.proofs.Steps.{stop, then-off, then-late, then-on, kept-good, kept-bad}
+use Rattle.fields.proofs.Chains.{stop, then-off, then-late, then-on, kept-good, kept-bad}
 use borrow.Author.Needs.{needs}
-use Rattle.device_reader.proofs.read_state.Statement.{statement}
-use Rattle.device_reader.proofs.read_state.Tie as tie
+use Rattle.list_reader.proofs.read_state.Statement.{statement}
+use Rattle.list_reader.proofs.read_state.Tie as tie
 
 read-figure-requires : tie.Need-read-figure-requires
 read-figure-requires c κs = search needs

@@ -1,13 +1,14 @@
--- `device_reader::read_start`: start and end, then the edition's most starts. Assumes nothing.
+-- Start and end, then the edition's most starts.
 use mathlib.Core.Path.{sym}
 use Rattle.model.specs.ByEdition.{startWindow}
 use Rattle.fields.specs.Got.{nat-natural, went-good, went-bad}
 use Rattle.fields.proofs.Steps.{figure-on, figure-off}
-use Rattle.device_reader.specs.Devices.{ends-natural, start-fields}
-use Rattle.device_reader.proofs.Steps.{stop, pass, held-off, held-on, then-off, then-late, then-on, figure-of}
+use Rattle.list_reader.specs.Naturals.{ends-natural, start-fields}
+use Rattle.fields.proofs.Chains.{stop, pass, held-off, held-on, then-off, then-late, then-on}
+use Rattle.list_reader.proofs.Steps.{figure-of}
 use borrow.Author.Needs.{needs}
-use Rattle.device_reader.proofs.read_start.Statement.{statement}
-use Rattle.device_reader.proofs.read_start.Tie as tie
+use Rattle.list_reader.proofs.read_start.Statement.{statement}
+use Rattle.list_reader.proofs.read_start.Tie as tie
 
 read-ends-requires : tie.Need-read-ends-requires
 read-ends-requires c κs = search needs

@@ -1,9 +1,9 @@
--- `device_reader::read_items`. The loop's invariant: i of n have been read, whatever is listed. Assumes nothing.
+-- The loop's invariant: i of n have been read, whatever is listed.
 use Prim.Native.Nat.{_-_}
-use Rattle.device_reader.proofs.Counting.{Filling, fill-no-count, fill-none, fill-more, fill-off, fill-done}
+use Rattle.list_reader.proofs.Counting.{Filling, fill-no-count, fill-none, fill-more, fill-off, fill-done}
 use borrow.Author.Needs.{needs}
-use Rattle.device_reader.proofs.read_items.Statement.{statement}
-use Rattle.device_reader.proofs.read_items.Tie as tie
+use Rattle.list_reader.proofs.read_items.Statement.{statement}
+use Rattle.list_reader.proofs.read_items.Tie as tie
 
 abbrev Inv-loop : tie.InvT-loop
 Inv-loop s listed edition last items₀ n q₀ i₀ items q i = Filling listed edition last s n q₀ i items q
