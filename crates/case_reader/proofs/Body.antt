@@ -30,7 +30,7 @@ use Rattle.fields.specs.Got.{Got, good, bad, got, told, Natural, nat-natural, g
 use Rattle.numbers.specs.Rows.{rows-same}
 use Rattle.zone_reader.proofs.ZoneSteps.{zone-natural}
 use Rattle.device_reader.specs.Devices.{device-natural}
-use Rattle.case_reader.specs.Fronts.{frontIn, Halves}
+use Rattle.front_reader.specs.Fronts.{frontIn, Halves}
 use Rattle.case_reader.specs.Tables.{Fits, zonesIn, devicesIn, DevicesDone}
 use Rattle.case_reader.specs.Whole.{caseOf, madeOf, bodyGot, BodyRoom, BodyDone}
 

@@ -26,9 +26,9 @@ use Rattle.field_rows.specs.Each.{list-natural}
 use Rattle.fields.specs.Ended.{ended, endingOf, whole-inside, whole-ended, whole-failed, ended-tells}
 use Rattle.zone_reader.proofs.ZoneSteps.{zone-natural}
 use Rattle.device_reader.specs.Devices.{device-natural}
-use Rattle.case_reader.specs.Fronts.{largest, Within, front, frontIn, FrontDone}
+use Rattle.front_reader.specs.Fronts.{largest, Within, front, frontIn, FrontDone}
 use Rattle.case_reader.specs.Whole.{CaseRoom, caseOf, bodyGot, BodyRoom, BodyDone, FieldsDone, CaseDone}
-use Rattle.case_reader.proofs.FrontSteps.{counts-natural, front-natural}
+use Rattle.front_reader.proofs.FrontSteps.{counts-natural, front-natural}
 
 layout-is : (l : Largest) (s : List ℕ) → got (caseLayout l) s begin ≡ front l .read s begin bad (λ h p. bodyGot h s p)
 unfolding caseLayout content held _then_ apart bodyGot

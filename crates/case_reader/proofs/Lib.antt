@@ -1,4 +1,3 @@
-pub mod FrontSteps
 pub mod PartSteps
 pub mod DeviceSteps
 pub mod Body

@@ -24,7 +24,7 @@ use Rattle.fields.specs.declared.Ending.{Ending}
 use Rattle.fields.specs.declared.Ending.the-variants.{Passes, Fails}
 use Rattle.fields.specs.Got.{Got, good, bad, got, told}
 use Rattle.fields.specs.Ended.{ended}
-use Rattle.case_reader.specs.Fronts.{largest, Within, frontIn}
+use Rattle.front_reader.specs.Fronts.{largest, Within, frontIn}
 use Rattle.case_reader.specs.Tables.{Fits, Manned}
 
 -- tables with room for so many devices and intervals

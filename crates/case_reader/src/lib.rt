@@ -1,11 +1,10 @@
 // A case message of every edition, read once into the rows of lent tables. The largest counts that are taken are the caller's.
 mod devices;
-mod front;
 mod zones;
 
 use fields::Ending;
 use fields::Went;
-use front::FrontRead;
+use front_reader::FrontRead;
 use layouts::Place;
 use records::CellRow;
 use records::Counts;
@@ -49,7 +48,7 @@ fn read_body(
     let Went::On(at_zones) = durations else {
         return durations;
     };
-    let last = front::last_end(halves, m);
+    let last = front_reader::last_end(halves, m);
     let zoned = zones::read_zones(s, at_zones, edition, counts.zones, m, zones, minima);
     let Went::On(at_devices) = zoned else {
         return zoned;
@@ -82,7 +81,7 @@ fn read_fields(
     ensures { λ r. ⌜ FieldsDone «most_devices» «most_intervals» (now (s .entry)) (r .went) (r .front) (r .counts)
         (now (halves .exit)) (now (zones .exit)) (now (minima .exit)) (now (devices .exit)) (now (cells .exit)) ⌝ }
 {
-    let ahead = front::read_front(s, most_devices, most_intervals);
+    let ahead = front_reader::read_front(s, most_devices, most_intervals);
     let went = ahead.went;
     let Went::On(p) = went else {
         return ahead;

@@ -10,7 +10,7 @@ ghost use lib.ListN.{take};
 ghost use Rattle.model.specs.Messages.{lastEnd};
 ghost use Rattle.layouts.specs.Layout.{begin};
 ghost use Rattle.fields.specs.Got.{got, figured, placed};
-ghost use Rattle.case_reader.specs.Fronts.{edition, largest, CountsDone, PricesDone, FrontDone, Halves};
+ghost use Rattle.front_reader.specs.Fronts.{edition, largest, CountsDone, PricesDone, FrontDone, Halves};
 
 // "kind 4 (1)"
 const CASE: u32 = 1;

@@ -1,7 +1,7 @@
-use Rattle.case_reader.proofs.FrontSteps.{edition-no-kind, edition-done}
+use Rattle.front_reader.proofs.FrontSteps.{edition-no-kind, edition-done}
 use borrow.Author.Needs.{needs}
-use Rattle.case_reader.proofs.front.read_edition.Statement.{statement}
-use Rattle.case_reader.proofs.front.read_edition.Tie as tie
+use Rattle.front_reader.proofs.read_edition.Statement.{statement}
+use Rattle.front_reader.proofs.read_edition.Tie as tie
 
 read-fixed-requires : tie.Need-read-fixed-requires
 read-fixed-requires c κs = search needs

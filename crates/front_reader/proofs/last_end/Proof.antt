@@ -4,10 +4,10 @@ use mathlib.Core.Path.{_≡_, refl, ap}
 use native.Mathlib.Omega.{arith}
 use lib.ListN.{take}
 use Rattle.numbers.specs.Sum.{sumℕ}
-use Rattle.case_reader.proofs.FrontSteps.{sum-next}
+use Rattle.front_reader.proofs.FrontSteps.{sum-next}
 use borrow.Author.Needs.{needs}
-use Rattle.case_reader.proofs.front.last_end.Statement.{statement}
-use Rattle.case_reader.proofs.front.last_end.Tie as tie
+use Rattle.front_reader.proofs.last_end.Statement.{statement}
+use Rattle.front_reader.proofs.last_end.Tie as tie
 
 abbrev Inv-loop : tie.InvT-loop
 Inv-loop halves m sum₀ i₀ sum i = (i ≤ m) × (sum ≡ sumℕ (λ h. h) (take i halves)) × (sum ≤ 180 * i)

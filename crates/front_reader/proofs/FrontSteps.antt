@@ -23,7 +23,7 @@ use Rattle.fields.specs.Got.{nat-within, mapped, placed-off, told-off, went-goo
 use Rattle.field_rows.specs.Each.{list-natural}
 use Rattle.fields.specs.Since.{count-of}
 use Rattle.fields.proofs.Steps.{figure-on, figure-off}
-use Rattle.case_reader.specs.Fronts.{edition, countsIn, CountsDone, prices, PricesDone, front, frontIn, FrontDone}
+use Rattle.front_reader.specs.Fronts.{edition, countsIn, CountsDone, prices, PricesDone, front, frontIn, FrontDone}
 
 -- ---- kind and edition
 

@@ -1,8 +1,8 @@
 use mathlib.Core.Path.{refl}
-use Rattle.case_reader.proofs.FrontSteps.{prices-told}
+use Rattle.front_reader.proofs.FrontSteps.{prices-told}
 use borrow.Author.Needs.{needs}
-use Rattle.case_reader.proofs.front.read_prices.Statement.{statement}
-use Rattle.case_reader.proofs.front.read_prices.Tie as tie
+use Rattle.front_reader.proofs.read_prices.Statement.{statement}
+use Rattle.front_reader.proofs.read_prices.Tie as tie
 
 slice-aggregate-read-list : tie.Need-slice-aggregate-read-list
 slice-aggregate-read-list c = search needs

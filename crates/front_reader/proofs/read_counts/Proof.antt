@@ -1,8 +1,8 @@
-use Rattle.case_reader.specs.Fronts.{largest}
-use Rattle.case_reader.proofs.FrontSteps.{devices-of, intervals-of, no-devices, no-intervals, no-zones, counts-done}
+use Rattle.front_reader.specs.Fronts.{largest}
+use Rattle.front_reader.proofs.FrontSteps.{devices-of, intervals-of, no-devices, no-intervals, no-zones, counts-done}
 use borrow.Author.Needs.{needs}
-use Rattle.case_reader.proofs.front.read_counts.Statement.{statement}
-use Rattle.case_reader.proofs.front.read_counts.Tie as tie
+use Rattle.front_reader.proofs.read_counts.Statement.{statement}
+use Rattle.front_reader.proofs.read_counts.Tie as tie
 
 device-bits-requires : tie.Need-device-bits-requires
 device-bits-requires c κs = search needs

@@ -1,8 +1,8 @@
-use Rattle.case_reader.specs.Fronts.{largest}
-use Rattle.case_reader.proofs.FrontSteps.{front-no-edition, front-no-counts, front-done}
+use Rattle.front_reader.specs.Fronts.{largest}
+use Rattle.front_reader.proofs.FrontSteps.{front-no-edition, front-no-counts, front-done}
 use borrow.Author.Needs.{needs}
-use Rattle.case_reader.proofs.front.read_front.Statement.{statement}
-use Rattle.case_reader.proofs.front.read_front.Tie as tie
+use Rattle.front_reader.proofs.read_front.Statement.{statement}
+use Rattle.front_reader.proofs.read_front.Tie as tie
 
 read-edition-requires : tie.Need-read-edition-requires
 read-edition-requires c κs = search needs
