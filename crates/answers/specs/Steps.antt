@@ -7,6 +7,7 @@ use native.Mathlib.Omega.{arith}
 use borrow.Author.Tests.{lt-ltb, le-ltb}
 use lib.ListN.{length, drop, length-take}
 use Rattle.bits.specs.Bits.{fieldAt}
+use Rattle.numbers.specs.Tests.{never}
 use Rattle.layouts.specs.Faults.{numberOf}
 use Rattle.layouts.specs.Framing.{part, bytesOf, messageAt}
 use Rattle.layouts.specs.declared.Fault.{Fault}
@@ -69,9 +70,6 @@ unfolding texts
 one-line {l} {m} e w = let f : text l ≡ text m ++ [] = ap text e ∙ sym (append-nil (text m)) in rw f at w
 
 -- ---- the case
-
-pub never : {P : Type 0} → false ≡ true → P
-never k = let z : _≡_ {A = ℕ} 0 1 = cc in absurd (omega arith)
 
 module _ (frame halves : List ℕ) (zones minima devices cells : List (List ℕ)) (before : List ℕ) {x : Framed} (e : x ≡ framed frame) (front : Front) (counts : Counts) where
   abbrev held : Stated

@@ -7,33 +7,26 @@ use Prim.Native.Nat.{ℕ, zero, suc, _+_, _-_, _≤_, _<_, min}
 use native.Mathlib.Omega.{arith}
 use native.Mathlib.Decide.{decLe}
 use borrow.Author.Tests.{lt-ltb, le-ltb}
-use lib.Dec.{T, ltb, eqb}
+use lib.Dec.{ltb, eqb}
 use lib.ListN.{getD}
-use lib.IntN.{ℤ, pos, negℤ, _-ℤ_}
+use lib.IntN.{ℤ, pos, negℤ}
 use lib.Signed.{ltZ, _<ℤ_, ltZ-yes}
 use Rattle.numbers.specs.Z.{whole, n-, n~}
 use Rattle.numbers.specs.Sum.{sumℕ, sumℕ-cong, gate, all}
 use Rattle.numbers.specs.Fill as F
-use Rattle.numbers.specs.Blocks.{rank, first, turned, cheapest, dearest, cheapest-total, dearest-total, Asc}
+use Rattle.numbers.specs.Blocks.{rank, first, turned, cheapest, dearest}
 use Rattle.bits.specs.Pick.{pick}
 use Rattle.units.specs.declared.Kw.{Kw}
 use Rattle.units.specs.Units.{kw}
 use Rattle.numbers.specs.Base.{range}
 use Rattle.numbers.specs.Every.{all-upTo}
+use Rattle.numbers.specs.Tests.{same-test}
+use Rattle.ranges.specs.Kept.{less}
 use Rattle.model.specs.Rules.{blocks}
 use Rattle.model.specs.Ours.{filling}
-
--- two tests that say the same are the same
-pub same-test : (a b : Bool) → (T a → T b) → (T b → T a) → a ≡ b
-same-test true true f g = refl
-same-test true false f g = absurd (f tt)
-same-test false true f g = absurd (g tt)
-same-test false false f g = refl
+pub use Rattle.theorems.specs.Best.{filling-total}
 
 -- ---- prices kept from 0 order blocks as the prices do
-
-abbrev pub less : ℕ → ℕ → ℤ
-less offset v = pos v -ℤ pos offset
 
 pub kept-lower : (o a b : ℕ) → ltb a b ≡ ltZ (less o a) (less o b)
 kept-lower o a b = same-test _ _
@@ -72,17 +65,6 @@ module _ (o p : ℕ) (caps : List Kw) (prices : List ℕ) (k : ℕ) where
   unfolding blockOf filling cheapest dearest F.fill F.before
   block-is-filling false = ap (λ (n : ℕ). min (capOf caps k) (p - n)) (sumℕ-cong _ _ blocks (all ranked blocks))
   block-is-filling true = ap (λ (n : ℕ). min (capOf caps k) (p - n)) (sumℕ-cong _ _ blocks (all ranked-turned blocks))
-
--- ---- the total
-
-asc-blocks : Asc blocks
-unfolding range
-asc-blocks = omega arith
-
-pub filling-total : (b : Bool) (price : ℕ → ℤ) (cap : ℕ → ℕ) (p : ℕ) → p ≤ sumℕ cap blocks → sumℕ (filling b price cap p) blocks ≡ p
-unfolding filling
-filling-total false price cap p h = cheapest-total price cap p blocks asc-blocks h
-filling-total true price cap p h = dearest-total price cap p blocks asc-blocks h
 
 -- the four powers, for prices kept from 0 with any offset, with their total conserved
 pub record Filled (side p : ℕ) (caps : List Kw) (prices : List ℕ) (r : List Kw) : Type 0 where

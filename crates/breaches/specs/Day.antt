@@ -1,10 +1,12 @@
 -- The breaches of an interval, of the day's cells and of its windows; the loops over them, and a day without any.
 use mathlib.Core.Path.{_≡_, refl, sym, _∙_}
 use mathlib.Core.List.{List, [], _++_}
-use Prim.Native.Nat.{ℕ, zero, suc, _+_, _≤_, _<_}
+use Prim.Native.Nat.{ℕ, _+_, _≤_, _<_}
 use native.Mathlib.Omega.{arith}
 use native.Mathlib.Decide.{decLe}
-use Rattle.numbers.specs.Base.{range, upTo, gather}
+use Rattle.numbers.specs.Base.{upTo, gather}
+use Rattle.numbers.specs.Every.{all-upTo}
+use Rattle.numbers.specs.Gather.{gather-none}
 use Rattle.model.specs.Case.{System, Plan}
 use Rattle.model.specs.Forced.{intervals, devices}
 use Rattle.model.specs.Breaches.{cellBreaches, windowBreaches, breaches}
@@ -113,17 +115,12 @@ module _ (q : System) (p : Plan) where
       go i l (yes x) = let z : i ≡ n = omega arith in rw z e
       go i l (no x) = h .at i (omega arith)
 
-  gather-none : (f : ℕ → List Breach) (k n : ℕ) → ((w : ℕ) → k ≤ w → w < k + n → f w ≡ []) → gather f (range k n) ≡ []
-  unfolding range gather
-  gather-none f k zero h = refl
-  gather-none f k (suc n) h = rw (h k (omega arith) (omega arith), gather-none f (suc k) n (λ w l m. h w (omega arith) (omega arith))) refl
-
   pub none-at-all : {m n : ℕ} → intervals q ≡ m → devices q ≡ n → HoldTo m n → breaches q p ≡ []
   unfolding breaches
   none-at-all e f h = rw (
-    gather-none (λ t. gather (cellBreaches q p t) (upTo (devices q))) 0 (intervals q) (λ t a b.
-        gather-none (cellBreaches q p t) 0 (devices q) (λ i c d. h .at i (omega arith) .cells t (omega arith))),
-    gather-none (windowBreaches q p) 0 (devices q) (λ i c d. h .at i (omega arith) .windows),
+    gather-none (λ t. gather (cellBreaches q p t) (upTo (devices q))) (upTo (intervals q)) (all-upTo _ _ (λ t a.
+        gather-none (cellBreaches q p t) (upTo (devices q)) (all-upTo _ _ (λ i b. h .at i (omega arith) .cells t (omega arith))))),
+    gather-none (windowBreaches q p) (upTo (devices q)) (all-upTo _ _ (λ i b. h .at i (omega arith) .windows)),
   ) refl
 
   pub first-none : breaches q p ≡ [] → Held ≡ first (breaches q p)

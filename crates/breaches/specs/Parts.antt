@@ -1,19 +1,22 @@
 -- A device's parts as the code cuts them, from a on: they lie within the tables, and their tests and windows are the model's.
-use mathlib.Core.Path.{_≡_, refl, sym, ap, ap₂, _∙_}
+use mathlib.Core.Path.{_≡_, refl, sym, ap, _∙_}
 use mathlib.Core.Bool.{Bool, true, false, not}
-use mathlib.Core.List.{List, [], _∷_, _++_, map}
-use Prim.Native.Nat.{ℕ, zero, suc, _+_, _-_, _*_, _≤_, _<_}
+use mathlib.Core.List.{List, [], _∷_, map}
+use Prim.Native.Nat.{ℕ, suc, _+_, _-_, _*_, _≤_, _<_}
 use native.Mathlib.Omega.{arith}
+use native.Mathlib.Nat.{mul-le-mul}
 use borrow.Author.Tests.{not-true, not-false}
 use lib.Dec.{leb}
 use lib.ListN.{getD, length, take, drop}
-use Rattle.numbers.specs.Base.{range, upTo, gather}
+use Rattle.numbers.specs.Base.{upTo, gather}
+use Rattle.numbers.specs.Every.{all-upTo}
+use Rattle.numbers.specs.Gather.{gather-cong}
 use Rattle.model.specs.Case.{System, Plan}
 use Rattle.model.specs.Forced as F
 use Rattle.model.specs.Breaches.{failing, cellTests, cellBreaches, oneWindow, windowBreaches}
 use Rattle.model.specs.declared.Breach.{Breach}
 use Rattle.records.specs.Figures.{deviceOf}
-use Rattle.records.specs.Parts.{part, part-cut, part-inside, part-long, table-small}
+use Rattle.numbers.specs.Parts.{part, part-cut, part-inside, part-long}
 use Rattle.records.specs.Views.{systemIn, planIn, mostDevices, mostIntervals, Ready}
 use Rattle.records.specs.Viewed as W
 use Rattle.records.specs.Figures.{noStart}
@@ -56,11 +59,6 @@ module _ (d : Device) (settings : List (List ℕ)) (starts : List ℕ) (i : ℕ)
     unfolding windowHere failing first
     window-broken h = rw (sym e ∙ not-true b h) refl
 
-gather-range : (f g : ℕ → List Breach) (k n : ℕ) → ((w : ℕ) → k ≤ w → w < k + n → f w ≡ g w) → gather f (range k n) ≡ gather g (range k n)
-unfolding range gather
-gather-range f g k zero h = refl
-gather-range f g k (suc n) h = ap₂ (λ (a b : List Breach). a ++ b) (h k (omega arith) (omega arith)) (gather-range f g (suc k) n (λ w l m. h w (omega arith) (omega arith)))
-
 -- ---- places
 
 pub record Place (a m : ℕ) (cells settings : List (List ℕ)) (powers : List ℕ) : Type 0 where
@@ -76,7 +74,7 @@ module _ {front : Front} {halves : List ℕ} {zones minima devices cells setting
     in-cells = omega (arith, h, ready .case-rows .cells-full);
     in-settings = omega (arith, h, ready .plan-rows .full);
     in-powers = omega (arith, h, ready .forced-rows .powers-full);
-    small = omega (arith, h, table-small mostDevices mostIntervals (ready .case-rows .few-devices) (ready .case-rows .few-intervals));
+    small = omega (arith, h, mul-le-mul (ready .case-rows .few-devices) (ready .case-rows .few-intervals));
   }
 
   abbrev q : System
@@ -128,7 +126,7 @@ module _ {front : Front} {halves : List ℕ} {zones minima devices cells setting
   all-here : windowsHere there (part m i settings) starts i ≡ windowBreaches q p i
   unfolding windowsHere windowBreaches
   all-here = rw (W.start-windows-are halves zones minima devices cells i l (ready .case-rows .counted i l .few-starts))
-      (gather-range (windowHere there (part m i settings) starts i) (oneWindow q p i) 0 (there .nstarts) (λ w a h. here-is w (omega arith)))
+      (gather-cong (windowHere there (part m i settings) starts i) (oneWindow q p i) (upTo (there .nstarts)) (all-upTo _ _ here-is))
 
   -- the device's windows in turn
   pub windows-are : {d : Device} → d ≡ deviceOf (getD devices i []) → windowsHere d ownSettings starts i ≡ windowBreaches q p i

@@ -1,7 +1,7 @@
 -- The steps of a case behind its front, and the case that the first rows of its tables hold.
 use mathlib.Core.Path.{_≡_, refl, ap, sym, _∙_}
-use mathlib.Core.List.{List, [], _∷_, _++_, map, map-append}
-use Prim.Native.Nat.{ℕ, zero, suc, _*_, _≤_}
+use mathlib.Core.List.{List, []}
+use Prim.Native.Nat.{ℕ, _*_, _≤_}
 use native.Mathlib.Omega.{arith}
 use lib.ListN.{length, getD, take}
 use lib.Seq.{getD-take, length-take-le}
@@ -20,14 +20,14 @@ use Rattle.model.specs.Case.{Case}
 use Rattle.numbers.specs.Rows.{rows}
 use Rattle.records.specs.declared.Counts.{Counts}
 use Rattle.records.specs.declared.Front.{Front}
-use Rattle.records.specs.Parts.{part, part-taken}
+use Rattle.numbers.specs.Parts.{part, part-taken}
 use Rattle.records.specs.Figures.{deviceOf, zoneOf}
 use Rattle.records.specs.Views.{mostIntervals, zoneIn, sixIn, deviceIn, devicePricesIn, systemIn, pricesIn}
 use Rattle.fields.specs.declared.Went.{Went}
 use Rattle.fields.specs.declared.Went.the-variants as W
 use Rattle.field_rows.specs.Each.{list-natural}
 use Rattle.fields.specs.Got.{Got, good, bad, got, told, Natural, nat-natural, goes-on, goes-off, mapped, told-off, went-good, went-bad}
-use Rattle.numbers.specs.Rows.{rows-same}
+use Rattle.numbers.specs.Rows.{rows-same, rows-map}
 use Rattle.zone_reader.proofs.ZoneSteps.{zone-natural}
 use Rattle.device_reader.specs.Devices.{device-natural}
 use Rattle.front_reader.specs.Fronts.{frontIn, Halves}
@@ -49,11 +49,6 @@ halves-short m halves s p few room e =
     record { few = few; room = room; half = λ t l. rw (getD-take m halves t 0 l) at (all-getD 180 (take m halves) (all-map (λ k ok. ok .1) (take m halves) (h .1)) t) }
 
 -- ---- the case in the first rows
-
-rows-map : {A B : Type 0} (g : A → B) (f : ℕ → A) (n : ℕ) → map g (rows f n) ≡ rows (λ k. g (f k)) n
-unfolding rows
-rows-map g f zero = refl
-rows-map {B = B} g f (suc n) = map-append g (rows f n) (f n ∷ []) ∙ ap (λ (l : List B). l ++ (g (f n) ∷ [])) (rows-map g f n)
 
 -- the n first rows with their parts, as the whole tables have them
 first-rows : {A : Type 0} (view : List ℕ → List (List ℕ) → A) (n : ℕ) {h m : ℕ} (heads table : List (List ℕ)) → h ≡ m → Fits n m heads table

@@ -12,7 +12,7 @@ use Rattle.model.specs.ByEdition as B
 use Rattle.records.specs.declared.Device.{Device}
 use Rattle.records.specs.Figures.{deviceOf, deviceRow}
 use Rattle.records.specs.Kept.{device-kept}
-use Rattle.records.specs.Parts.{patched-before, patched-row}
+use Rattle.numbers.specs.Parts.{patched-before, patched-row}
 use Rattle.records.specs.Views.{deviceIn, devicePricesIn}
 use Rattle.fields.specs.declared.Went.{Went}
 use Rattle.fields.specs.declared.Went.the-variants as W

@@ -9,7 +9,7 @@ use Rattle.layouts.specs.declared.Fault.{Fault}
 use Rattle.layouts.specs.declared.Place.{Place}
 use Rattle.layouts.specs.Layout.{Layout, list}
 use Rattle.numbers.specs.Rows.{rows}
-use Rattle.records.specs.Parts.{part, part-inside, patched-long, patched-same, patched-ahead}
+use Rattle.numbers.specs.Parts.{part, part-inside, patched-long, patched-same, patched-ahead}
 use Rattle.fields.specs.declared.Went.{Went}
 use Rattle.fields.specs.declared.Went.the-variants as W
 use Rattle.fields.specs.Got.{good, got, told, Natural, told-off, went-good, went-bad}

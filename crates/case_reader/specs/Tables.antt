@@ -10,7 +10,7 @@ use Rattle.model.specs.ByEdition as B
 use Rattle.numbers.specs.Rows.{rows}
 use Rattle.records.specs.declared.Device.{Device}
 use Rattle.records.specs.Figures.{deviceOf, deviceRow, DeviceSmall}
-use Rattle.records.specs.Parts.{part}
+use Rattle.numbers.specs.Parts.{part}
 use Rattle.records.specs.Views.{mostIntervals, deviceIn, devicePricesIn, Padded, Counted}
 use Rattle.fields.specs.declared.Went.{Went}
 use Rattle.fields.specs.declared.Went.the-variants.{On}

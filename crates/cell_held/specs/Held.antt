@@ -18,9 +18,6 @@ use Rattle.cell_rules.specs.Sign.{moved-r}
 use Rattle.cell_rules.specs.Word.{no-test, test-holds, all-hold}
 use Rattle.cell_rules.specs.Tests.{consumes, ups, downs, offUps, forced, roomOf, stateTests, rampTests, onTests, offTests, powerTests, tests}
 
-pub no-way : {A : Type 0} → false ≡ true → A
-no-way e = absurd (let z : _≡_ {A = ℕ} 0 1 = cc in omega (arith, z))
-
 -- the code's answer: `if !rule(..) { return false; }`, or the last one
 pub passed : {b test : Bool} → b ≡ test → not b ≡ false → test ≡ true
 passed {b} e h = sym e ∙ not-false b h

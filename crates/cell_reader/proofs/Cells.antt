@@ -5,7 +5,7 @@ use Prim.Native.Nat.{ℕ, zero, suc, _+_, _≤_, _<_}
 use native.Mathlib.Omega.{arith}
 use native.Mathlib.Decide.{decLe}
 use lib.IntN.{ℤ}
-use lib.ListN.{length, getD, set, take, length-set}
+use lib.ListN.{length, getD, set, take, length-set, List·getD-map}
 use lib.Seq.{take-all, getD-set-same, getD-set-other}
 use Rattle.layouts.specs.declared.Fault.{Fault}
 use Rattle.layouts.specs.declared.Place.{Place}
@@ -15,7 +15,6 @@ use Rattle.model.specs.Messages as L
 use Rattle.model.specs.Messages.{apart}
 use Rattle.model.specs.ByEdition.{cell}
 use Rattle.ranges.specs.Kept.{reservesOf}
-use Rattle.numbers.specs.Rows.{getD-map}
 use Rattle.units.specs.declared.Kw.{Kw}
 use Rattle.records.specs.declared.Cell.{Cell}
 use Rattle.records.specs.declared.ReservePrices.{ReservePrices}
@@ -96,7 +95,7 @@ module _ (l : LimitsRead) (n : ℕ) (bs : List Block) (prices : ReservePrices) (
       (ap (λ (x : List ℕ). map (less priceOffset) (take n x)) prices-are ∙ parts (λ b. b .price) (less priceOffset) blockIn (λ x. x .1) (λ b. refl) n bs)
 
   row-padded : n ≤ 4 → ((k : ℕ) → n ≤ k → k < 4 → getD bs k noBlock .cap .0 ≡ 0) → Padded (cellRow c)
-  row-padded few rest = cell-padded c refl refl few (λ k m o. ap (λ (x : List Kw). kwAt x k) caps-are ∙ ap (λ (x : Kw). x .0) (getD-map (λ (b : Block). b .cap) noBlock bs k) ∙ rest k m o)
+  row-padded few rest = cell-padded c refl refl few (λ k m o. ap (λ (x : List Kw). kwAt x k) caps-are ∙ ap (λ (x : Kw). x .0) (List·getD-map (λ (b : Block). b .cap) bs k noBlock) ∙ rest k m o)
 
 -- the eight, by name
 pub prices-told : (s : List ℕ) (p : Place) (w : Went) (v : List ℕ) {r : ReservePrices} → told w (reservesOf v) ≡ got reservePrices s p → r ≡ pricesOf v

@@ -7,6 +7,7 @@ use native.Mathlib.Omega.{arith}
 use native.Mathlib.Decide.{decLe}
 use lib.Dec.{T, leb, ltb, eqb, leb→le, ltb→lt, le→leb, lt→ltb}
 use lib.Pow.{pow-add}
+use Rattle.numbers.specs.Tests.{and-in, and-l, and-r}
 use Rattle.bits.specs.Pick.{pick}
 use Rattle.model.specs.Breaches.{failing, unless}
 
@@ -81,38 +82,26 @@ unfolding bitsFrom
 no-bits k zero = refl
 no-bits k (suc f) = no-bits (suc k) f
 
-and-first : (a b : Bool) → T (a && b) → T a
-and-first true b h = tt
-and-first false b h = absurd h
-
-and-rest : (a b : Bool) → T (a && b) → T b
-and-rest true b h = h
-and-rest false b h = absurd h
-
-and-both : (a b : Bool) → T a → T b → T (a && b)
-and-both true b h l = l
-and-both false b h l = absurd h
-
 module _ (k n : ℕ) (x : ℕ × Bool) (ns : List (ℕ × Bool)) where
   abbrev inside : Bool
   inside = ltb (x .0) n && rising (suc (x .0)) n ns
 
   from-low : T (rising k n (x ∷ ns)) → k ≤ x .0
   unfolding rising
-  from-low h = leb→le k (x .0) (and-first (leb k (x .0)) inside h)
+  from-low h = leb→le k (x .0) (and-l (leb k (x .0)) inside h)
 
   below : T (rising k n (x ∷ ns)) → x .0 < n
   unfolding rising
-  below h = ltb→lt (x .0) n (and-first (ltb (x .0) n) (rising (suc (x .0)) n ns) (and-rest (leb k (x .0)) inside h))
+  below h = ltb→lt (x .0) n (and-l (ltb (x .0) n) (rising (suc (x .0)) n ns) (and-r (leb k (x .0)) inside h))
 
   others : T (rising k n (x ∷ ns)) → T (rising (suc (x .0)) n ns)
   unfolding rising
-  others h = and-rest (ltb (x .0) n) (rising (suc (x .0)) n ns) (and-rest (leb k (x .0)) inside h)
+  others h = and-r (ltb (x .0) n) (rising (suc (x .0)) n ns) (and-r (leb k (x .0)) inside h)
 
   -- from another number on
   anew : (j : ℕ) → j ≤ x .0 → T (rising k n (x ∷ ns)) → T (rising j n (x ∷ ns))
   unfolding rising
-  anew j l h = and-both (leb j (x .0)) inside (le→leb j (x .0) l) (and-rest (leb k (x .0)) inside h)
+  anew j l h = and-in (leb j (x .0)) inside (le→leb j (x .0) l) (and-r (leb k (x .0)) inside h)
 
 -- a list that rises from a later number on
 later : (k j n : ℕ) → j ≤ k → (ns : List (ℕ × Bool)) → T (rising k n ns) → T (rising j n ns)

@@ -14,8 +14,8 @@ use Rattle.records.specs.declared.Front.{Front}
 use Rattle.records.specs.declared.Cell.{Cell}
 use Rattle.records.specs.declared.Device.{Device}
 use Rattle.records.specs.Figures.{cellOf, deviceOf, onAt, startedAt, stoppedAt}
-use Rattle.records.specs.Parts.{part, part-long}
-use Rattle.records.specs.Sums.{sum-last}
+use Rattle.numbers.specs.Parts.{part, part-long}
+use Rattle.numbers.specs.Ranges.{sum-last}
 use Rattle.records.specs.Views.{less, priceOffset, numberOf, settingIn, deviceIn, devicePricesIn, systemIn, caseIn, planIn, Ready}
 use Rattle.records.specs.Viewed as Viewed
 use Rattle.records.specs.Ranged as Ranged

@@ -7,7 +7,7 @@ use native.Mathlib.Omega.{arith}
 use lib.Dec.{leb, eqb}
 use lib.ListN.{length}
 use lib.IntN.{ℤ, pos}
-use Rattle.numbers.specs.State.{best}
+use Rattle.numbers.specs.State.{best, best-same}
 use Rattle.bits.specs.Pick.{pick}
 use Rattle.numbers.specs.Base.{range}
 use Rattle.model.specs.Forced.{device, consuming, cap, su, power, downtime}
@@ -26,7 +26,7 @@ use Rattle.block_fill.specs.Filled.{Filled, priceOf, capOf, Alike, filling-same
 use Rattle.choices.specs.declared.Choice.{Choice}
 use Rattle.choices.specs.Cells as Cells
 use Rattle.choices.specs.Cells.{CellOf, systemOf, planOf, caseOf}
-use Rattle.choices.specs.States.{costOf, lastsOf, stateOf, best-same}
+use Rattle.choices.specs.States.{costOf, lastsOf, stateOf}
 use Rattle.choices.specs.Rests.{offSince, downtime-is}
 
 -- ---- the startup state

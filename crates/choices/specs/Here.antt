@@ -11,7 +11,7 @@ use Rattle.records.specs.declared.Front.{Front}
 use Rattle.records.specs.declared.Cell.{Cell}
 use Rattle.records.specs.declared.Device.{Device}
 use Rattle.records.specs.Figures.{cellOf, deviceOf}
-use Rattle.records.specs.Parts.{part, part-at}
+use Rattle.numbers.specs.Parts.{part, part-at}
 use Rattle.records.specs.Views.{caseIn, planIn, Ready}
 use Rattle.choices.specs.declared.Choice.{Choice}
 use Rattle.choices.specs.Cells.{CellOf}

@@ -1,7 +1,7 @@
 -- The startup state of a device's record, for a downtime: costs kept from 0.
 use mathlib.Core.Path.{_≡_, refl, sym, ap, _∙_}
 use mathlib.Core.Bool.{Bool, true, false, _&&_, cond}
-use mathlib.Core.List.{List, [], _∷_}
+use mathlib.Core.List.{List}
 use Prim.Native.Nat.{ℕ, zero, suc, _+_, _-_, _≤_, _<_}
 use native.Mathlib.Omega.{arith}
 use native.Mathlib.Numerals.{add-one}
@@ -9,7 +9,6 @@ use lib.Dec.{ltb, leb}
 use lib.ListN.{getD}
 use lib.IntN.{ℤ, pos}
 use lib.Signed.{ltZ}
-use Rattle.numbers.specs.Sum.{All}
 use Rattle.numbers.specs.State.{best}
 use Rattle.bits.specs.Pick.{pick}
 use Rattle.numbers.specs.Base.{range}
@@ -82,13 +81,3 @@ module _ (d : Device) (downtime : ℕ) where
   pub best-end : (k : ℕ) (b : Chosen) → n ≤ k → Best k b → b .state ≡ stateOf d downtime
   unfolding range stateOf
   best-end k b l h = let z : n - k ≡ 0 = omega arith in sym (h .rest ∙ rw z refl)
-
--- costs and tests that agree on the list choose alike
-pub best-same : (f g : ℕ → ℤ) (x y : ℕ → Bool) (b : ℕ) (ks : List ℕ) → f b ≡ g b → All (λ k. (f k ≡ g k) × (x k ≡ y k)) ks → best f x b ks ≡ best g y b ks
-best-same f g x y b [] e h = refl
-best-same f g x y b (k ∷ ks) e h =
-    rw (e, h .0 .0, h .0 .1) (best-same f g x y (cond (y k && ltZ (g k) (g b)) k b) ks (go (y k && ltZ (g k) (g b))) (h .1))
-  where
-    go : (t : Bool) → f (cond t k b) ≡ g (cond t k b)
-    go true = h .0 .0
-    go false = e

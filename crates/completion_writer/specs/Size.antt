@@ -1,14 +1,13 @@
 -- The bits that a completion's parts take, and the bytes that it needs: its edition and its counts alone say how many.
-use mathlib.Core.Path.{_≡_, refl, _∙_, ap}
-use mathlib.Core.List.{List, [], _∷_, map}
+use mathlib.Core.Path.{_≡_, _∙_, ap}
 use Prim.Native.Nat.{ℕ, _+_, _*_, _≤_}
 use native.Mathlib.Omega.{arith}
-use native.Mathlib.Nat.{add-mul}
 use lib.IntN.{ℤ}
-use lib.ListN.{length, length-append, length-map}
-use Rattle.numbers.specs.Sum.{All, all, all-map, sumℕ}
+use lib.ListN.{length, length-append}
+use Rattle.numbers.specs.Sum.{All, all, all-map}
 use Rattle.numbers.specs.Base.{upTo, gather}
-use Rattle.numbers.specs.Every.{length-range}
+use Rattle.numbers.specs.Every.{map-of-all}
+use Rattle.numbers.specs.Gather.{maps-long, gather-wide, gather-counted}
 use Rattle.layouts.specs.Layout.{bitsOf, bytes, bytesFor, nat, int, _then_, list, held, any}
 use Rattle.layouts.specs.Trip.{length-bits, length-bytes}
 use Rattle.model.specs.Case.{System, Six}
@@ -19,7 +18,6 @@ use Rattle.model.specs.Forced.{intervals, devices, zones, device}
 use Rattle.model.specs.Judgement.{written, countsOf, energyWindows}
 use Rattle.model.specs.Messages as M
 use Rattle.model.specs.Messages.{Counts, DeviceChoice, IntervalChoice, Written}
-use Rattle.theorems.specs.Back.{FitsWritten}
 use Rattle.model.specs.Judgement.{completionIn}
 
 -- "kind 4 (3); edition 4; devices; intervals; zones 3"
@@ -68,45 +66,17 @@ pub record Shaped (n : Counts) (windows : ℕ) (w : Written) : Type 0 where
   pub each : All (ShapedInterval n) (w .intervals)
   pub count : lib.ListN.length (w .overruns) ≡ windows
 
--- what fits has it
-pub fits-shaped : (n : Counts) (windows : ℕ) (w : Written) → FitsWritten n windows w → Shaped n windows w
-fits-shaped n windows w f = record {
-  length = f .length;
-  each = all-map (λ r k. record { each = k .each; four = all-map (λ d j. j .four) (r .devices) (k .devices); every = k .every }) (w .intervals) (f .each);
-  count = f .count;
-}
-
-all-maps : {A B : Type 0} (P : B → Type 0) (f : A → B) → ((a : A) → P (f a)) → (xs : List A) → All P (map f xs)
-all-maps P f h [] = tt
-all-maps P f h (x ∷ xs) = (h x, all-maps P f h xs)
-
-maps-long : {A : Type 0} (f : ℕ → A) (n : ℕ) → length (map f (upTo n)) ≡ n
-maps-long f n = length-map (upTo n) f ∙ length-range 0 n
-
-overruns-long : (q : System) (x : Completion ℕ) (is : List ℕ)
-    → length (gather (λ i. map (x .overrun i) (upTo (length (device q i .energyWindows)))) is) ≡ sumℕ (λ i. length (device q i .energyWindows)) is
-unfolding gather
-overruns-long q x [] = refl
-overruns-long q x (i ∷ is) =
-    length-append (map (x .overrun i) (upTo (length (device q i .energyWindows)))) _
-    ∙ omega (arith, maps-long (x .overrun i) (length (device q i .energyWindows)), overruns-long q x is)
-
 -- the message of any choices has it
 pub written-shaped : (q : System) (x : Completion ℕ) (z : ℤ) → Shaped (countsOf q) (energyWindows q) (written q x z)
 unfolding written energyWindows
 written-shaped q x z = record {
   length = maps-long _ _;
-  each = all-maps (ShapedInterval (countsOf q)) _
-      (λ t. record { each = maps-long _ _; four = all-maps (λ d. length (d .blocks) ≡ 4) _ (λ i. maps-long _ 4) (upTo (devices q)); every = maps-long _ _ }) (upTo _);
-  count = overruns-long q x (upTo (devices q));
+  each = map-of-all (ShapedInterval (countsOf q)) _ (upTo _) (all
+      (λ t. record { each = maps-long _ _; four = map-of-all (λ d. length (d .blocks) ≡ 4) _ (upTo (devices q)) (all (λ i. maps-long _ 4) (upTo (devices q))); every = maps-long _ _ }) (upTo _));
+  count = gather-counted (x .overrun) (λ i. length (device q i .energyWindows)) (upTo (devices q));
 }
 
 -- ---- widths
-
-gather-wide : {A : Type 0} (f : A → List ℕ) (w : ℕ) (xs : List A) → All (λ x. length (f x) ≡ w) xs → length (gather f xs) ≡ length xs * w
-unfolding gather
-gather-wide f w [] h = omega arith
-gather-wide f w (x ∷ xs) h = omega (arith, length-append (f x) (gather f xs), h .0, gather-wide f w xs (h .1), add-mul 1 (length xs) w)
 
 pub device-wide : (d : DeviceChoice) → length (d .blocks) ≡ 4 → length (M.deviceChoice .write d) ≡ deviceWidth
 unfolding M.deviceChoice held _then_ nat list
@@ -150,10 +120,6 @@ completion-wide e n windows w s =
 pub bytes-wide : (e : ℕ) (n : Counts) (windows : ℕ) (w : Written) → Shaped n windows w
     → length (bytes (B.completionLayout e n windows .write w)) ≡ needed e (n .devices) (n .intervals) (n .zones) windows
 bytes-wide e n windows w s = length-bytes (B.completionLayout e n windows .write w) ∙ ap bytesFor (completion-wide e n windows w s)
-
--- a buffer of as many bytes has room for its bits
-pub needed-room : (e devices intervals zones windows room : ℕ) → needed e devices intervals zones windows ≤ room → completionWidth e devices intervals zones windows ≤ 8 * room
-needed-room e devices intervals zones windows room h = omega arith
 
 -- the bytes that the completions of a case's plans take
 pub written-needed : (e : ℕ) (q : System) (x : Completion ℕ) (z : ℤ) → length (bytes (completionIn e q .write (written q x z))) ≡ needed e (devices q) (intervals q) (zones q) (energyWindows q)

@@ -1,14 +1,14 @@
 -- A completion's message as runs of writes: what loops over intervals, devices, zones and windows write.
 use mathlib.Core.Path.{_≡_, refl, sym, _∙_, ap}
-use mathlib.Core.List.{List, [], _∷_, _++_, map, append-assoc, append-nil}
-use Prim.Native.Nat.{ℕ, zero, suc, _+_, _-_, _*_, _^_, _≤_, _<_}
+use mathlib.Core.List.{List, _++_, map}
+use Prim.Native.Nat.{ℕ, zero, suc, _+_, _*_, _^_, _≤_, _<_}
 use native.Mathlib.Omega.{arith}
-use native.Mathlib.Numerals.{add-one}
-use native.Mathlib.Nat.{zero-add, suc-add}
 use lib.IntN.{ℤ}
 use lib.ListN.{length, drop}
 use Rattle.numbers.specs.Sum.{sumℕ}
 use Rattle.numbers.specs.Base.{range, upTo, gather}
+use Rattle.numbers.specs.Gather.{gather-map, gather-gather}
+use Rattle.numbers.specs.Ranges.{sum-last, sum-more, sum-rises, gather-last}
 use Rattle.layouts.specs.Layout.{bytes, int, _then_, list, held, any}
 use Rattle.units.specs.declared.Kw.{Kw}
 use Rattle.units.specs.declared.Watts.{Watts}
@@ -31,36 +31,13 @@ use Rattle.completion_writer.specs.Size.{frontWidth, deviceWidth, zoneWi
 
 -- ---- lists written one element behind the other
 
-range-last : (k n : ℕ) → range k (suc n) ≡ range k n ++ ((k + n) ∷ [])
-unfolding range
-range-last k zero = let e : k + 0 ≡ k = omega arith in rw e refl
-range-last k (suc n) = let e : suc k + n ≡ k + suc n = omega arith in ap (λ (l : List ℕ). k ∷ l) (range-last (suc k) n ∙ rw e refl)
-
-upTo-last : (n : ℕ) → upTo (suc n) ≡ upTo n ++ (n ∷ [])
-upTo-last n = let e : 0 + n ≡ n = omega arith in range-last 0 n ∙ rw e refl
-
-gather-append : {A : Type 0} (g : A → List ℕ) (xs ys : List A) → gather g (xs ++ ys) ≡ gather g xs ++ gather g ys
-unfolding gather
-gather-append g [] ys = refl
-gather-append g (x ∷ xs) ys = ap (λ (l : List ℕ). g x ++ l) (gather-append g xs ys) ∙ sym (append-assoc (g x) (gather g xs) (gather g ys))
-
 gather-upTo : (g : ℕ → List ℕ) (n : ℕ) → gather g (upTo n) ≡ run g n
 unfolding run range gather
 gather-upTo g zero = refl
-gather-upTo g (suc n) = ap (gather g) (upTo-last n) ∙ (gather-append g (upTo n) (n ∷ []) ∙ rw (gather-upTo g n, append-nil (g n)) refl)
+gather-upTo g (suc n) = gather-last g n ∙ ap (λ (l : List ℕ). l ++ g n) (gather-upTo g n)
 
-gather-maps : {A : Type 0} (g : A → List ℕ) (f : ℕ → A) (ks : List ℕ) → gather g (map f ks) ≡ gather (λ k. g (f k)) ks
-unfolding gather
-gather-maps g f [] = refl
-gather-maps g f (k ∷ ks) = ap (λ (l : List ℕ). g (f k) ++ l) (gather-maps g f ks)
-
-pub gather-map : {A : Type 0} (g : A → List ℕ) (f : ℕ → A) (n : ℕ) → gather g (map f (upTo n)) ≡ run (λ k. g (f k)) n
-gather-map g f n = gather-maps g f (upTo n) ∙ gather-upTo (λ k. g (f k)) n
-
-gather-gather : {A : Type 0} (g : A → List ℕ) (f : ℕ → List A) (is : List ℕ) → gather g (gather f is) ≡ gather (λ i. gather g (f i)) is
-unfolding gather
-gather-gather g f [] = refl
-gather-gather g f (i ∷ is) = gather-append g (f i) (gather f is) ∙ ap (λ (l : List ℕ). gather g (f i) ++ l) (gather-gather g f is)
+pub gather-run : {A : Type 0} (g : A → List ℕ) (f : ℕ → A) (n : ℕ) → gather g (map f (upTo n)) ≡ run (λ k. g (f k)) n
+gather-run g f n = gather-map g f (upTo n) ∙ gather-upTo (λ k. g (f k)) n
 
 run-same : (f g : ℕ → List ℕ) → ((k : ℕ) → f k ≡ g k) → (n : ℕ) → run f n ≡ run g n
 unfolding run
@@ -111,19 +88,19 @@ module _ (e : ℕ) (q : System) (x : Completion ℕ) where
 
   pub interval-is : (t : ℕ) → B.intervalChoice e (devices q) (zones q) .write (intervalAt t) ≡ intervalBits e q x t
   unfolding M.intervalChoice held _then_ list intervalBits
-  interval-is t = rw (gather-map (deviceChoice .write) (deviceAt x t) (devices q), gather-map (six (any 33) .write) (sixAt x t) (zones q)) refl
+  interval-is t = rw (gather-run (deviceChoice .write) (deviceAt x t) (devices q), gather-run (six (any 33) .write) (sixAt x t) (zones q)) refl
 
   overruns-are : gather (any 32 .write) (gather (λ i. map (x .overrun i) (upTo (windowsOf q i))) (upTo (devices q))) ≡ run (overrunBits q x) (devices q)
   unfolding overrunBits
   overruns-are =
       gather-gather (any 32 .write) (λ i. map (x .overrun i) (upTo (windowsOf q i))) (upTo (devices q))
-      ∙ (gather-upTo _ (devices q) ∙ run-same _ (overrunBits q x) (λ i. gather-map (any 32 .write) (x .overrun i) (windowsOf q i)) (devices q))
+      ∙ (gather-upTo _ (devices q) ∙ run-same _ (overrunBits q x) (λ i. gather-run (any 32 .write) (x .overrun i) (windowsOf q i)) (devices q))
 
   pub completion-is : (s : ℤ) → completionIn e q .write (written q x s) ≡ completionBits e q x s
   unfolding B.completionLayout written held _then_ list completionBits
   completion-is s =
       rw (
-        gather-map (B.intervalChoice e (devices q) (zones q) .write) intervalAt (intervals q) ∙ run-same _ (intervalBits e q x) interval-is (intervals q),
+        gather-run (B.intervalChoice e (devices q) (zones q) .write) intervalAt (intervals q) ∙ run-same _ (intervalBits e q x) interval-is (intervals q),
         overruns-are,
       )
       refl
@@ -158,31 +135,19 @@ pub windows-none : (q : System) → windowsTo q 0 ≡ 0
 unfolding windowsTo range
 windows-none q = refl
 
-sum-append : (f : ℕ → ℕ) (xs ys : List ℕ) → sumℕ f (xs ++ ys) ≡ sumℕ f xs + sumℕ f ys
-sum-append f [] ys = omega arith
-sum-append f (x ∷ xs) ys = omega (arith, sum-append f xs ys)
-
-windows-suc : (q : System) (i : ℕ) → windowsTo q (suc i) ≡ windowsTo q i + windowsOf q i
-unfolding windowsTo
-windows-suc q i = ap (sumℕ (windowsOf q)) (upTo-last i) ∙ (sum-append (windowsOf q) (upTo i) (i ∷ []) ∙ omega arith)
-
 pub windows-more : (q : System) (i : ℕ) → windowsTo q (i + 1) ≡ windowsTo q i + windowsOf q i
-windows-more q i = ap (windowsTo q) (add-one i) ∙ windows-suc q i
+unfolding windowsTo
+windows-more q i = sum-more (windowsOf q) i
 
 pub windows-all : (q : System) → windowsTo q (devices q) ≡ energyWindows q
 unfolding windowsTo energyWindows
 windows-all q = refl
 
-windows-up : (q : System) (i k : ℕ) → windowsTo q i ≤ windowsTo q (k + i)
-windows-up q i zero = omega (arith, ap (windowsTo q) (zero-add i))
-windows-up q i (suc k) = omega (arith, windows-up q i k, ap (windowsTo q) (suc-add k i), windows-suc q (k + i))
-
 pub windows-within : (q : System) (i : ℕ) → i < devices q → windowsTo q i + windowsOf q i ≤ energyWindows q
-windows-within q i h =
-    let e : devices q - suc i + suc i ≡ devices q = omega arith in
-    omega (arith, windows-suc q i, windows-up q (suc i) (devices q - suc i), ap (windowsTo q) e, windows-all q)
+unfolding windowsTo energyWindows
+windows-within q i h = omega (arith, sum-last (windowsOf q) i, sum-rises (windowsOf q) (suc i) (devices q) h)
 
--- ---- the overruns of devices: none, one device's more, all
+-- ---- the overruns of devices: none, and one device's more
 
 module _ (q : System) (x : Completion ℕ) where
   pub overruns-none : (buffer : List ℕ) (p : Pen) → Ready p → Pushes (windowsTo q 0 * overrunWidth) (run (overrunBits q x) 0) buffer buffer p p
@@ -193,11 +158,6 @@ module _ (q : System) (x : Completion ℕ) where
       → Pushes (windowsOf q i * overrunWidth) (overrunBits q x i) b c m n
       → Pushes (windowsTo q (i + 1) * overrunWidth) (run (overrunBits q x) (i + 1)) a c p n
   overruns-more i h r = pushes-as refl (omega (arith, windows-more q i)) (run-more (overrunBits q x) i h r)
-
-  pub overruns-done : (k : ℕ) {a b : List ℕ} {p m : Pen} → k ≤ devices q → devices q ≤ k
-      → Pushes (windowsTo q k * overrunWidth) (run (overrunBits q x) k) a b p m
-      → Pushes (energyWindows q * overrunWidth) (run (overrunBits q x) (devices q)) a b p m
-  overruns-done k h l r = let e : k ≡ devices q = omega arith in pushes-as (ap (run (overrunBits q x)) e) (ap (λ (n : ℕ). n * overrunWidth) (ap (windowsTo q) e ∙ windows-all q)) r
 
   -- where all fit, one device's fit behind those of the devices before it
   pub overruns-room : (i : ℕ) {xs a b : List ℕ} {p m : Pen} → i < devices q → Pushes (windowsTo q i * overrunWidth) xs a b p m

@@ -3,6 +3,7 @@ use mathlib.Core.Path.{_≡_, refl, sym, ap, subst, _∙_}
 use mathlib.Core.List.{List, [], map}
 use Prim.Native.Nat.{ℕ, _+_, _-_, _*_, _^_, _≤_, _<_}
 use native.Mathlib.Omega.{arith}
+use native.Mathlib.Nat.{mul-le-mul}
 use lib.ListN.{length, getD, take, drop}
 use Rattle.numbers.specs.Laws.{maxZero}
 use Rattle.units.specs.declared.Watts.{Watts}
@@ -26,7 +27,7 @@ use Rattle.records.specs.declared.Zone.{Zone}
 use Rattle.records.specs.declared.Minima.{Minima}
 use Rattle.records.specs.declared.EnergyWindow.{EnergyWindow}
 use Rattle.records.specs.Figures.{cellOf, settingOf, zoneOf, minimaOf, deviceAt, energiesAt, energyAt}
-use Rattle.records.specs.Parts.{part, part-at, part-cut, part-inside, place-inside, table-small}
+use Rattle.numbers.specs.Parts.{part, part-at, part-cut, part-inside, place-inside}
 use Rattle.records.specs.Views.{mostDevices, mostIntervals, systemIn, caseIn, planIn}
 use Rattle.records.specs.Viewed as Viewed
 use Rattle.choices.specs.declared.Choice.{Choice}
@@ -91,7 +92,7 @@ module _ {front : Front} {halves : List ℕ} {zones minima devices cells setting
       record {
         in-settings = omega (arith, n, u .ready .plan-rows .full);
         in-powers = omega (arith, n, u .ready .forced-rows .powers-full);
-        small = omega (arith, n, table-small mostDevices mostIntervals (u .ready .case-rows .few-devices) (u .ready .case-rows .few-intervals));
+        small = omega (arith, n, mul-le-mul (u .ready .case-rows .few-devices) (u .ready .case-rows .few-intervals));
       }
 
   module _ (t i a : ℕ) (h : t < m) (l : i < length devices) (begins : a ≡ i * m) where
@@ -148,7 +149,7 @@ module _ {front : Front} {halves : List ℕ} {zones minima devices cells setting
       pub next-small : k + m ≤ (zonesMost + 1) * mostIntervals
       next-small =
           let few = u .ready .case-rows .few-intervals in
-          omega (arith, place-inside m z (length zones) t l h, table-small zonesMost mostIntervals (u .ready .case-rows .few-zones) few, few)
+          omega (arith, place-inside m z (length zones) t l h, mul-le-mul (u .ready .case-rows .few-zones) few, few)
 
       module _ {zone : Zone} (ez : zone ≡ zoneOf (getD zones z [])) where
         pub shares-small : Thousandths zone

@@ -6,10 +6,9 @@ use native.Mathlib.Omega.{arith}
 use lib.ListN.{length}
 use Rattle.numbers.specs.Sum.{sumℕ}
 use Rattle.numbers.specs.Base.{range, upTo}
-use Rattle.records.specs.declared.Front.{Front}
 use Rattle.records.specs.Figures.{deviceAt, energiesAt}
-use Rattle.records.specs.Sums.{sum-next}
-use Rattle.records.specs.Views.{mostDevices, mostIntervals, Counted, CaseRows}
+use Rattle.numbers.specs.Ranges.{sum-next}
+use Rattle.records.specs.Views.{mostDevices, mostIntervals, Counted}
 use Rattle.money.specs.Bounds.{zonesMost, windowsMost}
 
 pub record Few (halves : List ℕ) (zones devices : List (List ℕ)) : Type 0 where
@@ -17,9 +16,6 @@ pub record Few (halves : List ℕ) (zones devices : List (List ℕ)) : Type 0 wh
   pub few-intervals : length halves ≤ mostIntervals
   pub few-zones : length zones ≤ zonesMost
   pub counted : (i : ℕ) → i < length devices → Counted (deviceAt devices i)
-
-pub few-of : {front : Front} {halves : List ℕ} {zones minima devices cells : List (List ℕ)} → CaseRows front halves zones minima devices cells → Few halves zones devices
-few-of known = record { few-devices = known .few-devices; few-intervals = known .few-intervals; few-zones = known .few-zones; counted = known .counted }
 
 -- few devices with few energy windows each
 pub record FewWindows (devices : List (List ℕ)) : Type 0 where

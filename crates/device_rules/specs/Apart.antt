@@ -1,14 +1,16 @@
 -- Rules 3 and 4: every earlier stop, or start, of a device lies far enough back.
 use mathlib.Core.Path.{_≡_, refl, sym, _∙_}
-use mathlib.Core.Bool.{Bool, true, false, _&&_}
+use mathlib.Core.Bool.{Bool, true, false, and-true, and-false}
 use mathlib.Core.List.{List}
-use Prim.Native.Nat.{ℕ, zero, suc, _+_, _-_, _≤_, _<_}
+use Prim.Native.Nat.{ℕ, zero, suc, _-_, _≤_, _<_}
 use native.Mathlib.Omega.{arith}
 use borrow.Author.Tests.{le-leb, lt-leb, eq-eqb, ne-eqb}
 use lib.Dec.{leb, eqb}
 use lib.ListN.{getD}
 use Rattle.bits.specs.Pick.{pick}
-use Rattle.numbers.specs.Base.{range, upTo, implies, every}
+use Rattle.numbers.specs.Base.{upTo, implies, every}
+use Rattle.numbers.specs.Every.{all-upTo, every-true}
+use Rattle.numbers.specs.Ranges.{every-last}
 use Rattle.records.specs.Figures.{startedAt, stoppedAt}
 use Rattle.device_rules.specs.declared.Rest.{Rest}
 
@@ -30,27 +32,6 @@ pub record Rising (starts : List ℕ) (t : ℕ) : Type 0 where
 -- ---- a loop back from t: what is left says what the whole says
 
 module _ (f : ℕ → Bool) where
-  range-last : (k n : ℕ) → every f (range k (suc n)) ≡ (every f (range k n) && f (k + n))
-  unfolding every range
-  range-last k zero = let e : k + 0 ≡ k = omega arith in rw e (swap (f k))
-    where
-      swap : (b : Bool) → (b && true) ≡ (true && b)
-      swap true = refl
-      swap false = refl
-  range-last k (suc n) = let e : k + suc n ≡ suc k + n = omega arith in rw (e, range-last (suc k) n) (assoc (f k) (every f (range (suc k) n)) (f (suc k + n)))
-    where
-      assoc : (a b c : Bool) → (a && (b && c)) ≡ ((a && b) && c)
-      assoc true b c = refl
-      assoc false b c = refl
-
-  last : (n : ℕ) → every f (upTo (suc n)) ≡ (every f (upTo n) && f n)
-  last n = let e : 0 + n ≡ n = omega arith in range-last 0 n ∙ rw e refl
-
-  each : (n : ℕ) → ((e : ℕ) → e < n → f e ≡ true) → every f (upTo n) ≡ true
-  unfolding every range
-  each zero h = refl
-  each (suc n) h = last n ∙ rw (each n (λ e l. h e (omega arith)), h n (omega arith)) refl
-
   -- those from k to t hold
   pub record Back (t k : ℕ) : Type 0 where
     pub same : every f (upTo k) ≡ every f (upTo t)
@@ -58,24 +39,16 @@ module _ (f : ℕ → Bool) where
   pub back-start : (t : ℕ) → Back t t
   back-start t = record { same = refl }
 
-  and-true : (b : Bool) → (b && true) ≡ b
-  and-true true = refl
-  and-true false = refl
-
-  and-false : (b : Bool) → (b && false) ≡ false
-  and-false true = refl
-  and-false false = refl
-
   pub back-held : (t k : ℕ) → 0 < k → f (k - 1) ≡ true → Back t k → Back t (k - 1)
   back-held t zero l h b = absurd (omega arith)
-  back-held t (suc k) l h b = let e : suc k - 1 ≡ k = omega arith in rw e record { same = sym (last k ∙ rw (rw e at h) (and-true (every f (upTo k)))) ∙ b .same }
+  back-held t (suc k) l h b = let e : suc k - 1 ≡ k = omega arith in rw e record { same = sym (every-last f k ∙ rw (rw e at h) (and-true (every f (upTo k)))) ∙ b .same }
 
   pub back-broken : (t k : ℕ) → 0 < k → f (k - 1) ≡ false → Back t k → false ≡ every f (upTo t)
   back-broken t zero l h b = absurd (omega arith)
-  back-broken t (suc k) l h b = let e : suc k - 1 ≡ k = omega arith in sym (last k ∙ rw (rw e at h) (and-false (every f (upTo k)))) ∙ b .same
+  back-broken t (suc k) l h b = let e : suc k - 1 ≡ k = omega arith in sym (every-last f k ∙ rw (rw e at h) (and-false (every f (upTo k)))) ∙ b .same
 
   pub back-rest : (t k : ℕ) → ((e : ℕ) → e < k → f e ≡ true) → Back t k → true ≡ every f (upTo t)
-  back-rest t k h b = sym (each k h) ∙ b .same
+  back-rest t k h b = sym (every-true f (upTo k) (all-upTo _ k h)) ∙ b .same
 
 -- ---- a change in e
 

@@ -1,8 +1,8 @@
 -- The tests of a device's interval are the model's. `tests-are` is the one law that knows the model's list of tests.
-use mathlib.Core.Path.{_≡_, refl, sym, ap, ap₂, _∙_}
-use mathlib.Core.Bool.{Bool, true, false, _&&_}
+use mathlib.Core.Path.{_≡_, refl, sym, ap, _∙_}
+use mathlib.Core.Bool.{true, false}
 use mathlib.Core.List.{List, []}
-use Prim.Native.Nat.{ℕ, zero, suc, _+_, _-_, _*_, _≤_, _<_}
+use Prim.Native.Nat.{ℕ, _+_, _-_, _*_, _≤_, _<_}
 use native.Mathlib.Omega.{arith}
 use native.Mathlib.Decide.{decLe}
 use borrow.Author.Tests.{lt-ltb, le-ltb, eq-eqb, ne-eqb}
@@ -10,14 +10,15 @@ use lib.Dec.{eqb, ltb}
 use lib.ListN.{getD, length}
 use Rattle.numbers.specs.Sum.{sumℕ}
 use Rattle.bits.specs.Pick.{pick}
-use Rattle.numbers.specs.Base.{range, implies, every, bit}
+use Rattle.numbers.specs.Base.{range, upTo, implies, bit}
+use Rattle.numbers.specs.Every.{all-upTo, every-cong}
 use Rattle.model.specs.Case as M
 use Rattle.model.specs.Case.{System, Plan}
 use Rattle.model.specs.Forced as F
 use Rattle.model.specs.Rules as R
 use Rattle.model.specs.Breaches.{apart, cellTests, failing}
 use Rattle.records.specs.Figures.{cellOf, settingOf, deviceOf, startedAt, stoppedAt, previousAt, onAt, onBefore}
-use Rattle.records.specs.Parts.{part, part-long}
+use Rattle.numbers.specs.Parts.{part, part-long}
 use Rattle.records.specs.Views.{systemIn, planIn, deviceIn, cellIn, settingIn, mostPower, Ready}
 use Rattle.records.specs.Viewed as W
 use Rattle.records.specs.Ranged as G
@@ -131,11 +132,6 @@ module _ (q : System) (p : Plan) (t i : ℕ) where
 
 -- ---- a decoded case and plan
 
-every-range : (f g : ℕ → Bool) (k n : ℕ) → ((e : ℕ) → k ≤ e → e < k + n → f e ≡ g e) → every f (range k n) ≡ every g (range k n)
-unfolding range every
-every-range f g k zero h = refl
-every-range f g k (suc n) h = ap₂ (λ (a b : Bool). a && b) (h k (omega arith) (omega arith)) (every-range f g (suc k) n (λ e l m. h e (omega arith) (omega arith)))
-
 rises : (a b : ℕ) → bit (ltb a b) ≤ b
 rises a b = go (decLe b a)
   where
@@ -239,11 +235,11 @@ module _ {front : Front} {halves : List ℕ} {zones minima devices cells setting
     -- rule 3's earlier stops, rule 4's earlier starts
     stops-apart : apartAt (stopsOf (boundsOf d)) ownSettings starts t ≡ apart q p t i (F.device q i .minDown) (F.sd q p)
     unfolding apartAt apart
-    stops-apart = rw (of-device .mindown) (every-range _ _ 0 t (λ e a b. rw (start t h, start e (omega arith), stopped e (omega arith)) refl))
+    stops-apart = rw (of-device .mindown) (every-cong _ _ (upTo t) (all-upTo _ t (λ e b. rw (start t h, start e (omega arith), stopped e (omega arith)) refl)))
 
     starts-apart : apartAt (startsOf (boundsOf d)) ownSettings starts t ≡ apart q p t i (F.device q i .minUp) (F.su q p)
     unfolding apartAt apart
-    starts-apart = rw (of-device .minup) (every-range _ _ 0 t (λ e a b. rw (start t h, start e (omega arith), started e (omega arith)) refl))
+    starts-apart = rw (of-device .minup) (every-cong _ _ (upTo t) (all-upTo _ t (λ e b. rw (start t h, start e (omega arith), started e (omega arith)) refl)))
 
     of-moment : OfMoment q p t i (momentAt (boundsOf d) (d .power0 .0) halves ownCells ownSettings starts ownPowers t)
     unfolding momentAt

@@ -1,20 +1,22 @@
 -- Rule 20: the starts of a device inside a window, in its part of the settings.
-use mathlib.Core.Path.{_≡_, refl, ap₂, _∙_}
+use mathlib.Core.Path.{_≡_, refl, _∙_}
 use mathlib.Core.Bool.{Bool, true, false, _&&_}
-use mathlib.Core.List.{List, [], _∷_}
-use Prim.Native.Nat.{ℕ, zero, suc, _+_, _≤_, _<_}
+use mathlib.Core.List.{List, []}
+use Prim.Native.Nat.{ℕ, _+_, _≤_, _<_}
 use native.Mathlib.Omega.{arith}
+use native.Mathlib.Nat.{le-refl}
 use borrow.Author.Tests.{le-leb, lt-leb, lt-ltb, le-ltb}
 use lib.Dec.{leb, ltb}
 use lib.ListN.{getD, length}
-use Rattle.numbers.specs.Sum.{sumℕ, gate}
-use Rattle.numbers.specs.Base.{range, upTo, bit}
+use Rattle.numbers.specs.Sum.{all, sumℕ, sumℕ-mono, gate}
+use Rattle.numbers.specs.Every.{gate-le, bit-le}
+use Rattle.numbers.specs.Base.{range, upTo}
 use Rattle.model.specs.Case.{System, Plan}
 use Rattle.model.specs.Forced as F
 use Rattle.model.specs.Rules as R
 use Rattle.records.specs.Figures.{deviceOf, onAt, onBefore, startedAt}
-use Rattle.records.specs.Parts.{part, part-long}
-use Rattle.records.specs.Sums.{sum-more}
+use Rattle.numbers.specs.Parts.{part, part-long}
+use Rattle.numbers.specs.Ranges.{sum-more, sum-same}
 use Rattle.records.specs.Views.{systemIn, planIn, Ready}
 use Rattle.records.specs.Viewed as W
 use Rattle.records.specs.Figures.{noStart}
@@ -23,12 +25,8 @@ use Rattle.records.specs.declared.Front.{Front}
 use Rattle.records.specs.declared.StartWindow.{StartWindow}
 
 -- su is at most 1
-bit-few : (b : Bool) → bit b ≤ 1
-bit-few true = omega arith
-bit-few false = omega arith
-
 pub started-few : (on0 : ℕ) (settings : List (List ℕ)) (t : ℕ) {x : ℕ} → x ≡ startedAt on0 settings t → x ≤ 1
-started-few on0 settings t e = rw e (bit-few (ltb (onBefore on0 settings t) (onAt settings t)))
+started-few on0 settings t e = rw e (bit-le (ltb (onBefore on0 settings t) (onAt settings t)))
 
 -- the start in interval t, where it counts
 abbrev pub countedStart : StartWindow → ℕ → List (List ℕ) → List ℕ → ℕ → ℕ
@@ -41,17 +39,9 @@ startsAt w on0 settings starts = sumℕ (countedStart w on0 settings starts) (up
 unfoldable pub allStarts : ℕ → List (List ℕ) → ℕ
 allStarts on0 settings = sumℕ (startedAt on0 settings) (upTo (length settings))
 
-some-of : (b : Bool) (n : ℕ) → gate b n ≤ n
-some-of true n = omega arith
-some-of false n = omega arith
-
 pub some-starts : (w : StartWindow) (on0 : ℕ) (settings : List (List ℕ)) (starts : List ℕ) → startsAt w on0 settings starts ≤ allStarts on0 settings
-unfolding startsAt allStarts range
-some-starts w on0 settings starts = go 0 (length settings)
-  where
-    go : (k n : ℕ) → sumℕ (countedStart w on0 settings starts) (range k n) ≤ sumℕ (startedAt on0 settings) (range k n)
-    go k zero = omega arith
-    go k (suc n) = omega (arith, go (suc k) n, some-of (leb (w .from) (getD starts k 0) && ltb (getD starts k 0) (w .until)) (startedAt on0 settings k))
+unfolding startsAt allStarts
+some-starts w on0 settings starts = sumℕ-mono _ _ (upTo (length settings)) (all (λ t. gate-le _ (startedAt on0 settings t) _ (le-refl _)) (upTo (length settings)))
 
 -- the starts of the intervals below t
 pub record StartsTo (on0 : ℕ) (settings : List (List ℕ)) (t sum : ℕ) : Type 0 where
@@ -94,11 +84,6 @@ module _ (w : StartWindow) (s n : ℕ) where
       go true = refl
       go false = refl
 
-sum-range : (f g : ℕ → ℕ) (k n : ℕ) → ((t : ℕ) → k ≤ t → t < k + n → f t ≡ g t) → sumℕ f (range k n) ≡ sumℕ g (range k n)
-unfolding range
-sum-range f g k zero h = refl
-sum-range f g k (suc n) h = ap₂ (λ (a b : ℕ). a + b) (h k (omega arith) (omega arith)) (sum-range f g (suc k) n (λ t l m. h t (omega arith) (omega arith)))
-
 module _ {front : Front} {halves : List ℕ} {zones minima devices cells settings : List (List ℕ)} {starts powers : List ℕ}
     (ready : Ready front halves zones minima devices cells settings starts powers) (i : ℕ) (l : i < length devices) where
   abbrev q : System
@@ -116,5 +101,5 @@ module _ {front : Front} {halves : List ℕ} {zones minima devices cells setting
   starts-are w b =
       let long : length (part (length halves) i settings) ≡ length halves = part-long (length halves) i (length devices) settings l (ready .plan-rows .full) in
       rw (W.start-window-is halves zones minima devices cells i l w b, W.intervals-are halves zones minima devices cells, long)
-      (sum-range _ _ 0 (length halves) (λ t a h.
-      rw (ready .forced-rows .start t (omega arith), W.started-is halves zones minima devices cells settings t i (omega arith) l) refl))
+      (sum-same _ _ (length halves) (λ t h.
+      rw (ready .forced-rows .start t (omega arith), W.started-is halves zones minima devices cells settings t i h l) refl))

@@ -1,12 +1,12 @@
 -- The steps of what stands ahead of a case's durations, and the sum of their halves.
 use mathlib.Core.Path.{_≡_, refl, ap, sym, _∙_}
-use mathlib.Core.List.{List, [], _∷_, _++_}
+use mathlib.Core.List.{List, [], _∷_}
 use Prim.Native.Nat.{ℕ, _+_, _<_}
 use native.Mathlib.Numerals.{add-one}
 use native.Mathlib.Omega.{arith}
 use lib.ListN.{length, getD, take}
 use lib.Seq.{take-suc, take-all}
-use Rattle.numbers.specs.Sum.{sumℕ}
+use Rattle.numbers.specs.Sum.{sumℕ, sumℕ-append}
 use Rattle.layouts.specs.declared.Fault.{Fault}
 use Rattle.layouts.specs.declared.Place.{Place}
 use Rattle.layouts.specs.Layout.{nat, list, repeated, _then_, held, begin, figure, fixed, countOf}
@@ -135,9 +135,5 @@ module _ (l : Largest) (s : List ℕ) where
 
 -- ---- the last E
 
-sum-more : (l : List ℕ) (x : ℕ) → sumℕ (λ h. h) (l ++ (x ∷ [])) ≡ sumℕ (λ h. h) l + x
-sum-more [] x = omega arith
-sum-more (y ∷ l) x = omega (arith, sum-more l x)
-
 pub sum-next : (t : List ℕ) (i sum : ℕ) → i < length t → sum ≡ sumℕ (λ h. h) (take i t) → sum + getD t i 0 ≡ sumℕ (λ h. h) (take (i + 1) t)
-sum-next t i sum h e = rw (add-one, take-suc t i 0 h) (omega (arith, e, sum-more (take i t) (getD t i 0)))
+sum-next t i sum h e = rw (add-one, take-suc t i 0 h) (omega (arith, e, sumℕ-append (λ h. h) (take i t) (getD t i 0 ∷ [])))

@@ -1,7 +1,7 @@
 -- One layout reads and writes as another, its values held by a function: how a message of an older edition is read by the newest layout.
 use mathlib.Core.Path.{_≡_, refl, sym, _∙_, ap, fun-ext}
 use mathlib.Core.Bool.{Bool, true, false}
-use mathlib.Core.List.{List, [], _∷_, _++_, map, map-id, append-nil}
+use mathlib.Core.List.{List, _∷_, _++_, map, map-id, append-nil}
 use Prim.Native.Nat.{ℕ, zero, suc, _+_, _*_, _≤_, _<_}
 use native.Mathlib.Omega.{arith}
 use lib.Dec.{leb}
@@ -15,6 +15,8 @@ use Rattle.layouts.specs.declared.Place.{Place}
 use Rattle.layouts.specs.declared.Clash.{Clash}
 use Rattle.layouts.specs.declared.Clash.the-variants.{Clear, At}
 use Rattle.numbers.specs.Base.{gather}
+use Rattle.numbers.specs.Sum.{all}
+use Rattle.numbers.specs.Gather.{gather-map, gather-cong}
 use Rattle.layouts.specs.Layout.{Layout, Field, Whole, passes, fails, raw, advanced, nat, counted, _then_, _▸_, repeated, list, such, noted, held, readWhole, settle, tailFault, begin}
 use Rattle.layouts.specs.Since.{nothing, present, since, has-not}
 use Rattle.layouts.specs.Checked.{Checked, Outcome, stops, goes}
@@ -123,9 +125,7 @@ module _ {A B : Type 0} {l : Layout B} {f : A → B} {m : Layout A} (u : As l f 
   repeated-as (suc n) s p bad next = u .reads s p bad _ ∙ ahead m s p bad (λ a q. repeated-as n s q bad (λ r z. next (f a ∷ r) z))
 
   gather-as : (xs : List A) → gather (l .write) (map f xs) ≡ gather (m .write) xs
-  unfolding gather
-  gather-as [] = refl
-  gather-as (x ∷ xs) = rw (u .writes x, gather-as xs) refl
+  gather-as xs = gather-map (l .write) f xs ∙ gather-cong _ (m .write) xs (all (u .writes) xs)
 
   pub as-list : (n : ℕ) → As (list n l) (map f) (list n m)
   unfolding list

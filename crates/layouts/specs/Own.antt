@@ -5,7 +5,6 @@ use mathlib.Core.List.{List, [], _∷_, _++_}
 use Prim.Native.Nat.{ℕ, zero, suc, _+_, _-_, _*_, _/_, _%_, _^_, _≤_, _<_}
 use native.Mathlib.Omega.{arith}
 use native.Mathlib.Decide.{decLe}
-use native.Mathlib.Nat.{two-pow-succ}
 use lib.Dec.{leb}
 use lib.ListN.{length, getD, length-append, List·getD-append}
 use lib.Seq.{getD-append-add}
@@ -15,6 +14,7 @@ use Rattle.bits.specs.Bits.{bitAt, fieldAt, reach, readField}
 use Rattle.bits.specs.Pick.{pick}
 use Rattle.bits.specs.Twos.{fromTwos, toTwos}
 use Rattle.bits.specs.declared.Field.the-variants.{Value, Cut}
+use Rattle.bits.proofs.Laws.{bit-lt, field-lt}
 use Rattle.numbers.specs.Base.{gather}
 use Rattle.numbers.specs.Sum.{All}
 use Rattle.layouts.specs.declared.Fault.{Fault}
@@ -85,15 +85,11 @@ present-own false neutral u = nothing-own neutral
 
 -- ---- fields
 
-bit-small : (s : List ℕ) (i : ℕ) → bitAt s i < 2
-unfolding bitAt
-bit-small s i = omega arith
-
 field-bits : (s : List ℕ) (at w k : ℕ) → k < w → bitAt s (at + k) ≡ getD (bitsOf w (fieldAt s at w)) k 0
 unfolding bitsOf fieldAt
 field-bits s at zero k h = absurd (omega arith)
 field-bits s at (suc w) k h =
-    let b = bit-small s (at + w) in
+    let b = bit-lt s (at + w) in
     let v : ℕ = fieldAt s at w in
     let bs : List ℕ = bitsOf w v in
     let u : (fieldAt s at w * 2 + bitAt s (at + w)) / 2 ≡ fieldAt s at w = omega arith in
@@ -134,11 +130,6 @@ nat-own f = record { own = λ s p h. go s p (leb (p .at + f .width) (8 * reach s
     go s p true e = tests s p (fieldAt s (p .at) (f .width)) _ _ refl refl (field-wrote s p (f .width) e)
     go s p false e = stops (F.Cut (p .at)) (λ X bad next. refl)
 
-field-small : (s : List ℕ) (at w : ℕ) → fieldAt s at w < 2 ^ w
-unfolding fieldAt
-field-small s at zero = omega arith
-field-small s at (suc w) = let h = field-small s at w in let b = bit-small s (at + w) in omega (arith, two-pow-succ w)
-
 twos-again : (w v : ℕ) → v < 2 ^ w → toTwos w (fromTwos w v) ≡ v
 unfolding toTwos fromTwos
 twos-again w v h = elim (decLe (suc (2 * v)) (2 ^ w)) [
@@ -161,7 +152,7 @@ int-own w most = record { own = λ s p h. go s p (leb (p .at + w) (8 * reach s))
     go : (s : List ℕ) (p : Place) (b : Bool) → leb (p .at + w) (8 * reach s) ≡ b
         → Run (Good s p) (λ X bad next. raw {X = X} (pick b (Value (fieldAt s (p .at) w) (record { at = p .at + w })) (Cut (p .at))) p bad
         (λ v after. pick (leb (natAbs (fromTwos w v)) most) (next (fromTwos w v) after) (bad (F.OutOfRange (p .at)))))
-    go s p true e = test s p (fromTwos w (fieldAt s (p .at) w)) _ refl (rw (twos-again w (fieldAt s (p .at) w) (field-small s (p .at) w)) (field-wrote s p w e))
+    go s p true e = test s p (fromTwos w (fieldAt s (p .at) w)) _ refl (rw (twos-again w (fieldAt s (p .at) w) (field-lt s (p .at) w)) (field-wrote s p w e))
     go s p false e = stops (F.Cut (p .at)) (λ X bad next. refl)
 
 -- ---- layouts of layouts

@@ -9,18 +9,16 @@ use lib.Dec.{ltb, eqb}
 use lib.ListN.{length, getD, List·getD-eq-default}
 use borrow.Author.Tests.{ltb-false, eqb-true}
 use Rattle.numbers.specs.Sum.{All}
+use Rattle.numbers.specs.Every.{all-each}
 use Rattle.bits.specs.Bits.{bitAt, reach}
 use Rattle.bits.specs.Pick.{pick}
+use Rattle.bits.proofs.Laws.{bit-lt}
 use Rattle.layouts.specs.declared.Clash.{Clash}
 use Rattle.layouts.specs.declared.Clash.the-variants.{Clear, At}
 use Rattle.layouts.specs.declared.Place.{Place}
 use Rattle.layouts.specs.Layout.{Layout, Whole, passes, fails, settle, begin, readWhole, firstOne, tailFault, bytesFor, orElse, bytes}
 use Rattle.layouts.specs.Own.{Own, Reads, stops, goes, Wrote}
 use Rattle.layouts.specs.Trip.{bit-bytes, length-bytes, bit-past}
-
-small-bits : (s : List ℕ) (i : ℕ) → bitAt s i < 2
-unfolding bitAt
-small-bits s i = omega arith
 
 -- eight bits make a byte
 step : (x y : ℕ) → x / 2 ≡ y / 2 → x % 2 ≡ y % 2 → x ≡ y
@@ -83,10 +81,6 @@ bytes-small (a ∷ b ∷ c ∷ d ∷ e ∷ f ∷ []) h = (omega arith, tt)
 bytes-small (a ∷ b ∷ c ∷ d ∷ e ∷ f ∷ g ∷ []) h = (omega arith, tt)
 bytes-small (a ∷ b ∷ c ∷ d ∷ e ∷ f ∷ g ∷ i ∷ r) h = (omega arith, bytes-small r (h .1 .1 .1 .1 .1 .1 .1 .1))
 
-all-getD : (bs : List ℕ) → ((k : ℕ) → k < length bs → getD bs k 0 < 2) → All (λ b. b < 2) bs
-all-getD [] h = tt
-all-getD (b ∷ bs) h = (h 0 (omega arith), all-getD bs (λ k l. h (suc k) (omega arith)))
-
 -- no bit is 1 where none was found
 clear-bits : (s : List ℕ) (at n : ℕ) → firstOne s at n ≡ Clear → (k : ℕ) → at ≤ k → k < at + n → bitAt s k ≡ 0
 unfolding firstOne
@@ -123,7 +117,7 @@ own-bits s bs q h w f =
     let n : q .at ≡ length bs = omega (arith, w .ends) in
     let r = w .has .room in
     let m = length-bytes bs in
-    let ok : All (λ b. b < 2) bs = all-getD bs (λ k l. let t : 0 + k ≡ k = omega arith in let e : bitAt s k ≡ getD bs k 0 = rw t at (w .has .bits k l) in let u = small-bits s k in omega arith) in
+    let ok : All (λ b. b < 2) bs = all-each (λ b. b < 2) 0 bs (λ k l. let t : 0 + k ≡ k = omega arith in let e : bitAt s k ≡ getD bs k 0 = rw t at (w .has .bits k l) in let u = bit-lt s k in omega arith) in
     let l = f .last in
     same-bytes (bytes bs) s (bytes-small bs ok) h (omega arith) (λ i j. bit-bytes bs ok i ∙ elim (decLe (suc i) (length bs)) [
       | yes k ↦ sym (let t : 0 + i ≡ i = omega arith in rw t at (w .has .bits i k))

@@ -16,7 +16,8 @@ use Rattle.numbers.specs.Base.{gather}
 use Rattle.layouts.specs.declared.Fault.{Fault}
 use Rattle.layouts.specs.declared.Clash.the-variants.{Clear}
 use Rattle.layouts.specs.declared.Place.{Place}
-use Rattle.numbers.specs.Sum.{All}
+use Rattle.numbers.specs.Sum.{All, all-map}
+use Rattle.numbers.specs.Every.{all-append, all-gather}
 use Rattle.bits.specs.Twos.{fromTwos, toTwos}
 use Rattle.layouts.specs.Layout.{Layout, Field, bitsOf, bytes, byte, bytesFor, begin, firstOne, tailFault, settle, readWhole, passes, advanced, nat, int, _then_, repeated, list, such, held}
 
@@ -24,10 +25,6 @@ use Rattle.layouts.specs.Layout.{Layout, Field, bitsOf, bytes, byte, byt
 pub record Has (s : List ℕ) (at : ℕ) (bs : List ℕ) : Type 0 where
   pub bits : (k : ℕ) → k < length bs → bitAt s (at + k) ≡ getD bs k 0
   pub room : at + length bs ≤ 8 * reach s
-
-all-append : (xs ys : List ℕ) → All (λ b. b < 2) xs → All (λ b. b < 2) ys → All (λ b. b < 2) (xs ++ ys)
-all-append [] ys h i = i
-all-append (x ∷ xs) ys h i = (h .0, all-append xs ys (h .1) i)
 
 has-first : (s : List ℕ) (at : ℕ) (xs ys : List ℕ) → Has s at (xs ++ ys) → Has s at xs
 has-first s at xs ys h = record {
@@ -62,10 +59,10 @@ read-is : (s : List ℕ) (at w v : ℕ) → v < 2 ^ w → Has s at (bitsOf w v) 
 unfolding readField
 read-is s at w v l h = rw (le-leb (at + w) (8 * reach s) (omega (arith, h .room, length-bits w v)), field-is s at w v l h) refl
 
-bits-small : (w v : ℕ) → All (λ b. b < 2) (bitsOf w v)
+pub bits-small : (w v : ℕ) → All (λ b. b < 2) (bitsOf w v)
 unfolding bitsOf
 bits-small zero v = tt
-bits-small (suc w) v = all-append (bitsOf w (v / 2)) (v % 2 ∷ []) (bits-small w (v / 2)) (omega arith, tt)
+bits-small (suc w) v = all-append (λ b. b < 2) (bitsOf w (v / 2)) (v % 2 ∷ []) (bits-small w (v / 2)) (omega arith, tt)
 
 -- ---- the laws
 
@@ -123,7 +120,7 @@ then-law l m P Q u v = record {
       u .back (x .0) (ok .0) s p bad _ (has-first s (p .at) (l .write (x .0)) (m (x .0) .write (x .1)) h)
       ∙ v (x .0) (ok .0) .back (x .1) (ok .1) s (advanced p (p .at + length (l .write (x .0)))) bad _ (has-second s (p .at) (l .write (x .0)) (m (x .0) .write (x .1)) h)
       ∙ ap (λ (n : ℕ). next x (advanced p n)) (omega (arith, length-append (l .write (x .0)) (m (x .0) .write (x .1))));
-  bits = λ x ok. all-append (l .write (x .0)) (m (x .0) .write (x .1)) (u .bits (x .0) (ok .0)) (v (x .0) (ok .0) .bits (x .1) (ok .1));
+  bits = λ x ok. all-append (λ b. b < 2) (l .write (x .0)) (m (x .0) .write (x .1)) (u .bits (x .0) (ok .0)) (v (x .0) (ok .0) .bits (x .1) (ok .1));
 }
 
 pub held-law : {A B : Type 0} (to : A → B) (from : B → A) (l : Layout A) (P : A → Type 0) → Lawful l P → Lawful (held to from l) (λ b. P (from b) × (to (from b) ≡ b))
@@ -149,16 +146,11 @@ repeated-back l P u (x ∷ xs) ok s p bad next h =
     ∙ repeated-back l P u xs (ok .1) s (advanced p (p .at + length (l .write x))) bad _ (has-second s (p .at) (l .write x) (gather (l .write) xs) h)
     ∙ ap (λ (n : ℕ). next (x ∷ xs) (advanced p n)) (omega (arith, length-append (l .write x) (gather (l .write) xs)))
 
-gather-bits : {A : Type 0} (l : Layout A) (P : A → Type 0) → Lawful l P → (xs : List A) → All P xs → All (λ b. b < 2) (gather (l .write) xs)
-unfolding gather
-gather-bits l P u [] ok = tt
-gather-bits l P u (x ∷ xs) ok = all-append (l .write x) (gather (l .write) xs) (u .bits x (ok .0)) (gather-bits l P u xs (ok .1))
-
 pub list-law : {A : Type 0} (n : ℕ) (l : Layout A) (P : A → Type 0) → Lawful l P → Lawful (list n l) (λ xs. (length xs ≡ n) × All P xs)
 unfolding list
 list-law n l P u = record {
   back = λ xs ok s p bad next h. rw (sym (ok .0)) (repeated-back l P u xs (ok .1) s p bad next h);
-  bits = λ xs ok. gather-bits l P u xs (ok .1);
+  bits = λ xs ok. all-gather (λ b. b < 2) (l .write) xs (all-map (λ a k. u .bits a k) xs (ok .1));
 }
 
 -- ---- bytes

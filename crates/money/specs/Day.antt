@@ -1,13 +1,12 @@
 -- The day's balance in the order in which it is added up, and that it is our surplus.
 use mathlib.Core.Path.{_≡_, refl, sym, ap, ap₂, _∙_}
-use Prim.Native.Nat.{ℕ, zero, suc, _+_, _*_, _≤_}
+use mathlib.Core.List.{List}
+use Prim.Native.Nat.{ℕ, _+_, _*_, _≤_}
 use native.Mathlib.Omega.{arith}
-use native.Mathlib.Numerals.{add-one}
 use lib.ListN.{length}
 use lib.IntN.{ℤ, pos, negℤ, _+ℤ_, _-ℤ_, _*ℤ_}
-use Rattle.numbers.specs.Z.{at, nat, _⊕_, by≡}
-use Rattle.numbers.specs.Laws as L
-use Rattle.numbers.specs.Sum.{sumℤ, sum-add, sum-sub, sum-neg, sum-scale, sum-cong, all}
+use Rattle.numbers.specs.Sum.{sumℤ, sum-add, sum-neg, sum-scale, sum-cong, sums-sub, sums-neg, all}
+use Rattle.numbers.specs.Ranges.{sumℤ-more}
 use Rattle.units.specs.declared.Ledger.{Ledger}
 use Rattle.numbers.specs.Base.{range, upTo}
 use Rattle.model.specs.Case.{System, Plan, Case}
@@ -20,24 +19,16 @@ use Rattle.money.specs.Entries.{Entered, entered-none, entered-then, ent
 use Rattle.money.specs.Terms.{our, cellBalance}
 use Rattle.money.specs.Charges.{overrunBalance}
 
--- ---- one more at the end
+-- ---- entries in a loop
 
 module _ (f : ℕ → ℤ) where
-  range-last : (k n : ℕ) → sumℤ f (range k (suc n)) ≡ sumℤ f (range k n) +ℤ f (k + n)
-  unfolding range
-  range-last k zero = let e : k + 0 ≡ k = omega arith in rw e (by≡ (at (f k) ⊕ nat 0) (nat 0 ⊕ at (f k)) (omega arith))
-  range-last k (suc n) = let e : k + suc n ≡ suc k + n = omega arith in rw e (ap (λ (z : ℤ). f k +ℤ z) (range-last (suc k) n) ∙ sym (L.add-assoc (f k) (sumℤ f (range (suc k) n)) (f (suc k + n))))
-
-  pub sum-last : (n : ℕ) → sumℤ f (upTo (n + 1)) ≡ sumℤ f (upTo n) +ℤ f n
-  sum-last n = let e : 0 + n ≡ n = omega arith in rw (add-one n) (range-last 0 n ∙ rw e refl)
-
-  -- entries in a loop: none, and one more of at most b
+  -- none, and one more of at most b
   pub entries-none : (l : Ledger) → Entered l l (sumℤ f (upTo 0)) 0
   unfolding range
   entries-none l = entered-none l
 
   pub entries-next : (n b : ℕ) {l m r : Ledger} → Entered l m (sumℤ f (upTo n)) (n * b) → Entered m r (f n) b → Entered l r (sumℤ f (upTo (n + 1))) ((n + 1) * b)
-  entries-next n b h k = entered-as (entered-then h k) (sym (sum-last n)) (omega arith)
+  entries-next n b h k = entered-as (entered-then h k) (sym (sumℤ-more f n)) (omega arith)
 
   -- all of a loop's entries
   pub entries-done : (k n b : ℕ) {l r : Ledger} → k ≤ n → n ≤ k → Entered l r (sumℤ f (upTo k)) (k * b) → Entered l r (sumℤ f (upTo n)) (n * b)
@@ -66,17 +57,11 @@ module _ (c : Case) (p : Plan) where
   over : (ℕ → ℕ → ℤ) → ℕ → ℤ
   over f n = sumℤ (λ t. sumℤ (f t) (upTo n)) (upTo (intervals q))
 
-  over-sub : (f g : ℕ → ℕ → ℤ) (n : ℕ) → over (λ t i. f t i -ℤ g t i) n ≡ over f n -ℤ over g n
-  unfolding over
-  over-sub f g n =
-      sum-cong _ (λ t. sumℤ (f t) (upTo n) -ℤ sumℤ (g t) (upTo n)) (upTo (intervals q)) (all (λ t. sum-sub (f t) (g t) (upTo n)) (upTo (intervals q)))
-      ∙ sum-sub (λ t. sumℤ (f t) (upTo n)) (λ t. sumℤ (g t) (upTo n)) (upTo (intervals q))
+  abbrev I : List ℕ
+  I = upTo (intervals q)
 
-  over-neg : (f : ℕ → ℕ → ℤ) (n : ℕ) → over (λ t i. negℤ (f t i)) n ≡ negℤ (over f n)
-  unfolding over
-  over-neg f n =
-      sum-cong _ (λ t. negℤ (sumℤ (f t) (upTo n))) (upTo (intervals q)) (all (λ t. sum-neg (f t) (upTo n)) (upTo (intervals q)))
-      ∙ sum-neg (λ t. sumℤ (f t) (upTo n)) (upTo (intervals q))
+  abbrev D : List ℕ
+  D = upTo (devices q)
 
   A : ℕ → ℕ → ℤ
   A = blockWorth c p (our c p)
@@ -97,10 +82,10 @@ module _ (c : Case) (p : Plan) where
   M = mismatchCost c p (our c p)
 
   cells-are : over (cellBalance c p) (devices q) ≡ over A (devices q) -ℤ over B (devices q) -ℤ over E (devices q) -ℤ over G (devices q)
-  unfolding cellBalance A B E G
+  unfolding cellBalance over A B E G
   cells-are =
-      over-sub (λ t i. A t i -ℤ B t i -ℤ E t i) G (devices q)
-      ∙ ap (λ (z : ℤ). z -ℤ over G (devices q)) (over-sub (λ t i. A t i -ℤ B t i) E (devices q) ∙ ap (λ (z : ℤ). z -ℤ over E (devices q)) (over-sub A B (devices q)))
+      sums-sub I D (λ t i. A t i -ℤ B t i -ℤ E t i) G
+      ∙ ap (λ (z : ℤ). z -ℤ over G (devices q)) (sums-sub I D (λ t i. A t i -ℤ B t i) E ∙ ap (λ (z : ℤ). z -ℤ over E (devices q)) (sums-sub I D A B))
 
   intervals-are : sumℤ intervalBalance (upTo (intervals q)) ≡ over (cellBalance c p) (devices q) +ℤ negℤ (over S (zones q)) +ℤ negℤ (sumℤ M (upTo (intervals q)))
   unfolding intervalBalance S M over
@@ -108,7 +93,7 @@ module _ (c : Case) (p : Plan) where
       sum-add (λ t. sumℤ (cellBalance c p t) (upTo (devices q)) +ℤ sumℤ (λ z. negℤ (S t z)) (upTo (zones q))) (λ t. negℤ (M t)) (upTo (intervals q))
       ∙ ap₂ (λ (y z : ℤ). y +ℤ z)
       (sum-add (λ t. sumℤ (cellBalance c p t) (upTo (devices q))) (λ t. sumℤ (λ z. negℤ (S t z)) (upTo (zones q))) (upTo (intervals q))
-      ∙ ap (λ (z : ℤ). over (cellBalance c p) (devices q) +ℤ z) (over-neg S (zones q)))
+      ∙ ap (λ (z : ℤ). over (cellBalance c p) (devices q) +ℤ z) (sums-neg I (upTo (zones q)) S))
       (sum-neg M (upTo (intervals q)))
 
   windows-are : sumℤ windowsBalance (upTo (devices q)) ≡ negℤ (pos (c .prices .overrun) *ℤ sumℤ (overruns c p (our c p)) (upTo (devices q)))

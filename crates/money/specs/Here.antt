@@ -20,7 +20,7 @@ use Rattle.records.specs.declared.Device.{Device}
 use Rattle.records.specs.declared.Setting.{Setting}
 use Rattle.records.specs.declared.Zone.{Zone}
 use Rattle.records.specs.Figures.{cellOf, settingOf, deviceOf, zoneOf}
-use Rattle.records.specs.Parts.{part}
+use Rattle.numbers.specs.Parts.{part}
 use Rattle.records.specs.Views.{systemIn, caseIn, planIn}
 use Rattle.records.specs.Viewed as Viewed
 use Rattle.choices.specs.declared.Choice.{Choice}

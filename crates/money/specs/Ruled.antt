@@ -3,13 +3,11 @@ use mathlib.Core.Path.{_≡_, refl, sym, ap, subst, _∙_}
 use mathlib.Core.Logic.{_⊎_, inl, inr}
 use mathlib.Core.Bool.{Bool, true, false}
 use mathlib.Core.List.{List, [], map}
-use Prim.Native.Nat.{ℕ, zero, suc, _+_, _-_, _*_, _≤_, _<_}
+use Prim.Native.Nat.{ℕ, zero, suc, _-_, _*_, _≤_, _<_}
 use native.Mathlib.Omega.{arith}
 use lib.Dec.{T, ltb, eqb}
 use lib.ListN.{getD, length}
 use lib.IntN.{ℤ, pos, natAbs}
-use Rattle.numbers.specs.Z.{whole, n-}
-use Rattle.numbers.specs.Bounds.{na}
 use Rattle.numbers.specs.State.{best, best-is}
 use Rattle.bits.specs.Pick.{pick}
 use Rattle.units.specs.declared.Kw.{Kw}
@@ -23,13 +21,14 @@ use Rattle.model.specs.Ours.{ours, bestState, lasts}
 use Rattle.theorems.specs.Best.{filling-cap}
 use Rattle.numbers.specs.Every.{all-range}
 use Rattle.ranges.specs.Ranges.{CellPriceRange, SettingRange}
+use Rattle.ranges.specs.Kept.{kept-small}
 use Rattle.numbers.specs.Every.{all-or, bit-le}
 use Rattle.theorems.specs.Sizes.{power-bound}
 use Rattle.records.specs.declared.Cell.{Cell}
 use Rattle.records.specs.declared.Device.{Device}
 use Rattle.records.specs.declared.Setting.{Setting}
 use Rattle.records.specs.Figures.{settingOf}
-use Rattle.records.specs.Parts.{part}
+use Rattle.numbers.specs.Parts.{part}
 use Rattle.records.specs.Views.{less, priceOffset, numberOf, cellPricesIn, settingIn}
 use Rattle.records.specs.Viewed as Viewed
 use Rattle.records.specs.Ranged as Ranged
@@ -60,10 +59,6 @@ four-get f (suc zero) h = refl
 four-get f (suc (suc zero)) h = refl
 four-get f (suc (suc (suc zero))) h = refl
 four-get f (suc (suc (suc (suc k)))) h = absurd (omega arith)
-
--- a figure kept from 0 is at most twice the offset where its size is at most the offset
-kept-small : (o v : ℕ) → natAbs (less o v) ≤ o → v ≤ o + o
-kept-small o v h = omega (whole, na (less o v), n- (pos v) (pos o))
 
 module _ {d : Device} {cell : Cell} {setting : Setting} {p minutes : ℕ} {x : Choice} (w : Ruled d cell setting p minutes x) where
   abbrev pub i : ℕ

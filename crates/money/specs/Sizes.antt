@@ -2,31 +2,23 @@
 use mathlib.Core.Bool.{Bool, true, false, not, _&&_}
 use Prim.Native.Nat.{ℕ, _*_, _≤_, _<_}
 use native.Mathlib.Omega.{arith}
-use native.Mathlib.Nat.{mul-le-mul, le-refl}
+use native.Mathlib.Nat.{mul-le-mul}
 use lib.Dec.{ltb, leb, eqb}
-use lib.ListN.{length, getD}
+use lib.ListN.{getD}
 use lib.IntN.{pos, _-ℤ_}
-use Rattle.numbers.specs.Laws.{maxZero}
-use Rattle.numbers.specs.Sum.{sumℕ}
+use Rattle.numbers.specs.Laws.{maxZero, above-is}
 use Rattle.numbers.specs.Bounds.{bound-sub}
 use Rattle.bits.specs.Pick.{pick}
-use Rattle.numbers.specs.Base.{upTo}
 use Rattle.model.specs.Case.{System, Plan, noMinima, noEnergyWindow}
 use Rattle.model.specs.Forced.{intervals, devices, zones, device, zone, energyWindow, consuming, member, duration, midpoint, power}
 use Rattle.model.specs.Rules.{EveryRule}
 use Rattle.model.specs.Completion as C
 use Rattle.ranges.specs.Ranges.{SystemRange, MinimaRange, PlanRange, EnergyRange}
-use Rattle.numbers.specs.Every.{all-upTo}
-use Rattle.numbers.specs.Every.{all-or, length-range, sum-bound, gate-le}
-use Rattle.theorems.specs.Sizes.{max-sub, power-bound, unit-bound, zone-at, device-at, duration-bound}
+use Rattle.numbers.specs.Every.{all-or, gate-le}
+use Rattle.numbers.specs.Ranges.{sum-few}
+use Rattle.theorems.specs.Sizes.{power-bound, unit-bound, zone-at, device-at, duration-bound}
 use Rattle.records.specs.Views.{mostDevices, mostIntervals}
 use Rattle.money.specs.Bounds.{powerMost, minutesMost, loadMost, mismatchMost, shareMost, shortfallMost, limitMost}
-
--- a sum over few indices
-sum-few : (f : ℕ → ℕ) (b n most : ℕ) → n ≤ most → ((k : ℕ) → k < n → f k ≤ b) → sumℕ f (upTo n) ≤ most * b
-sum-few f b n most l h =
-    let m : length (upTo n) ≤ most = omega (arith, length-range 0 n) in
-    omega (arith, sum-bound f b (upTo n) (all-upTo _ _ h), mul-le-mul m (le-refl b))
 
 -- a share of a power
 share : (a b n : ℕ) → a ≤ shareMost → b ≤ n → a * b ≤ shareMost * n
@@ -64,7 +56,7 @@ module _ (q : System) (p : Plan) (rq : SystemRange q) (rp : PlanRange q p) (ok :
 
   pub shortfall-bound : (t z : ℕ) (k : C.Shortfall) → t < intervals q → z < zones q → maxZero (C.shortfallNeed q p t z k) ≤ shortfallMost
   unfolding C.shortfallNeed
-  shortfall-bound t z k l m = omega (arith, max-sub (C.required q p t z k) (1000 * C.held q p t z k), required-bound t z k l m)
+  shortfall-bound t z k l m = omega (arith, above-is (C.required q p t z k) (1000 * C.held q p t z k), required-bound t z k l m)
 
 module _ (q : System) (p : Plan) (rq : SystemRange q) (rp : PlanRange q p) (ok : EveryRule q p) (few : intervals q ≤ mostIntervals) where
   energy-bound : (i w : ℕ) → i < devices q → C.energyIn q p i w ≤ mostIntervals * (minutesMost * powerMost)
@@ -82,5 +74,5 @@ module _ (q : System) (p : Plan) (rq : SystemRange q) (rp : PlanRange q p) (ok :
           (device q i .energyWindows) (device-at q p rq rp ok i m .energy) w .energy
 
       go : (b : Bool) → maxZero (pick b (pos (C.energyIn q p i w) -ℤ pos (energyWindow q i w .energy)) (pos (energyWindow q i w .energy) -ℤ pos (C.energyIn q p i w))) ≤ limitMost
-      go true = omega (arith, max-sub (C.energyIn q p i w) (energyWindow q i w .energy), energy-bound i w m)
-      go false = omega (arith, max-sub (energyWindow q i w .energy) (C.energyIn q p i w), limit)
+      go true = omega (arith, above-is (C.energyIn q p i w) (energyWindow q i w .energy), energy-bound i w m)
+      go false = omega (arith, above-is (energyWindow q i w .energy) (C.energyIn q p i w), limit)

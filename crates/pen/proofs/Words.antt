@@ -1,7 +1,7 @@
 -- Whole bytes behind whole bytes; a word's bytes; pending bits joined and split.
 use mathlib.Core.Path.{_≡_, refl, sym, _∙_, ap, subst}
-use mathlib.Core.List.{List, [], _∷_, _++_, append-assoc}
-use Prim.Native.Nat.{ℕ, zero, suc, _+_, _-_, _*_, _/_, _%_, _^_, _≤_, _<_}
+use mathlib.Core.List.{List, _++_, append-assoc}
+use Prim.Native.Nat.{ℕ, _+_, _-_, _*_, _/_, _%_, _^_, _≤_, _<_}
 use native.Mathlib.Omega.{arith}
 use native.Mathlib.Nat.{add-zero, mul-one, mod-lt}
 use Rattle.bits.proofs.Laws.{one-shl}
@@ -10,9 +10,9 @@ use lib.Bits.{bitAnd, and-mask}
 use lib.ListN.{length, drop, set, length-append, length-drop}
 use lib.Pow.{pow-add, pow-mono, pow-pos, shl-exact, shr-lt, split}
 use lib.Seq.{drop-drop}
-use Rattle.numbers.specs.Sum.{All}
+use Rattle.numbers.specs.Every.{all-append}
 use Rattle.layouts.specs.Layout.{bitsOf, bytes}
-use Rattle.layouts.specs.Trip.{length-bits, length-bytes}
+use Rattle.layouts.specs.Trip.{length-bits, length-bytes, bits-small}
 use Rattle.pen.specs.Stored.{stored}
 use Rattle.pen.proofs.Bytes.{num, num-bits, digits, stored-digits, bytes-digits, bytes-append}
 use Rattle.pen.proofs.Stores.{length-stored}
@@ -20,22 +20,13 @@ use Rattle.pen.proofs.Stores.{joined}
 use Rattle.pen.specs.declared.Pen.{Pen}
 use Rattle.pen.specs.Pens.{Ready, Penned, Pushes, Finishes}
 
-all-append : (xs ys : List ℕ) → All (λ b. b < 2) xs → All (λ b. b < 2) ys → All (λ b. b < 2) (xs ++ ys)
-all-append [] ys h i = i
-all-append (x ∷ xs) ys h i = (h .0, all-append xs ys (h .1) i)
-
-bits-binary : (w v : ℕ) → All (λ b. b < 2) (bitsOf w v)
-unfolding bitsOf
-bits-binary zero v = tt
-bits-binary (suc w) v = all-append (bitsOf w (v / 2)) (v % 2 ∷ []) (bits-binary w (v / 2)) (omega arith, tt)
-
 -- a number's bytes behind whole bytes of a message
 pub behind : (before front : List ℕ) (at w v m t : ℕ) → length front ≡ 8 * at → v < 2 ^ w → w + t ≡ 8 * m → t < 8 → at + m ≤ length before
     → stored (bytes front ++ drop at before) at m (v * 2 ^ t) ≡ bytes (front ++ bitsOf w v) ++ drop (at + m) before
 behind before front at w v m t lf small e lt room =
     let lp : length (bytes front) ≡ at = (let l = length-bytes front in omega arith) in
     let d : bytes (bitsOf w v) ≡ digits m (v * 2 ^ t) =
-    bytes-digits (bitsOf w v) m t (bits-binary w v) (let z = length-bits w v in omega arith) lt ∙ ap (λ (y : ℕ). digits m (y * 2 ^ t)) (num-bits w v small) in
+    bytes-digits (bitsOf w v) m t (bits-small w v) (let z = length-bits w v in omega arith) lt ∙ ap (λ (y : ℕ). digits m (y * 2 ^ t)) (num-bits w v small) in
     let f : drop m (drop at before) ≡ drop (at + m) before = drop-drop m at before in
     ap (λ (y : ℕ). stored (bytes front ++ drop at before) y m (v * 2 ^ t)) (sym lp)
     ∙ (stored-digits (bytes front) (drop at before) m (v * 2 ^ t) (simp length-drop (omega arith))
@@ -140,7 +131,7 @@ module _ (p : Pen) (w v : ℕ) (ok : Ready p) (few : w ≤ 56) (small : v < 2 ^ 
               front = W .front ++ bitsOf 64 word;
               is = ap (λ (l : List ℕ). l ++ bitsOf w v) (W .is) ∙ (append-assoc (W .front) (bitsOf (p .n) (p .acc)) (bitsOf w v) ∙ (ap (λ (l : List ℕ). W .front ++ l) word-bits ∙ sym (append-assoc (W .front) (bitsOf 64 word) (bitsOf rest (v % 2 ^ rest)))));
               whole = length-append (W .front) (bitsOf 64 word) ∙ omega (arith, W .whole, length-bits 64 word);
-              binary = all-append (W .front) (bitsOf 64 word) (W .binary) (bits-binary 64 word);
+              binary = all-append (λ b. b < 2) (W .front) (bitsOf 64 word) (W .binary) (bits-small 64 word);
               wrote = x ∙ (ap (λ (l : List ℕ). stored l (p .at) 8 word) (W .wrote) ∙ (ap (λ (k : ℕ). stored (bytes (W .front) ++ drop (p .at) before) (p .at) 8 k) (sym (mul-one word))
                   ∙ behind before (W .front) (p .at) 64 word 8 0 (W .whole) word-lt refl (omega arith) (omega arith)));
               room = omega arith;

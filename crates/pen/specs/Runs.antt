@@ -4,8 +4,9 @@ use mathlib.Core.List.{List, [], _++_, append-nil}
 use Prim.Native.Nat.{ℕ, zero, suc, _+_, _*_, _≤_, _<_}
 use native.Mathlib.Omega.{arith}
 use native.Mathlib.Numerals.{add-one}
-use native.Mathlib.Nat.{add-mul, mul-le-mul-right}
+use native.Mathlib.Nat.{add-mul}
 use lib.ListN.{length, drop}
+use Rattle.numbers.specs.Parts.{part-inside}
 use Rattle.layouts.specs.Layout.{bytes}
 use Rattle.pen.specs.declared.Pen.{Pen}
 use Rattle.pen.specs.Pens.{Ready, Penned, Pushes, Finishes, penned-none, pushes-then}
@@ -54,10 +55,6 @@ run-even f k {w} h i = pushes-as refl (omega (arith, add-mul k 1 w)) (run-more f
 pub run-done : (f : ℕ → List ℕ) (k n w : ℕ) {a b : List ℕ} {p q : Pen} → k ≤ n → n ≤ k → Pushes (k * w) (run f k) a b p q → Pushes (n * w) (run f n) a b p q
 run-done f k n w {a} {b} {p} {q} h l i = let e : k ≡ n = omega arith in subst (λ (j : ℕ). Pushes (j * w) (run f j) a b p q) e i
 
--- where n of them fit, the one after k fits
-pub fits-more : (k n w : ℕ) → k < n → k * w + w ≤ n * w
-fits-more k n w h = omega (arith, mul-le-mul-right w h, add-mul k 1 w)
-
 -- where n parts of w bits fit, the one behind k of them fits
 pub room-at : {bits a b : List ℕ} {p q : Pen} (k n w : ℕ) → k < n → Pushes (k * w) bits a b p q → Room a p (n * w) → Room b q w
-room-at k n w h i r = omega (arith, i .moved, i .long, fits-more k n w h)
+room-at k n w h i r = omega (arith, i .moved, i .long, part-inside w k n h)

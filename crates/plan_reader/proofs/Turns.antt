@@ -3,6 +3,7 @@ use mathlib.Core.Path.{_≡_, refl, sym, ap, _∙_}
 use mathlib.Core.List.{List, []}
 use Prim.Native.Nat.{ℕ, _+_, _*_, _≤_, _<_}
 use native.Mathlib.Omega.{arith}
+use native.Mathlib.Nat.{mul-le-mul}
 use native.Mathlib.Decide.{decLe}
 use lib.ListN.{length, getD, set, length-set}
 use lib.Seq.{getD-set-same, getD-set-other}
@@ -14,7 +15,7 @@ use Rattle.model.specs.ByEdition.{setting, planned}
 use Rattle.numbers.specs.Rows.{rows}
 use Rattle.records.specs.declared.Setting.{Setting}
 use Rattle.records.specs.Figures.{settingRow}
-use Rattle.records.specs.Parts.{next-part, part-inside, place-inside, table-small}
+use Rattle.numbers.specs.Parts.{next-part, part-inside, place-inside}
 use Rattle.records.specs.Views.{mostDevices, mostIntervals, settingIn}
 use Rattle.fields.specs.declared.Went.{Went}
 use Rattle.fields.specs.declared.Went.the-variants as W
@@ -82,7 +83,7 @@ module _ {e n m t : ℕ} {s : List ℕ} {start : Place} {old : List (List ℕ)} 
 -- where the next device's row would be
 pub next-small : {n m t i k : ℕ} {old new : List (List ℕ)} {e : ℕ} {s : List ℕ} {start p : Place} → PlanRoom n m old → Filling e n m t s start old i k new p → i < n → t < m
     → k + m ≤ mostDevices * mostIntervals + mostIntervals
-next-small {n} {m} {t} {i} room f h l = omega (arith, f .row, place-inside m i n t h l, table-small mostDevices mostIntervals (room .few-devices) (room .few-intervals), room .few-intervals)
+next-small {n} {m} {t} {i} room f h l = omega (arith, f .row, place-inside m i n t h l, mul-le-mul (room .few-devices) (room .few-intervals), room .few-intervals)
 
 -- ---- the intervals
 

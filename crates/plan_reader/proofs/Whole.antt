@@ -16,7 +16,7 @@ use Rattle.model.specs.ByEdition.{planned, planLayout}
 use Rattle.ranges.specs.Ranges.{SettingRange, Settings, settings-in}
 use Rattle.numbers.specs.Rows.{rows}
 use Rattle.numbers.specs.Rows.{rows-at}
-use Rattle.records.specs.Parts.{part-at}
+use Rattle.numbers.specs.Parts.{part-at}
 use Rattle.records.specs.Views.{settingIn, planIn, PlanRows}
 use Rattle.fields.specs.declared.Figure.{Figure}
 use Rattle.fields.specs.declared.Figure.the-variants as G

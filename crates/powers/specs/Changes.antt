@@ -5,7 +5,7 @@ use mathlib.Core.List.{List}
 use Prim.Native.Nat.{ℕ, _+_, _-_, _*_, _≤_, _<_}
 use native.Mathlib.Omega.{arith}
 use native.Mathlib.Decide.{decLe}
-use native.Mathlib.Nat.{one-mul, zero-mul, add-zero, zero-add}
+use native.Mathlib.Nat.{one-mul, zero-mul, add-zero, zero-add, le-refl}
 use borrow.Author.Tests.{lt-ltb, le-ltb, ltb-true, eq-eqb, ne-eqb}
 use lib.Dec.{ltb, leb}
 use lib.ListN.{length, getD, set, length-set, List·getD-eq-default}
@@ -14,10 +14,9 @@ use Rattle.numbers.specs.Sum.{sumℕ, gate}
 use Rattle.numbers.specs.Base.{range, upTo, bit}
 use Rattle.records.specs.declared.Device.{Device}
 use Rattle.records.specs.Figures.{onAt, onlineAt, pminAt, onBefore}
-use Rattle.records.specs.Sums.{sum-more}
+use Rattle.numbers.specs.Ranges.{sum-more, sum-few}
 use Rattle.records.specs.Views.{mostIntervals, mostPower}
 use Rattle.powers.specs.declared.Ramping.{Ramping}
-use Rattle.powers.specs.Sums.{sum-most}
 use Rattle.powers.specs.Times.{Clock}
 use Rattle.powers.specs.Trajectories.{leavesAt, riseIn, fallIn, Raised, Ramped}
 
@@ -166,7 +165,7 @@ module _ (r : Ramping) (cells settings : List (List ℕ)) (starts : List ℕ) (h
     arith,
     g .number k,
     online-low k,
-    sum-most (λ j. added r cells settings starts j k) 100000 e (λ j m. added-low r cells starts (onBefore (r .on0) settings j) (onAt settings j) j k h (omega arith)),
+    sum-few (λ j. added r cells settings starts j k) 100000 e e (le-refl e) (λ j m. added-low r cells starts (onBefore (r .on0) settings j) (onAt settings j) j k h (omega arith)),
   )
 
   pub grown-low : {e : ℕ} {row : List ℕ} → e < length cells → Grown (added r cells settings starts) e base row → Low row

@@ -1,4 +1,3 @@
-pub mod Sums
 pub mod Times
 pub mod Trajectories
 pub mod Changes

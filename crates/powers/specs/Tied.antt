@@ -9,17 +9,17 @@ use native.Mathlib.Nat.{mul-zero}
 use borrow.Author.Tests.{ne-eqb, le-leb, lt-leb, lt-ltb, le-ltb}
 use lib.Dec.{ltb, leb}
 use lib.ListN.{getD, length}
-use Rattle.numbers.specs.Sum.{sumℕ, gate}
+use Rattle.numbers.specs.Sum.{sumℕ, sumℕ-add, gate}
 use Rattle.numbers.specs.Base.{upTo}
 use Rattle.model.specs.Case as M
 use Rattle.model.specs.Case.{System, Plan}
 use Rattle.model.specs.Forced as F
 use Rattle.records.specs.declared.Device.{Device}
 use Rattle.records.specs.Figures.{deviceOf, onlineAt, pminAt, startedAt, stoppedAt}
-use Rattle.records.specs.Parts.{part}
+use Rattle.numbers.specs.Parts.{part}
 use Rattle.records.specs.Views.{systemIn, planIn, deviceIn}
 use Rattle.records.specs.Viewed as W
-use Rattle.powers.specs.Sums.{sum-same, sum-both, sum-cut}
+use Rattle.numbers.specs.Ranges.{sum-same, sum-cut}
 use Rattle.powers.specs.Times.{startAt, start-next, start-order, Times}
 use Rattle.powers.specs.Trajectories.{leavesAt, riseIn, fallIn, within, past, ahead}
 use Rattle.powers.specs.Changes.{rampingOf, addedBy, added}
@@ -123,6 +123,6 @@ module _ (halves : List ℕ) (zones minima devices cells settings : List (List �
           (omega (
             arith,
             sum-same (λ e. added (rampingOf d) own set starts e t) (λ e. rise t e + gate (leb e t) (fall t e)) m (λ e b. ap₂ (λ (x y : ℕ). x + y) (starts-add t e h b full) (stops-add t e h b full)),
-            sum-both (rise t) (λ e. gate (leb e t) (fall t e)) (upTo m),
+            sumℕ-add (rise t) (λ e. gate (leb e t) (fall t e)) (upTo m),
             sum-cut (fall t) t m h,
           ))

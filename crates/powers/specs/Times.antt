@@ -1,14 +1,15 @@
 -- S of each interval and the last E, from the halves of the durations.
 use mathlib.Core.Path.{_≡_, refl, _∙_}
 use mathlib.Core.List.{List}
-use Prim.Native.Nat.{ℕ, zero, suc, _+_, _-_, _*_, _≤_, _<_}
+use Prim.Native.Nat.{ℕ, _+_, _*_, _≤_, _<_}
 use native.Mathlib.Omega.{arith}
 use native.Mathlib.Decide.{decLe}
+use native.Mathlib.Nat.{le-refl}
 use lib.ListN.{length, getD, set, length-set, List·getD-eq-default}
 use lib.Seq.{getD-set-same, getD-set-other}
 use Rattle.numbers.specs.Sum.{sumℕ}
 use Rattle.numbers.specs.Base.{range, upTo}
-use Rattle.records.specs.Sums.{sum-more}
+use Rattle.numbers.specs.Ranges.{sum-more, sum-rises, sum-few}
 use Rattle.records.specs.Views.{mostIntervals, lastMinute}
 
 unfoldable pub startAt : List ℕ → ℕ → ℕ
@@ -44,16 +45,13 @@ module _ (halves : List ℕ) where
   start-next t = sum-more (λ k. 2 * getD halves k 0) t
 
   -- S grows with the interval
-  grows : (a k : ℕ) → startAt halves a ≤ startAt halves (a + k)
-  grows a zero = let e : a + 0 ≡ a = omega arith in rw e (omega arith)
-  grows a (suc k) = let e : a + suc k ≡ a + k + 1 = omega arith in rw e (omega (arith, grows a k, start-next (a + k)))
-
   pub start-order : (a b : ℕ) → a ≤ b → startAt halves a ≤ startAt halves b
-  start-order a b h = let e : a + (b - a) ≡ b = omega arith in rw (← e) (grows a (b - a))
+  unfolding startAt
+  start-order a b h = sum-rises (λ k. 2 * getD halves k 0) a b h
 
   start-low : Halves halves → (t : ℕ) → startAt halves t ≤ 360 * t
-  start-low h zero = omega (arith, start-none)
-  start-low h (suc t) = let e : suc t ≡ t + 1 = omega arith in rw e (omega (arith, start-next t, h .half t, start-low h t))
+  unfolding startAt
+  start-low h t = omega (arith, sum-few (λ k. 2 * getD halves k 0) 360 t t (le-refl t) (λ k l. omega (arith, h .half k)))
 
   pub clock-of : {starts : List ℕ} → Halves halves → Times halves starts → Clock (length halves) starts
   clock-of {starts} h c = record {

@@ -1,11 +1,12 @@
 -- The ranges of a case and a plan that pass reading, in every edition.
 use mathlib.Core.Path.{_≡_, refl}
-use mathlib.Core.List.{List, [], _∷_, map}
+use mathlib.Core.List.{List}
 use Prim.Native.Nat.{ℕ, _≤_}
 use native.Mathlib.Omega.{arith}
 use lib.ListN.{length, length-map}
 use lib.IntN.{natAbs}
-use Rattle.numbers.specs.Sum.{All}
+use Rattle.numbers.specs.Sum.{All, all-map}
+use Rattle.numbers.specs.Every.{map-of-all}
 use Rattle.model.specs.Case.{Reserves, Ramps, StartWindow, EnergyWindow, Shares, Six, Minima, Cell, CellPrices, Device, DevicePrices, Zone, System, Prices, Case, Plan, Setting}
 use Rattle.layouts.specs.Layout.{Layout, Field, nat, list, counted, _then_, _▸_, passes, figure, any, countOf}
 use Rattle.model.specs.Editions.{newest, Largest, batch, devicesIn, intervalsIn, mostDevices, mostIntervals, mostZones, mostStates, mostWindows, startsBits, mostStarts}
@@ -13,8 +14,7 @@ use Rattle.model.specs.Messages as M
 use Rattle.model.specs.Messages.{edition1}
 use Rattle.model.specs.ByEdition as B
 use Rattle.model.specs.ByEdition.{Stated, statedIn, plannedIn}
-use Rattle.model.specs.AsBefore.{first, first-as, plan-as}
-use Rattle.model.specs.Before.{readCase, readPlan}
+use Rattle.model.specs.AsBefore.{first, first-as}
 use Rattle.layouts.specs.As.{as-checked}
 use Rattle.layouts.specs.Checked.{Checked, nat-checked, int-checked, list-checked, such-checked, held-checked, then-checked, whole-checked, weaken}
 
@@ -33,18 +33,10 @@ pub record CellRange (c : Cell) : Type 0 where
   pub blocks : length (c .caps) ≤ 4
   pub caps : All (λ x. x ≤ 100000) (c .caps)
 
-all-firsts : {A B : Type 0} (P : A → Type 0) (Q : B → Type 0) (l : List (A × B)) → All (λ x. P (x .0) × Q (x .1)) l → All P (map (λ x. x .0) l)
-all-firsts P Q [] h = tt
-all-firsts P Q (x ∷ l) h = (h .0 .0, all-firsts P Q l (h .1))
-
-all-seconds : {A B : Type 0} (P : A → Type 0) (Q : B → Type 0) (l : List (A × B)) → All (λ x. P (x .0) × Q (x .1)) l → All Q (map (λ x. x .1) l)
-all-seconds P Q [] h = tt
-all-seconds P Q (x ∷ l) h = (h .0 .1, all-seconds P Q l (h .1))
-
 apart-checked : {A B : Type 0} (l : Layout (List (A × B))) (n : ℕ) (P : A → Type 0) (Q : B → Type 0)
     → Checked l (λ xs. (length xs ≤ n) × All (λ x. P (x .0) × Q (x .1)) xs) → Checked (M.apart l) (λ v. (length (v .0) ≤ n) × All P (v .0) × All Q (v .1))
 unfolding M.apart
-apart-checked l n P Q u = held-checked _ _ _ _ _ u (λ xs ok. (rw length-map (ok .0), all-firsts P Q xs (ok .1), all-seconds P Q xs (ok .1)))
+apart-checked l n P Q u = held-checked _ _ _ _ _ u (λ xs ok. (rw length-map (ok .0), map-of-all P (λ x. x .0) xs (all-map (λ x k. k .0) xs (ok .1)), map-of-all Q (λ x. x .1) xs (all-map (λ x k. k .1) xs (ok .1))))
 
 figure-checked : (w low high : ℕ) → Checked (figure w low high) (λ v. v ≤ high)
 figure-checked w low high = weaken (figure w low high) _ _ (nat-checked (record { width = w; low = low; high = high; wrong = _ })) (λ a ok. ok .1)
@@ -156,7 +148,7 @@ energy-checked last = held-checked _ _ _ _ _ (pair-checked _ _ _ _ (figure-check
 some-checked : {A B : Type 0} (n : ℕ) (l : Layout (A × B)) (P : A → Type 0) (Q : B → Type 0) → Checked l (λ x. P (x .0) × Q (x .1))
     → Checked (M.apart (list n l)) (λ v. (length (v .0) ≡ n) × All P (v .0) × All Q (v .1))
 unfolding M.apart
-some-checked n l P Q u = held-checked _ _ _ _ _ (list-checked n l (λ x. P (x .0) × Q (x .1)) u) (λ xs ok. (rw length-map (ok .0), all-firsts P Q xs (ok .1), all-seconds P Q xs (ok .1)))
+some-checked n l P Q u = held-checked _ _ _ _ _ (list-checked n l (λ x. P (x .0) × Q (x .1)) u) (λ xs ok. (rw length-map (ok .0), map-of-all P (λ x. x .0) xs (all-map (λ x k. k .0) xs (ok .1)), map-of-all Q (λ x. x .1) xs (all-map (λ x k. k .1) xs (ok .1))))
 
 pub record DevicePriceRange (x : DevicePrices) : Type 0 where
   pub on : x .onCost ≤ 100000
@@ -309,13 +301,6 @@ taken-checked = as-checked (first-as batch (omega arith) (omega arith)) _ _ (λ 
 pub case-checked : Checked (M.caseLayout edition1) CaseRange
 case-checked = weaken (M.caseLayout edition1) _ _ taken-checked (λ c ok. ok .range)
 
-pub case-taken : (s : List ℕ) (c : Case) → readCase s ≡ passes c → Taken 1 batch c
-unfolding readCase
-case-taken s c e = whole-checked (M.caseLayout edition1) (Taken 1 batch) taken-checked s c e
-
-pub case-range : (s : List ℕ) (c : Case) → readCase s ≡ passes c → CaseRange c
-case-range s c e = case-taken s c e .range
-
 -- the settings of a plan
 pub record SettingRange (x : Setting) : Type 0 where
   pub on : x .on ≤ 1
@@ -348,14 +333,3 @@ planned-checked e q = weaken _ (Settings (length (q .devices)) (length (q .halve
 pub planned-range : (e : ℕ) (q : System) (s : List ℕ) (p : Plan) → plannedIn e q s ≡ passes p → PlanRange q p
 unfolding plannedIn
 planned-range e q s p h = whole-checked _ (PlanRange q) (planned-checked e q) s p h
-
--- a plan of edition 1
-pub settings-checked : (devices intervals : ℕ) → Checked (M.planLayout edition1 devices intervals) (Settings devices intervals)
-settings-checked devices intervals = rw plan-as at (settings-in 1 devices intervals)
-
-pub plan-checked : (q : System) → Checked (M.planLayout edition1 (length (q .devices)) (length (q .halves))) (PlanRange q)
-plan-checked q = rw plan-as at (planned-checked 1 q)
-
-pub plan-range : (q : System) (s : List ℕ) (p : Plan) → readPlan q s ≡ passes p → PlanRange q p
-unfolding readPlan
-plan-range q s p e = whole-checked _ (PlanRange q) (plan-checked q) s p e

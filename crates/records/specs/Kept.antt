@@ -1,9 +1,9 @@
 -- A device's row holds all of it: the device of its row is the device again.
-use mathlib.Core.Path.{_≡_, refl, ap}
-use mathlib.Core.List.{List, [], _∷_}
-use Prim.Native.Nat.{ℕ, zero, suc}
-use native.Mathlib.Omega.{arith}
-use lib.ListN.{length, getD}
+use mathlib.Core.Path.{_≡_, refl}
+use mathlib.Core.List.{List}
+use Prim.Native.Nat.{ℕ}
+use lib.ListN.{length}
+use Rattle.numbers.specs.Rows.{tabbed}
 use Rattle.units.specs.declared.Kw.{Kw}
 use Rattle.units.specs.Units.{kw}
 use Rattle.records.specs.declared.State.{State}
@@ -19,17 +19,6 @@ pub record DeviceLong (d : Device) : Type 0 where
   pub states : length (d .states) ≡ 4
   pub starts : length (d .starts) ≡ 4
   pub energies : length (d .energies) ≡ 4
-
--- f 0, f 1, .., f (n − 1)
-abbrev tab : {A : Type 0} → (ℕ → A) → ℕ → List A
-tab f zero = []
-tab f (suc n) = f 0 ∷ tab (λ k. f (suc k)) n
-
-tabbed : {A : Type 0} (z : A) (n : ℕ) (l : List A) → length l ≡ n → tab (λ k. getD l k z) n ≡ l
-tabbed z zero [] h = refl
-tabbed z zero (x ∷ l) h = absurd (omega arith)
-tabbed z (suc n) [] h = absurd (omega arith)
-tabbed {A} z (suc n) (x ∷ l) h = ap (λ (r : List A). x ∷ r) (tabbed z n l (omega arith))
 
 -- the same device with these arrays
 abbrev with : Device → List ℕ → List Kw → List State → List StartWindow → List EnergyWindow → Device

@@ -1,6 +1,4 @@
 pub mod Figures
-pub mod Parts
-pub mod Sums
 pub mod Views
 pub mod Viewed
 pub mod Ranged

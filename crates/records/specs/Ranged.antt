@@ -5,47 +5,39 @@ use mathlib.Core.Bool.{Bool, true, false}
 use mathlib.Core.List.{List, [], map}
 use Prim.Native.Nat.{ℕ, zero, suc, _+_, _-_, _*_, _≤_, _<_}
 use native.Mathlib.Omega.{arith}
+use native.Mathlib.Nat.{mul-le-mul}
 use native.Mathlib.Decide.{decLe}
 use borrow.Author.Tests.{eq-eqb, ne-eqb}
 use lib.Dec.{eqb}
 use lib.ListN.{length, getD, take, List·getD-eq-default}
 use lib.IntN.{ℤ, pos, natAbs}
 use Rattle.numbers.specs.Sum.{All}
-use Rattle.numbers.specs.Z.{whole, n-}
-use Rattle.numbers.specs.Bounds.{abs-le}
 use Rattle.bits.specs.Pick.{pick}
 use Rattle.model.specs.Case as M
-use Rattle.model.specs.Case.{System, Plan, Case, noCell, noDevice, noZone, noDevicePrices, noCellPrices, noSix, noMinima}
+use Rattle.model.specs.Case.{System, Plan, Case, noCell, noDevice, noZone, noDevicePrices, noCellPrices, noSix}
 use Rattle.model.specs.Forced as F
 use Rattle.model.specs.Completion as C
-use Rattle.ranges.specs.Ranges.{CaseRange, DeviceRange, DevicePriceRange, CellRange, CellPriceRange, SettingRange, ZoneRange, SharesRange, MinimaRange, SixRange, Eight}
+use Rattle.ranges.specs.Ranges.{CaseRange, DeviceRange, DevicePriceRange, CellRange, CellPriceRange, SettingRange, ZoneRange, SharesRange, SixRange, Eight}
+use Rattle.ranges.specs.Kept.{kept-small}
 use Rattle.numbers.specs.Every.{all-at, all-or, all-getD}
-use Rattle.numbers.specs.Rows.{getD-map}
 use Rattle.units.specs.declared.Kw.{Kw}
 use Rattle.units.specs.Units.{kw}
 use Rattle.records.specs.declared.State.{State}
 use Rattle.records.specs.declared.Device.{Device}
 use Rattle.records.specs.declared.Front.{Front}
 use Rattle.records.specs.Figures.{noState, cellOf, settingOf, deviceOf, zoneOf, minimaOf, previousAt}
-use Rattle.records.specs.Parts.{part, part-inside, place-inside, part-at, part-long, table-small}
-use Rattle.records.specs.Sums.{sum-more}
-use Rattle.records.specs.Views.{less, priceOffset, costOffset, limitsIn, cellIn, cellPricesIn, settingIn, sharesIn, minimaIn, sixIn, deviceIn, devicePricesIn, systemIn, pricesIn, caseIn, planIn}
+use Rattle.numbers.specs.Parts.{part, part-inside, place-inside, part-at, part-long}
+use Rattle.numbers.specs.Ranges.{sum-more, sum-rises}
+use Rattle.records.specs.Views.{less, priceOffset, costOffset, limitsIn, cellIn, cellPricesIn, settingIn, sharesIn, sixIn, deviceIn, devicePricesIn, systemIn, pricesIn, caseIn, planIn}
 use Rattle.records.specs.Views.{mostPower, Padded, CaseRows, PlanRows, Ready}
 use Rattle.records.specs.Viewed as W
 use Rattle.records.specs.Viewed.{getD-any}
-
--- a cost kept from 0 is at most twice its offset
-kept : (o v : ℕ) → natAbs (less o v) ≤ o → v ≤ o + o
-kept o v h = omega (whole, abs-le (less o v) o h .1, n- (pos v) (pos o))
 
 no-prices : CellPriceRange noCellPrices
 no-prices = record {
   blocks = tt;
   reserves = record { rgu = omega arith; rgd = omega arith; scr = omega arith; nsc = omega arith; rruOn = omega arith; rruOff = omega arith; rrdOn = omega arith; rrdOff = omega arith };
 }
-
-no-minima : MinimaRange noMinima
-no-minima = record { rru = omega arith; rrd = omega arith }
 
 -- ---- a device's figures
 
@@ -89,12 +81,6 @@ module _ {front : Front} {halves : List ℕ} {zones minima devices cells : List 
   pub half-small : (t : ℕ) → getD halves t 0 ≤ 180
   half-small t = rw (W.halves-are halves zones minima devices cells) at (all-getD 180 (q .halves) (known .range .system .halves) t)
 
-  pub some-interval : 1 ≤ m
-  some-interval = omega (arith, known .range .system .someInterval, W.intervals-are halves zones minima devices cells)
-
-  pub some-device : 1 ≤ n
-  some-device = omega (arith, known .range .system .someDevice, W.devices-are halves zones minima devices cells)
-
   pub mismatch-price-small : front .mismatch ≤ 10000
   unfolding pricesIn
   mismatch-price-small = known .range .prices .mismatch
@@ -135,7 +121,7 @@ module _ {front : Front} {halves : List ℕ} {zones minima devices cells : List 
           few-states = c .few-states;
           few-starts = c .few-starts;
           few-energies = c .few-energies;
-          cost = λ j h. kept costOffset (getD (d i .states) j noState .cost) (cost (x .states) (c .few-states) j h);
+          cost = λ j h. kept-small costOffset (getD (d i .states) j noState .cost) (cost (x .states) (c .few-states) j h);
         }
       where
         f : State → ℤ
@@ -199,12 +185,6 @@ module _ {front : Front} {halves : List ℕ} {zones minima devices cells : List 
               ∙ W.first-at (less priceOffset) 0 (cellOf row .blocks) (cellOf row .prices) j y
               ))
 
-      pub price-small : (j : ℕ) → j < cellOf row .blocks → getD (cellOf row .prices) j 0 ≤ 20000
-      price-small j b = kept priceOffset (getD (cellOf row .prices) j 0)
-          (rw (W.first-at (less priceOffset) 0 (cellOf row .blocks) (cellOf row .prices) j b) at
-          (all-at (λ z. natAbs z ≤ 10000) (less priceOffset 0) (map (less priceOffset) (take (cellOf row .blocks) (cellOf row .prices))) (cell-price-range .blocks) j
-          (omega (arith, prices-long))))
-
   -- ---- zones
 
   module _ (z : ℕ) (l : z < length zones) where
@@ -213,9 +193,6 @@ module _ {front : Front} {halves : List ℕ} {zones minima devices cells : List 
 
     pub shares-small : SharesRange (sharesIn (getD zones z []))
     shares-small = subst SharesRange (W.shares-are halves zones minima devices cells z l) (zone-range .shares)
-
-    pub minima-small : (t : ℕ) → MinimaRange (minimaIn (getD (part m z minima) t []))
-    minima-small t = subst MinimaRange (W.minima-are halves zones minima devices cells z l t) (all-or MinimaRange noMinima no-minima (F.zone q z .minima) (zone-range .minima) t)
 
     pub zone-prices-small : SixRange (sixIn (zoneOf (getD zones z []) .prices))
     zone-prices-small = subst SixRange (W.zone-prices-are front halves zones minima devices cells z l)
@@ -240,7 +217,7 @@ module _ {front : Front} {halves : List ℕ} {zones minima devices cells setting
   room i a l e = record {
     in-cells = omega (arith, part-inside (length halves) i (length devices) l, known .cells-full);
     in-settings = omega (arith, part-inside (length halves) i (length devices) l, chosen .full);
-    small = omega (arith, part-inside (length halves) i (length devices) l, table-small 64 96 (known .few-devices) (known .few-intervals));
+    small = omega (arith, part-inside (length halves) i (length devices) l, mul-le-mul (known .few-devices) (known .few-intervals));
   }
 
 -- ---- the forced figures
@@ -262,12 +239,9 @@ module _ {front : Front} {halves : List ℕ} {zones minima devices cells setting
   start-next t h = omega (arith, end-at t h, ready .forced-rows .start t (omega arith), W.duration-is halves zones minima devices cells t)
 
   -- S rises
-  rising : (e n : ℕ) → e + n ≤ length halves → getD starts e 0 ≤ getD starts (e + n) 0
-  rising e zero h = let z : e + 0 ≡ e = omega arith in rw z (omega arith)
-  rising e (suc n) h = let z : e + suc n ≡ e + n + 1 = omega arith in rw z (omega (arith, rising e n (omega arith), start-next (e + n) (omega arith)))
-
   pub start-order : (e t : ℕ) → e ≤ t → t ≤ length halves → getD starts e 0 ≤ getD starts t 0
-  start-order e t h l = let z : e + (t - e) ≡ t = omega arith in rw z at (rising e (t - e) (omega arith))
+  unfolding F.startOf
+  start-order e t h l = omega (arith, ready .forced-rows .start e (omega arith), ready .forced-rows .start t l, sum-rises (F.duration system) e t h)
 
   module _ (i : ℕ) (l : i < length devices) where
     pub power-at : (t : ℕ) → t < length halves → getD (part (length halves) i powers) t 0 ≡ F.power system plan t i

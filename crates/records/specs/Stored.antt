@@ -1,9 +1,9 @@
 -- A record put into a row is what the row shows.
-use mathlib.Core.Path.{_≡_, refl, ap, ap₂, _∙_}
+use mathlib.Core.Path.{_≡_, ap, ap₂, _∙_}
 use mathlib.Core.List.{List, [], _∷_, map}
 use Prim.Native.Nat.{ℕ, _≤_, _<_}
-use native.Mathlib.Omega.{arith}
 use lib.ListN.{length, getD, take}
+use Rattle.numbers.specs.Rows.{tabbed}
 use Rattle.model.specs.Case as M
 use Rattle.units.specs.declared.Kw.{Kw}
 use Rattle.records.specs.declared.Cell.{Cell}
@@ -12,12 +12,7 @@ use Rattle.records.specs.Views.{less, priceOffset, eightPricesIn, cellIn
 
 -- four figures, one by one
 pub four : {A : Type 0} (l : List A) (z : A) → length l ≡ 4 → getD l 0 z ∷ getD l 1 z ∷ getD l 2 z ∷ getD l 3 z ∷ [] ≡ l
-four [] z h = absurd (omega arith)
-four (a ∷ []) z h = absurd (omega arith)
-four (a ∷ b ∷ []) z h = absurd (omega arith)
-four (a ∷ b ∷ c ∷ []) z h = absurd (omega arith)
-four (a ∷ b ∷ c ∷ d ∷ []) z h = refl
-four (a ∷ b ∷ c ∷ d ∷ e ∷ l) z h = absurd (omega arith)
+four l z h = tabbed z 4 l h
 
 -- the model's cell, by the record
 abbrev pub cellSaid : Cell → M.Cell

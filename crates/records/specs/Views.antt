@@ -19,7 +19,7 @@ use Rattle.records.specs.declared.EnergyWindow.{EnergyWindow}
 use Rattle.records.specs.declared.Device.{Device}
 use Rattle.records.specs.declared.Front.{Front}
 use Rattle.records.specs.Figures.{cellOf, settingOf, deviceOf, zoneOf, minimaOf}
-use Rattle.records.specs.Parts.{part}
+use Rattle.numbers.specs.Parts.{part}
 -- ---- the model's figures, by the records' names
 
 pub use Rattle.ranges.specs.Kept.{less}

@@ -10,7 +10,7 @@ use borrow.Author.Tests.{eq-eqb, ne-eqb}
 use lib.Dec.{ltb, leb, eqb}
 use lib.ListN.{getD, length}
 use lib.IntN.{pos, _-ℤ_}
-use Rattle.numbers.specs.Laws.{maxZero}
+use Rattle.numbers.specs.Laws.{maxZero, above-is}
 use Rattle.numbers.specs.Sum.{sumℕ, gate}
 use Rattle.bits.specs.Pick.{pick}
 use Rattle.numbers.specs.Base.{range, upTo}
@@ -21,13 +21,12 @@ use Rattle.model.specs.Completion as C
 use Rattle.records.specs.declared.EnergyWindow.{EnergyWindow}
 use Rattle.records.specs.declared.Front.{Front}
 use Rattle.records.specs.Figures.{deviceOf}
-use Rattle.records.specs.Parts.{part, part-long}
-use Rattle.records.specs.Sums.{sum-next}
+use Rattle.numbers.specs.Parts.{part, part-long}
+use Rattle.numbers.specs.Ranges.{sum-next}
 use Rattle.records.specs.Views.{systemIn, planIn, energyIn, mostIntervals, mostPower, lastMinute, Ready}
 use Rattle.records.specs.Viewed as W
 use Rattle.records.specs.Figures.{noEnergy}
 use Rattle.records.specs.Ranged.{half-small, power-at, power-small}
-use Rattle.slacks.specs.Differences.{above-is}
 
 -- the durations and times of m intervals, and a device's powers in them
 pub record Running (halves starts powers : List ℕ) : Type 0 where

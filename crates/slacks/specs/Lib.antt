@@ -1,4 +1,3 @@
-pub mod Differences
 pub mod Sides
 pub mod Sums
 pub mod Needs

@@ -7,8 +7,8 @@ use native.Mathlib.Omega.{arith}
 use native.Mathlib.Numerals.{add-one}
 use lib.Dec.{eqb}
 use lib.ListN.{getD, length}
-use Rattle.numbers.specs.Laws.{maxZero}
-use Rattle.numbers.specs.Sum.{sumℕ, gate}
+use Rattle.numbers.specs.Laws.{maxZero, above-is}
+use Rattle.numbers.specs.Sum.{sumℕ, sumℕ-cong, sumℕ-add, gate, gate-add, all as each}
 use Rattle.bits.specs.Pick.{pick}
 use Rattle.numbers.specs.Base.{range, upTo, largest}
 use Rattle.model.specs.Case as M
@@ -22,13 +22,12 @@ use Rattle.records.specs.declared.Reserves.{Reserves}
 use Rattle.records.specs.declared.Zone.{Zone}
 use Rattle.records.specs.declared.Minima.{Minima}
 use Rattle.records.specs.Figures.{sideAt, zonebitsAt, inZone, settingOf, zoneOf, minimaOf}
-use Rattle.records.specs.Parts.{part, part-at}
-use Rattle.records.specs.Sums.{sum-next, sum-skip, largest-next, largest-skip}
+use Rattle.numbers.specs.Parts.{part, part-at}
+use Rattle.numbers.specs.Ranges.{sum-next, sum-skip, largest-next, largest-skip}
 use Rattle.records.specs.Views.{eightIn, systemIn, planIn, Ready}
 use Rattle.records.specs.Viewed as W
 use Rattle.records.specs.Ranged.{shares-small}
 use Rattle.slacks.specs.declared.ZoneSums.{ZoneSums}
-use Rattle.slacks.specs.Differences.{above-is}
 use Rattle.slacks.specs.Sums.{sumsBy, noSums, withDevice, sumsTo}
 
 pub record Thousandths (z : Zone) : Type 0 where
@@ -71,10 +70,6 @@ pub needs-from : (z : Zone) (least : Minima) {s v : ZoneSums} {required r : List
 needs-from z least e f g = e ∙ rw (f, g) refl
 
 -- ---- a decoded case and plan
-
-gate-both : (b : Bool) (x y : ℕ) → gate b (x + y) ≡ gate b x + gate b y
-gate-both true x y = refl
-gate-both false x y = refl
 
 module _ {front : Front} {halves : List ℕ} {zones minima devices cells settings : List (List ℕ)} {starts powers : List ℕ}
     (ready : Ready front halves zones minima devices cells settings starts powers) (t : ℕ) (h : t < length halves) (z : ℕ) where
@@ -159,8 +154,7 @@ module _ {front : Front} {halves : List ℕ} {zones minima devices cells setting
 
   -- a sum of two kinds
   over-both : (f g : ℕ → ℕ) (ks : List ℕ) → sumℕ (λ k. gate (member q z k) (f k)) ks + sumℕ (λ k. gate (member q z k) (g k)) ks ≡ sumℕ (λ k. gate (member q z k) (f k + g k)) ks
-  over-both f g [] = refl
-  over-both f g (k ∷ ks) = omega (arith, over-both f g ks, gate-both (member q z k) (f k) (g k))
+  over-both f g ks = sym (sumℕ-cong _ _ ks (each (λ k. gate-add (member q z k) (f k) (g k)) ks) ∙ sumℕ-add _ _ ks)
 
   module _ (l : z < length zones) where
     abbrev s : ZoneSums

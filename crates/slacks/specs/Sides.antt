@@ -4,12 +4,14 @@ use mathlib.Core.Bool.{Bool, true, false, not}
 use mathlib.Core.List.{List, []}
 use Prim.Native.Nat.{ℕ, zero, suc, _+_, _-_, _*_, _≤_, _<_}
 use native.Mathlib.Omega.{arith}
+use native.Mathlib.Nat.{mul-le-mul}
 use native.Mathlib.Numerals.{add-one}
 use borrow.Author.Tests.{eq-eqb, ne-eqb}
 use lib.Dec.{eqb}
 use lib.ListN.{getD, length}
 use lib.IntN.{pos, natAbs, _-ℤ_}
 use Rattle.numbers.specs.Sum.{sumℕ, gate}
+use Rattle.numbers.specs.Bounds.{apart-is}
 use Rattle.bits.specs.Pick.{pick}
 use Rattle.numbers.specs.Base.{range, upTo}
 use Rattle.model.specs.Case.{System, Plan}
@@ -19,12 +21,11 @@ use Rattle.units.specs.declared.Kw.{Kw}
 use Rattle.units.specs.Units.{kw}
 use Rattle.records.specs.declared.Front.{Front}
 use Rattle.records.specs.Figures.{sideAt}
-use Rattle.records.specs.Parts.{place-inside, table-small}
-use Rattle.records.specs.Sums.{sum-next, sum-skip}
+use Rattle.numbers.specs.Parts.{place-inside}
+use Rattle.numbers.specs.Ranges.{sum-next, sum-skip}
 use Rattle.records.specs.Views.{systemIn, planIn, mostDevices, mostIntervals, mostPower, Ready}
 use Rattle.records.specs.Viewed as W
 use Rattle.slacks.specs.declared.Sides.{Sides}
-use Rattle.slacks.specs.Differences.{apart-is}
 
 -- interval t of m, and the powers of n devices in m intervals
 pub record Powered (n m t : ℕ) (powers : List ℕ) : Type 0 where
@@ -55,7 +56,7 @@ place {n} {m} {t} {powers} s i k l e =
     let b : k < length powers = omega (arith, place-inside m i n t l (s .interval), s .full) in
     record {
       inside = b;
-      next = omega (arith, place-inside m i n t l (s .interval), table-small mostDevices mostIntervals (s .few-devices) (s .few-intervals), s .few-intervals);
+      next = omega (arith, place-inside m i n t l (s .interval), mul-le-mul (s .few-devices) (s .few-intervals), s .few-intervals);
       power = s .small k b;
     }
 

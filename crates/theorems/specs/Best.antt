@@ -12,7 +12,7 @@ use lib.Signed.{_≤ℤ_}
 use Rattle.numbers.specs.Laws as L
 use Rattle.numbers.specs.Sum.{sumℤ, All, all, sum-mono, sumℕ, sumℕ-pos}
 use Rattle.numbers.specs.Threshold.{Within}
-use Rattle.numbers.specs.Blocks.{Asc, cheapest, dearest, cheapest-least, dearest-most, cheapest-total, dearest-total, cheapest-cap, dearest-cap}
+use Rattle.numbers.specs.Blocks.{Asc, asc-range, cheapest-least, dearest-most, cheapest-total, dearest-total, cheapest-cap, dearest-cap}
 use Rattle.numbers.specs.State.{best, Beats, best-beats, best-is}
 use Rattle.bits.specs.Pick.{pick}
 use Rattle.numbers.specs.Base.{range, upTo}
@@ -26,12 +26,14 @@ use Rattle.model.specs.Ours.{filling, lasts, bestState, ours, whole}
 use Rattle.model.specs.Tests.{same}
 use Rattle.model.specs.Named.{none-every, rule19-holds}
 use Rattle.numbers.specs.Every.{all-range, range-all, all-upTo}
+use Rattle.numbers.specs.Ranges.{grid-mono}
 
 -- ---- block powers
 
-asc-blocks : Asc blocks
-unfolding range
-asc-blocks = omega arith
+pub filling-total : (b : Bool) (price : ℕ → ℤ) (cap : ℕ → ℕ) (p : ℕ) → p ≤ sumℕ cap blocks → sumℕ (filling b price cap p) blocks ≡ p
+unfolding filling
+filling-total false price cap p h = cheapest-total price cap p blocks (asc-range 0 4) h
+filling-total true price cap p h = dearest-total price cap p blocks (asc-range 0 4) h
 
 module _ (price : ℕ → ℤ) (most : ℕ → ℕ) (p : ℕ) where
   pub filling-cap : (b : Bool) (k : ℕ) → filling b price most p k ≤ most k
@@ -39,26 +41,17 @@ module _ (price : ℕ → ℤ) (most : ℕ → ℕ) (p : ℕ) where
   filling-cap false k = cheapest-cap price most p blocks k
   filling-cap true k = dearest-cap price most p blocks k
 
-  filling-total : (b : Bool) → p ≤ sumℕ most blocks → sumℤ (λ k. pos (filling b price most p k)) blocks ≡ pos p
-  unfolding filling
-  filling-total false h = sumℕ-pos (cheapest price most p blocks) blocks ∙ ap pos (cheapest-total price most p blocks asc-blocks h)
-  filling-total true h = sumℕ-pos (dearest price most p blocks) blocks ∙ ap pos (dearest-total price most p blocks asc-blocks h)
-
   filling-best : (b : Bool) → p ≤ sumℕ most blocks → (x : ℕ → ℤ) → All (λ k. Within (most k) (x k)) blocks → sumℤ x blocks ≡ pos p
       → bySide b (sumℤ (λ k. price k *ℤ x k) blocks) ≤ℤ bySide b (sumℤ (λ k. price k *ℤ pos (filling b price most p k)) blocks)
   unfolding filling
-  filling-best false h x w e = L.neg-mono (cheapest-least price most p blocks asc-blocks h x w e)
-  filling-best true h x w e = dearest-most price most p blocks asc-blocks h x w e
+  filling-best false h x w e = L.neg-mono (cheapest-least price most p blocks (asc-range 0 4) h x w e)
+  filling-best true h x w e = dearest-most price most p blocks (asc-range 0 4) h x w e
 
 -- ---- startup states
 
-asc-range : (k n : ℕ) → Asc (range k n)
-unfolding range
-asc-range k zero = tt
-asc-range k (suc n) = (all-range (λ j. k < j) (suc k) n (λ j a b. omega arith), asc-range (suc k) n)
-
 asc-from-0 : (n : ℕ) → Asc (0 ∷ range 1 n)
-asc-from-0 n = (all-range (λ j. 0 < j) 1 n (λ j a b. omega arith), asc-range 1 n)
+unfolding range
+asc-from-0 n = asc-range 0 (suc n)
 
 module _ (c : Case) (p : Plan) (t i : ℕ) where
   abbrev cost : ℕ → ℤ
@@ -96,13 +89,6 @@ module _ (c : Case) (p : Plan) (t i : ℕ) where
       go false s (inl e) = rw e (L.≤-refl (cost 0))
       go false s (inr k) = absurd (s (k .2 .starts))
 
--- ---- sums over the day
-
-module _ (n m : ℕ) (f g : ℕ → ℕ → ℤ) (h : (t i : ℕ) → t < n → i < m → f t i ≤ℤ g t i) where
-  day-mono : sumℤ (λ t. sumℤ (f t) (upTo m)) (upTo n) ≤ℤ sumℤ (λ t. sumℤ (g t) (upTo m)) (upTo n)
-  day-mono = sum-mono (λ t. sumℤ (f t) (upTo m)) (λ t. sumℤ (g t) (upTo m)) (upTo n)
-      (all-upTo (λ t. sumℤ (f t) (upTo m) ≤ℤ sumℤ (g t) (upTo m)) n (λ t l. sum-mono (f t) (g t) (upTo m) (all-upTo (λ i. f t i ≤ℤ g t i) m (λ i k. h t i l k))))
-
 -- ---- the theorem
 
 module _ (c : Case) (p : Plan) where
@@ -123,7 +109,7 @@ module _ (c : Case) (p : Plan) where
       low = L.pos-nonneg (filling (consuming q i) (blockPrice c t i) (cap q t i) (power q p t i) k);
       high = L.pos-mono (filling-cap (blockPrice c t i) (cap q t i) (power q p t i) (consuming q i) k);
     };
-    filled = λ t i l m. filling-total (blockPrice c t i) (cap q t i) (power q p t i) (consuming q i) (rule19-holds q p r t i l m);
+    filled = λ t i l m. sumℕ-pos _ blocks ∙ ap pos (filling-total (consuming q i) (blockPrice c t i) (cap q t i) (power q p t i) (rule19-holds q p r t i l m));
     state = λ t i l m. our-state-allowed c p t i;
     shortfall = λ t z k l m. record { enough = L.short-meets (shortfallNeed q p t z k); notNegative = L.pos-nonneg (L.maxZero (shortfallNeed q p t z k)) };
     mismatch = λ t l. record { enough = L.≤-refl (pos (mismatchNeed q p t)); notNegative = L.pos-nonneg (mismatchNeed q p t) };
@@ -172,10 +158,10 @@ module _ (c : Case) (p : Plan) where
     unfolding surplusOf
     ours-best =
         L.sub-mono (L.sub-mono (L.sub-mono (L.sub-mono (L.sub-mono (L.sub-mono
-        (day-mono (intervals q) (devices q) _ _ blocks-best)
-        (day-mono (intervals q) (devices q) _ _ on-same))
-        (day-mono (intervals q) (devices q) _ _ changes-least))
-        (day-mono (intervals q) (devices q) _ _ reserves-same))
-        (day-mono (intervals q) (zones q) _ _ shortfalls-least))
+        (grid-mono (intervals q) (devices q) _ _ blocks-best)
+        (grid-mono (intervals q) (devices q) _ _ on-same))
+        (grid-mono (intervals q) (devices q) _ _ changes-least))
+        (grid-mono (intervals q) (devices q) _ _ reserves-same))
+        (grid-mono (intervals q) (zones q) _ _ shortfalls-least))
         (sum-mono _ _ (upTo (intervals q)) (all-upTo _ _ mismatch-least)))
         (L.mul-mono (pos (c .prices .overrun)) _ _ (L.pos-nonneg (c .prices .overrun)) (sum-mono _ _ (upTo (devices q)) (all-upTo _ _ overruns-least)))

@@ -1,14 +1,15 @@
 -- The three promises, on messages: what judging the bytes of a case and a plan gives back, for any bytes and any result buffer.
 use mathlib.Core.Path.{_≡_, refl, sym, _∙_, ap, subst}
-use mathlib.Core.List.{List, [], _∷_, _++_}
+use mathlib.Core.List.{List, _++_}
 use Prim.Native.Nat.{ℕ, zero, suc, _+_, _-_, _*_, _^_, _≤_, _<_}
 use native.Mathlib.Omega.{arith}
 use native.Mathlib.Nat.{mul-le-mul}
 use lib.ListN.{length, getD, length-append, take, drop}
 use lib.Seq.{take-at, drop-at}
 use lib.IntN.{ℤ, pos, negsuc, natAbs}
-use Rattle.numbers.specs.Sum.{All}
-use Rattle.numbers.specs.Base.{gather}
+use Rattle.numbers.specs.Sum.{All, all-map}
+use Rattle.numbers.specs.Gather.{gather-size}
+use Rattle.numbers.specs.Ranges.{sum-few}
 use Rattle.layouts.specs.declared.Fault.{Fault}
 use Rattle.model.specs.declared.Breach.{Breach}
 use Rattle.model.specs.declared.Subject.{Subject}
@@ -32,7 +33,7 @@ use Rattle.model.specs.Judgement.{Judged, judged, verdict, bufferAfter, withPla
 use Rattle.layouts.specs.Trip.{Fits, length-bits}
 use Rattle.theorems.specs.Back.{FitsDevice, FitsInterval, FitsSix, FitsWritten, Countable, completed-back}
 use Rattle.ranges.specs.Ranges.{PricesRange, SixRange, DevicePriceRange, CellPriceRange, CaseRange, Taken, StatedRange, PlanRange, stated-checked, stated-range, planned-checked, planned-range}
-use Rattle.theorems.specs.Sizes.{PriceRange, mostPrice, mostShortfallPrice, mostChange, mostBlocks, surplusLimit, fits, surplus-size, over-devices, device-at}
+use Rattle.theorems.specs.Sizes.{PriceRange, mostPrice, mostShortfallPrice, mostChange, mostBlocks, surplusLimit, fits, surplus-size, device-at}
 use Rattle.numbers.specs.Every.{all-or}
 use Rattle.theorems.specs.Theorem.{Right, right-verdict, apart}
 
@@ -92,19 +93,10 @@ pair-sized : {A B : Type 0} (l : Layout A) (m : Layout B) (P : A → Type 0) (Q 
 unfolding _then_
 pair-sized l m P Q j k u v = record { size = λ x ok. omega (arith, length-append (l .write (x .0)) (m .write (x .1)), u .size (x .0) (ok .0), v .size (x .1) (ok .1)) }
 
-gather-size : {A : Type 0} (f : A → List ℕ) (n : ℕ) (xs : List A) → All (λ x. length (f x) ≤ n) xs → length (gather f xs) ≤ length xs * n
-unfolding gather
-gather-size f n [] h = omega arith
-gather-size f n (x ∷ xs) h = omega (arith, length-append (f x) (gather f xs), h .0, gather-size f n xs (h .1))
-
-all-sizes : {A : Type 0} (l : Layout A) (P : A → Type 0) (n : ℕ) → Sized l P n → (xs : List A) → All P xs → All (λ x. length (l .write x) ≤ n) xs
-all-sizes l P n u [] h = tt
-all-sizes l P n u (x ∷ xs) h = (u .size x (h .0), all-sizes l P n u xs (h .1))
-
 -- at most m of them
 list-sized : {A : Type 0} (k m : ℕ) (l : Layout A) (P : A → Type 0) (n : ℕ) → Sized l P n → Sized (list k l) (λ xs. (length xs ≤ m) × All P xs) (m * n)
 unfolding list
-list-sized k m l P n u = record { size = λ xs ok. omega (arith, gather-size (l .write) n xs (all-sizes l P n u xs (ok .1)), mul-le-mul (ok .0) (same n)) }
+list-sized k m l P n u = record { size = λ xs ok. omega (arith, gather-size (l .write) n xs (all-map (λ a k. u .size a k) xs (ok .1)), mul-le-mul (ok .0) (same n)) }
   where
     same : (n : ℕ) → n ≤ n
     same n = omega arith
@@ -192,7 +184,7 @@ module _ (c : Case) (p : Plan) (g : CaseRange c) (rp : PlanRange (c .system) p) 
   pub our-size : (e : ℕ) → length (completionIn e (c .system) .write our) ≤ completionWidth e
   unfolding energyWindows
   our-size e = completion-sized e (countsOf (c .system)) (g .system .devices) (g .system .intervals) (g .system .zones) (energyWindows (c .system))
-      (over-devices (c .system) p (g .system) rp ok mostDevices (g .system .devices) (λ i. length (device (c .system) i .energyWindows)) mostWindows
+      (sum-few (λ i. length (device (c .system) i .energyWindows)) mostWindows (devices (c .system)) mostDevices (g .system .devices)
       (λ i m. device-at (c .system) p (g .system) rp ok i m .energies))
       .size our our-fits
 
@@ -203,11 +195,6 @@ module _ (c : Case) (p : Plan) (g : CaseRange c) (rp : PlanRange (c .system) p) 
 -- the counts of a case that a reader takes fit their fields
 taken-countable : (e : ℕ) (l : Largest) (c : Case) → e ≤ newest → Taken e l c → Countable e (countsOf (c .system))
 taken-countable e l c h g = record { edition = omega arith; devices = omega (arith, g .devices); intervals = omega (arith, g .intervals); zones = omega (arith, g .range .system .zones) }
-
--- a completion of a case's edition reads back
-pub stated-back : (l : Largest) (x : Stated) (p : Plan) (g : StatedRange l x) (rp : PlanRange (x .case .system) p) (ok : EveryRule (x .case .system) p)
-    → let w = our (x .case) p (g .case .range) rp ok in readWhole (completionIn (x .edition) (x .case .system)) (bytes (completionIn (x .edition) (x .case .system) .write w)) ≡ passes w
-stated-back l x p g rp ok = our-back (x .case) p (g .case .range) rp ok (x .edition) (taken-countable (x .edition) l (x .case) (g .edition .1) (g .case))
 
 -- ---- the promises
 

@@ -1,19 +1,19 @@
 -- The sizes of our completion: each figure fits its field, for a case and a plan within their ranges that break no rule.
-use mathlib.Core.Path.{_≡_, refl}
-use mathlib.Core.Bool.{Bool, true, false, not, _&&_, cond}
-use mathlib.Core.List.{List, [], _∷_, _++_, map}
+use mathlib.Core.Path.{refl}
+use mathlib.Core.Bool.{Bool, true, false, not, _&&_}
+use mathlib.Core.List.{List, [], map}
 use Prim.Native.Nat.{ℕ, zero, suc, _+_, _-_, _*_, _^_, _≤_, _<_, max}
 use native.Mathlib.Omega.{arith}
 use native.Mathlib.Nat.{mul-le-mul}
 use lib.Dec.{T, ltb, leb, eqb}
-use lib.ListN.{length, getD, length-map, length-append}
-use lib.IntN.{ℤ, pos, negsuc, natAbs, _+ℤ_, _-ℤ_, _*ℤ_}
-use Rattle.numbers.specs.Laws.{maxZero}
-use Rattle.numbers.specs.Sum.{All, all, sumℤ, sumℕ}
-use Rattle.numbers.specs.Bounds.{bound-sub, bound-add, bound-mul, bound-sum, abs-neg}
+use lib.ListN.{length, getD, length-map}
+use lib.IntN.{ℤ, pos, natAbs, _+ℤ_, _-ℤ_, _*ℤ_}
+use Rattle.numbers.specs.Laws.{maxZero, above-is}
+use Rattle.numbers.specs.Sum.{All, all, sumℤ}
+use Rattle.numbers.specs.Bounds.{bound-sub, bound-add, bound-mul, bound-sum, bound-few, apart-is, abs-neg}
 use Rattle.numbers.specs.State.{best, best-is}
 use Rattle.bits.specs.Pick.{pick}
-use Rattle.numbers.specs.Base.{range, upTo, gather}
+use Rattle.numbers.specs.Base.{range, upTo}
 use Rattle.model.specs.Case.{System, Plan, Case, noDevice, noCell, noZone, Minima, noMinima, noSetting, noEnergyWindow, noSix}
 use Rattle.model.specs.Forced.{intervals, devices, zones, device, cell, zone, cap, energyWindow, consuming, member, duration, midpoint, setting, u, uBefore, su, sd, psu, psd, power}
 use Rattle.model.specs.Rules.{blocks, EveryRule}
@@ -21,7 +21,9 @@ use Rattle.model.specs.Named.{rule16-holds, rule18-holds}
 use Rattle.model.specs.Completion as C
 use Rattle.model.specs.Ours.{filling, bestState, lasts, ours, whole}
 use Rattle.ranges.specs.Ranges.{SystemRange, DeviceRange, EnergyRange, CellRange, ZoneRange, MinimaRange, PlanRange, SettingRange, Eight}
-use Rattle.numbers.specs.Every.{all-at, all-or, all-getD, length-range, sum-bound, largest-bound, gate-le, bit-le, map-of-all, all-range, all-upTo}
+use Rattle.numbers.specs.Every.{all-at, all-or, all-getD, all-gather, length-range, largest-bound, gate-le, bit-le, map-of-all, all-range, all-upTo}
+use Rattle.numbers.specs.Gather.{gather-counted}
+use Rattle.numbers.specs.Ranges.{sum-few}
 use Rattle.theorems.specs.Best.{filling-cap}
 use Rattle.model.specs.Editions.{mostDevices, mostIntervals, mostZones, mostStates, mostWindows}
 use Rattle.model.specs.Judgement.{written, countsOf, energyWindows, ourSurplus}
@@ -129,28 +131,8 @@ shared m zero a b l h i = omega arith
 shared m (suc zero) a b l h i = omega arith
 shared m (suc (suc v)) a b l h i = absurd (omega arith)
 
-pub max-sub : (a b : ℕ) → maxZero (pos a -ℤ pos b) ≤ a
-max-sub a zero = omega arith
-max-sub a (suc b) = go (ltb a (suc b))
-  where
-    go : (t : Bool) → maxZero (cond t (negsuc (suc b - suc a)) (pos (a - suc b))) ≤ a
-    go true = omega arith
-    go false = omega arith
-
--- what two amounts differ by is at most the larger
-apart-most : (a b m : ℕ) → a ≤ m → b ≤ m → natAbs (pos a -ℤ pos b) ≤ m
-apart-most a zero m h k = omega arith
-apart-most a (suc b) m h k = go (ltb a (suc b))
-  where
-    go : (t : Bool) → natAbs (cond t (negsuc (suc b - suc a)) (pos (a - suc b))) ≤ m
-    go true = omega arith
-    go false = omega arith
-
 minima-get : (l : List Minima) → All MinimaRange l → (k : ℕ) → MinimaRange (getD l k noMinima)
 minima-get l h k = all-or MinimaRange noMinima (record { rru = omega arith; rrd = omega arith }) l h k
-
-times : (a b m n : ℕ) → a ≤ m → b ≤ n → a * b ≤ m * n
-times a b m n h i = mul-le-mul h i
 
 module _ (q : System) (p : Plan) (rq : SystemRange q) (rp : PlanRange q p) (ok : EveryRule q p) where
   pub device-at : (i : ℕ) → i < devices q → DeviceRange (intervals q) (device q i)
@@ -191,31 +173,24 @@ module _ (q : System) (p : Plan) (rq : SystemRange q) (rp : PlanRange q p) (ok :
 
   -- ---- at most n devices
   module _ (n : ℕ) (few : devices q ≤ n) where
-    pub over-devices : (f : ℕ → ℕ) (b : ℕ) → ((i : ℕ) → i < devices q → f i ≤ b) → sumℕ f (upTo (devices q)) ≤ n * b
-    over-devices f b h =
-        let s = sum-bound f b (upTo (devices q)) (all-upTo _ _ h) in
-        let k : length (upTo (devices q)) ≤ n = omega (arith, length-range 0 (devices q), few) in
-        let e : b ≤ b = omega arith in
-        omega (arith, s, mul-le-mul k e)
-
     pub load-bound : (t z : ℕ) → t < intervals q → C.load q p t z ≤ mostTotal n
     unfolding C.load
-    load-bound t z l = over-devices _ mostPower (λ i m. gate-le (member q z i && consuming q i) (power q p t i) mostPower (power-bound t i l m))
+    load-bound t z l = sum-few _ mostPower (devices q) n few (λ i m. gate-le (member q z i && consuming q i) (power q p t i) mostPower (power-bound t i l m))
 
     pub total-bound : (b : Bool) (t : ℕ) → t < intervals q → C.total q p b t ≤ mostTotal n
     unfolding C.total
-    total-bound true t l = over-devices _ mostPower (λ i m. gate-le (consuming q i) (power q p t i) mostPower (power-bound t i l m))
-    total-bound false t l = over-devices _ mostPower (λ i m. gate-le (not (consuming q i)) (power q p t i) mostPower (power-bound t i l m))
+    total-bound true t l = sum-few _ mostPower (devices q) n few (λ i m. gate-le (consuming q i) (power q p t i) mostPower (power-bound t i l m))
+    total-bound false t l = sum-few _ mostPower (devices q) n few (λ i m. gate-le (not (consuming q i)) (power q p t i) mostPower (power-bound t i l m))
 
     pub mismatch-bound : (t : ℕ) → t < intervals q → C.mismatchNeed q p t ≤ mostTotal n
     unfolding C.mismatchNeed
-    mismatch-bound t l = apart-most (C.total q p true t) (C.total q p false t) (mostTotal n) (total-bound true t l) (total-bound false t l)
+    mismatch-bound t l = omega (arith, apart-is (C.total q p true t) (C.total q p false t), total-bound true t l, total-bound false t l)
 
     share-bound : (share t z : ℕ) → share ≤ mostShare → t < intervals q → share * C.load q p t z ≤ mostShare * mostTotal n
-    share-bound share t z h l = times share _ mostShare (mostTotal n) h (load-bound t z l)
+    share-bound share t z h l = mul-le-mul h (load-bound t z l)
 
     unit-share : (share t z : ℕ) → share ≤ mostShare → t < intervals q → share * C.largestUnit q p t z ≤ mostShare * mostPower
-    unit-share share t z h l = times share _ mostShare mostPower h (unit-bound t z l)
+    unit-share share t z h l = mul-le-mul h (unit-bound t z l)
 
     pub required-bound : (t z : ℕ) (k : C.Shortfall) → t < intervals q → z < zones q → C.required q p t z k ≤ mostShortfall n
     unfolding C.required
@@ -228,20 +203,13 @@ module _ (q : System) (p : Plan) (rq : SystemRange q) (rp : PlanRange q p) (ok :
 
     pub shortfall-bound : (t z : ℕ) (k : C.Shortfall) → t < intervals q → z < zones q → maxZero (C.shortfallNeed q p t z k) ≤ mostShortfall n
     unfolding C.shortfallNeed
-    shortfall-bound t z k l m = omega (arith, max-sub (C.required q p t z k) (1000 * C.held q p t z k), required-bound t z k l m)
+    shortfall-bound t z k l m = omega (arith, above-is (C.required q p t z k) (1000 * C.held q p t z k), required-bound t z k l m)
 
   -- ---- at most m intervals
   module _ (m : ℕ) (short : intervals q ≤ m) where
-    over-intervals : (f : ℕ → ℕ) (b : ℕ) → ((t : ℕ) → t < intervals q → f t ≤ b) → sumℕ f (upTo (intervals q)) ≤ m * b
-    over-intervals f b h =
-        let s = sum-bound f b (upTo (intervals q)) (all-upTo _ _ h) in
-        let k : length (upTo (intervals q)) ≤ m = omega (arith, length-range 0 (intervals q), short) in
-        let e : b ≤ b = omega arith in
-        omega (arith, s, mul-le-mul k e)
-
     pub energy-bound : (i w : ℕ) → i < devices q → C.energyIn q p i w ≤ m * (mostMinutes * mostPower)
     unfolding C.energyIn
-    energy-bound i w d = over-intervals _ (mostMinutes * mostPower) (λ t l. times _ _ mostMinutes mostPower (minutes-bound _ _ t) (power-bound t i l d))
+    energy-bound i w d = sum-few _ (mostMinutes * mostPower) (intervals q) m short (λ t l. mul-le-mul (minutes-bound _ _ t) (power-bound t i l d))
 
     pub overrun-bound : (i w : ℕ) → i < devices q → maxZero (C.overrunNeed q p i w) ≤ mostOverrun m
     unfolding C.overrunNeed
@@ -252,8 +220,8 @@ module _ (q : System) (p : Plan) (rq : SystemRange q) (rp : PlanRange q p) (ok :
             (device q i .energyWindows) (device-at i d .energy) w .energy
 
         go : (b : Bool) → maxZero (pick b (pos (C.energyIn q p i w) -ℤ pos (energyWindow q i w .energy)) (pos (energyWindow q i w .energy) -ℤ pos (C.energyIn q p i w))) ≤ mostOverrun m
-        go true = omega (arith, max-sub (C.energyIn q p i w) (energyWindow q i w .energy), energy-bound i w d)
-        go false = omega (arith, max-sub (energyWindow q i w .energy) (C.energyIn q p i w), limit)
+        go true = omega (arith, above-is (C.energyIn q p i w) (energyWindow q i w .energy), energy-bound i w d)
+        go false = omega (arith, above-is (energyWindow q i w .energy) (C.energyIn q p i w), limit)
 
 -- ---- our completion fits its message
 
@@ -291,20 +259,6 @@ module _ (c : Case) (p : Plan) (rq : SystemRange (c .system)) (rp : PlanRange (c
     blocks = (block-fits t i 0 l m, (block-fits t i 1 l m, (block-fits t i 2 l m, (block-fits t i 3 l m, tt))));
   }
 
-  gather-length : (f : ℕ → ℕ → ℕ) (n : ℕ → ℕ) (ks : List ℕ) → length (gather (λ i. map (f i) (upTo (n i))) ks) ≡ sumℕ n ks
-  unfolding gather
-  gather-length f n [] = refl
-  gather-length f n (k ∷ ks) = simp (length-append, length-map) (omega (arith, length-range 0 (n k), gather-length f n ks))
-
-  gather-all : (P : ℕ → Type 0) (f : ℕ → List ℕ) (ks : List ℕ) → All (λ i. All P (f i)) ks → All P (gather f ks)
-  unfolding gather
-  gather-all P f [] h = tt
-  gather-all P f (k ∷ ks) h = join (f k) (gather f ks) (h .0) (gather-all P f ks (h .1))
-    where
-      join : (xs ys : List ℕ) → All P xs → All P ys → All P (xs ++ ys)
-      join [] ys a b = b
-      join (x ∷ xs) ys a b = (a .0, join xs ys (a .1) b)
-
   shortfall-fits : (t z : ℕ) (k : C.Shortfall) → t < intervals q → z < zones q → maxZero (C.shortfallNeed q p t z k) ≤ 2 ^ 33 - 1
   shortfall-fits t z k l m = omega (arith, shortfall-bound q p rq rp ok mostDevices (rq .devices) t z k l m)
 
@@ -330,8 +284,8 @@ module _ (c : Case) (p : Plan) (rq : SystemRange (c .system)) (rp : PlanRange (c
       }));
       mismatch = omega (arith, mismatch-bound q p rq rp ok mostDevices (rq .devices) t l);
     }));
-    count = gather-length (λ i w. maxZero (C.overrunNeed q p i w)) (λ i. length (device q i .energyWindows)) (upTo (devices q));
-    overruns = gather-all _ _ (upTo (devices q)) (all-upTo _ _ (λ i m.
+    count = gather-counted (λ i w. maxZero (C.overrunNeed q p i w)) (λ i. length (device q i .energyWindows)) (upTo (devices q));
+    overruns = all-gather _ _ (upTo (devices q)) (all-upTo _ _ (λ i m.
         map-of-all (λ x. x ≤ 2 ^ 32 - 1) (λ w. maxZero (C.overrunNeed q p i w)) (upTo (length (device q i .energyWindows)))
         (all-upTo (λ w. maxZero (C.overrunNeed q p i w) ≤ 2 ^ 32 - 1) _ (λ w k. overrun-fits i w m))));
     surplus = f;
@@ -363,13 +317,10 @@ module _ (c : Case) (p : Plan) (rq : SystemRange (c .system)) (rp : PlanRange (c
   abbrev our : C.Completion ℤ
   our = whole (ours c p)
 
-  -- over n of them, each at most b; over intervals and n others
-  line : (n m b : ℕ) (f : ℕ → ℤ) → n ≤ m → ((i : ℕ) → i < n → natAbs (f i) ≤ b) → natAbs (sumℤ f (upTo n)) ≤ m * b
-  line n m b f h g = omega (arith, bound-sum f b (upTo n) (all-upTo (λ i. natAbs (f i) ≤ b) n g), times (length (upTo n)) b m b (omega (arith, length-range 0 n)) (omega arith))
-
+  -- over intervals and n others, each at most b
   grid : (n m b : ℕ) (f : ℕ → ℕ → ℤ) → n ≤ m → ((t i : ℕ) → t < intervals sys → i < n → natAbs (f t i) ≤ b)
       → natAbs (sumℤ (λ t. sumℤ (f t) (upTo n)) (upTo (intervals sys))) ≤ mostIntervals * (m * b)
-  grid n m b f h g = line (intervals sys) mostIntervals (m * b) (λ t. sumℤ (f t) (upTo n)) (rq .intervals) (λ t l. line n m b (f t) h (λ i k. g t i l k))
+  grid n m b f h g = bound-few (λ t. sumℤ (f t) (upTo n)) (m * b) (intervals sys) mostIntervals (rq .intervals) (λ t l. bound-few (f t) b n m h (λ i k. g t i l k))
 
   abbrev d : ℕ → ℤ
   d t = pos (duration sys t)
@@ -390,7 +341,7 @@ module _ (c : Case) (p : Plan) (rq : SystemRange (c .system)) (rp : PlanRange (c
   on-cost : (t i : ℕ) → t < intervals sys → i < devices sys → natAbs (C.onCost c p our t i) ≤ mostOnCosts
   unfolding C.onCost u
   on-cost t i l m = bound-mul (d t) (pos (C.devicePrices c i .onCost * u sys p t i)) mostMinutes (mostOnCost * 1) (duration-bound sys p rq rp ok t)
-      (times (C.devicePrices c i .onCost) (u sys p t i) mostOnCost 1 (rc .on i) (setting-at sys p rq rp ok t i l m .on))
+      (mul-le-mul (rc .on i) (setting-at sys p rq rp ok t i l m .on))
 
   change-cost : (t i : ℕ) → t < intervals sys → i < devices sys → natAbs (C.changeCost c p our t i) ≤ mostChanges
   unfolding C.changeCost whole ours su sd
@@ -412,14 +363,14 @@ module _ (c : Case) (p : Plan) (rq : SystemRange (c .system)) (rp : PlanRange (c
       bound-mul (d t) (pos (C.reserveCost (C.cellPrices c t i .reserves) (setting sys p t i .reserves))) mostMinutes (reserveKinds * (mostPrice * mostPower)) (duration-bound sys p rq rp ok t)
       (omega (
         arith,
-        times _ _ mostPrice mostPower (a .rgu) (b .rgu),
-        times _ _ mostPrice mostPower (a .rgd) (b .rgd),
-        times _ _ mostPrice mostPower (a .scr) (b .scr),
-        times _ _ mostPrice mostPower (a .nsc) (b .nsc),
-        times _ _ mostPrice mostPower (a .rruOn) (b .rruOn),
-        times _ _ mostPrice mostPower (a .rruOff) (b .rruOff),
-        times _ _ mostPrice mostPower (a .rrdOn) (b .rrdOn),
-        times _ _ mostPrice mostPower (a .rrdOff) (b .rrdOff),
+        mul-le-mul (a .rgu) (b .rgu),
+        mul-le-mul (a .rgd) (b .rgd),
+        mul-le-mul (a .scr) (b .scr),
+        mul-le-mul (a .nsc) (b .nsc),
+        mul-le-mul (a .rruOn) (b .rruOn),
+        mul-le-mul (a .rruOff) (b .rruOff),
+        mul-le-mul (a .rrdOn) (b .rrdOn),
+        mul-le-mul (a .rrdOff) (b .rrdOff),
       ))
 
   shortfall-cost : (t z : ℕ) → t < intervals sys → z < zones sys → natAbs (C.shortfallCost c p our t z) ≤ mostShortfallCost mostDevices
@@ -442,7 +393,7 @@ module _ (c : Case) (p : Plan) (rq : SystemRange (c .system)) (rp : PlanRange (c
 
   overruns-sum : (i : ℕ) → i < devices sys → natAbs (C.overruns c p our i) ≤ mostWindows * mostOverrun mostIntervals
   unfolding C.overruns whole ours
-  overruns-sum i m = line (length (device sys i .energyWindows)) mostWindows (mostOverrun mostIntervals) (our .overrun i) (device-at sys p rq rp ok i m .energies)
+  overruns-sum i m = bound-few (our .overrun i) (mostOverrun mostIntervals) (length (device sys i .energyWindows)) mostWindows (device-at sys p rq rp ok i m .energies)
       (λ w k. overrun-bound sys p rq rp ok mostIntervals (rq .intervals) i w m)
 
   pub surplus-size : natAbs (ourSurplus c p) < surplusLimit
@@ -455,9 +406,9 @@ module _ (c : Case) (p : Plan) (rq : SystemRange (c .system)) (rp : PlanRange (c
         (grid (devices sys) mostDevices mostChanges (C.changeCost c p our) (rq .devices) change-cost))
         (grid (devices sys) mostDevices mostReserves (C.reservesCost c p our) (rq .devices) reserves-cost))
         (grid (zones sys) mostZones (mostShortfallCost mostDevices) (C.shortfallCost c p our) (rq .zones) shortfall-cost))
-        (line (intervals sys) mostIntervals (mostMismatchCost mostDevices) (C.mismatchCost c p our) (rq .intervals) mismatch-cost))
+        (bound-few (C.mismatchCost c p our) (mostMismatchCost mostDevices) (intervals sys) mostIntervals (rq .intervals) mismatch-cost))
         (bound-mul (pos (c .prices .overrun)) (sumℤ (C.overruns c p our) (upTo (devices sys))) mostPrice (mostDevices * (mostWindows * mostOverrun mostIntervals)) (rc .overrun)
-        (line (devices sys) mostDevices (mostWindows * mostOverrun mostIntervals) (C.overruns c p our) (rq .devices) overruns-sum)),
+        (bound-few (C.overruns c p our) (mostWindows * mostOverrun mostIntervals) (devices sys) mostDevices (rq .devices) overruns-sum)),
   )
     where
       over : (ℕ → ℕ → ℤ) → ℤ

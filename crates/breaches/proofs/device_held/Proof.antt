@@ -2,7 +2,7 @@
 use native.Mathlib.Omega.{arith}
 use mathlib.Core.Path.{sym, ap, _∙_}
 use borrow.Author.Tests.{not-false}
-use Rattle.cell_held.specs.Held.{no-way}
+use Rattle.numbers.specs.Tests.{never}
 use Rattle.breaches.specs.First.{first, none-first}
 use Rattle.breaches.specs.Parts.{place, all-fit, none-here, few-windows, own-long, windows-are}
 use borrow.Author.Needs.{needs}
@@ -58,7 +58,7 @@ held-all-requires : tie.Need-held-all-requires
 held-all-requires c κs = let a : _ = c .before .before .before .before .before .before .before .before .args in all-fit (c .before .before .before .before .before .before .before .before .pre .0) (a .i) (a .a) (c .before .before .before .before .before .before .before .before .pre .1) (c .before .before .before .before .before .before .before .before .pre .2) (c .before .before .before .before .device-at .ensures) (c .before .before .before .bounds-of .ensures)
 
 returns : tie.Need-returns
-returns c = λ e. no-way e
+returns c = λ e. never e
 
 device-windows-requires : tie.Need-device-windows-requires
 device-windows-requires c κs = let a : _ = c .before .before .before .before .before .before .before .before .before .before .args in let r : _ = c .before .before .before .before .before .before .before .before .before .before .pre .0 in (few-windows (c .before .before .before .before .before .before .before .before .before .before .pre .0) (a .i) (a .a) (c .before .before .before .before .before .before .before .before .before .before .pre .1) (c .before .before .before .before .before .before .before .before .before .before .pre .2) (c .before .before .before .before .before .before .device-at .ensures), omega (arith, r .case-rows .few-devices), omega (arith, own-long (c .before .before .before .before .before .before .before .before .before .before .pre .0) (a .i) (a .a) (c .before .before .before .before .before .before .before .before .before .before .pre .1) (c .before .before .before .before .before .before .before .before .before .before .pre .2), r .case-rows .few-intervals), omega (arith, own-long (c .before .before .before .before .before .before .before .before .before .before .pre .0) (a .i) (a .a) (c .before .before .before .before .before .before .before .before .before .before .pre .1) (c .before .before .before .before .before .before .before .before .before .before .pre .2), r .forced-rows .starts-full))
@@ -70,7 +70,7 @@ enum-told-2 : tie.Need-enum-told-2
 enum-told-2 c = search needs
 
 returns-2 : tie.Need-returns-2
-returns-2 c = λ e. no-way e
+returns-2 c = λ e. never e
 
 returns-3 : tie.Need-returns-3
 returns-3 c = λ e. let a : _ = c .before .before .before .before .before .before .before .before .before .before .before .before .before .args in record { cells = none-here (c .before .before .before .before .before .before .before .before .before .before .before .before .before .pre .0) (a .i) (a .a) (c .before .before .before .before .before .before .before .before .before .before .before .before .before .pre .1) (c .before .before .before .before .before .before .before .before .before .before .before .before .before .pre .2) (c .before .before .before .before .before .before .before .before .before .device-at .ensures) (c .before .before .before .before .before .before .before .before .bounds-of .ensures) (c .before .before .before .before .held-all .ensures (not-false _ (c .before .before .before .if1 .left))); windows = none-first _ (c .before .before .device-windows .ensures ∙ ap first (windows-are (c .before .before .before .before .before .before .before .before .before .before .before .before .before .pre .0) (a .i) (a .a) (c .before .before .before .before .before .before .before .before .before .before .before .before .before .pre .1) (c .before .before .before .before .before .before .before .before .before .before .before .before .before .pre .2) (c .before .before .before .before .before .before .before .before .before .device-at .ensures))) (c .enum-told .given .1) }

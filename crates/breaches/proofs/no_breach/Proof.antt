@@ -4,8 +4,8 @@ use native.Mathlib.Omega.{arith}
 use mathlib.Core.Path.{_≡_}
 use borrow.Author.Tests.{not-false}
 use lib.ListN.{length}
-use Rattle.cell_held.specs.Held.{no-way}
-use Rattle.records.specs.Parts.{next-part}
+use Rattle.numbers.specs.Tests.{never}
+use Rattle.numbers.specs.Parts.{next-part}
 use Rattle.records.specs.Views.{systemIn, planIn}
 use Rattle.records.specs.Viewed.{intervals-are, devices-are}
 use Rattle.breaches.specs.Parts.{place}
@@ -27,7 +27,7 @@ device-held-requires : tie.Need-device-held-requires Inv-loop μ-loop
 device-held-requires c κs = search needs
 
 returns : tie.Need-returns Inv-loop μ-loop
-returns c = λ e. no-way e
+returns c = λ e. never e
 
 add-a : tie.Need-add-a Inv-loop μ-loop
 add-a c = let a : _ = c .before .before .before .before .before .before .before .args in omega (arith, place (c .before .before .before .before .before .before .before .pre) (c .before .before .before .loop .i) (c .before .before .before .loop .a) (c .before .before .loop-test .taken) (c .before .before .before .loop .inv .1))

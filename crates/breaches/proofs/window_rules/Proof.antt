@@ -3,7 +3,7 @@ use Prim.Native.Nat.{_≤_, _-_, _*_}
 use native.Mathlib.Omega.{arith}
 use mathlib.Core.Path.{_≡_}
 use lib.ListN.{length}
-use Rattle.records.specs.Parts.{next-part}
+use Rattle.numbers.specs.Parts.{next-part}
 use Rattle.records.specs.Views.{systemIn, planIn}
 use Rattle.records.specs.Viewed.{devices-are}
 use Rattle.breaches.specs.Parts.{place}

@@ -1,7 +1,7 @@
 -- Limits, then powers, while on or off.
 use native.Mathlib.Omega.{arith}
 use borrow.Author.Tests.{not-false}
-use Rattle.cell_held.specs.Held.{no-way}
+use Rattle.numbers.specs.Tests.{never}
 use borrow.Author.Needs.{needs}
 use Rattle.cell_held.proofs.amounts_held.Statement.{statement}
 use Rattle.cell_held.proofs.amounts_held.Tie as tie
@@ -10,7 +10,7 @@ on-limits-held-requires : tie.Need-on-limits-held-requires
 on-limits-held-requires c κs = search needs
 
 returns : tie.Need-returns
-returns c = λ e. no-way e
+returns c = λ e. never e
 
 on-powers-held-requires : tie.Need-on-powers-held-requires
 on-powers-held-requires c κs = (c .before .before .before .before .pre, c .before .before .if1 .taken, c .before .on-limits-held .ensures (not-false _ (c .if2 .left)) .none)
@@ -22,7 +22,7 @@ off-limits-held-requires : tie.Need-off-limits-held-requires
 off-limits-held-requires c κs = search needs
 
 returns-3 : tie.Need-returns-3
-returns-3 c = λ e. no-way e
+returns-3 c = λ e. never e
 
 off-powers-held-requires : tie.Need-off-powers-held-requires
 off-powers-held-requires c κs = (c .before .before .before .before .pre, omega arith, c .before .off-limits-held .ensures (not-false _ (c .if3 .left)) .none)

@@ -1,6 +1,7 @@
 -- The groups in turn.
 use borrow.Author.Tests.{not-false}
-use Rattle.cell_held.specs.Held.{no-way, tests-hold}
+use Rattle.numbers.specs.Tests.{never}
+use Rattle.cell_held.specs.Held.{tests-hold}
 use borrow.Author.Needs.{needs}
 use Rattle.cell_held.proofs.held.Statement.{statement}
 use Rattle.cell_held.proofs.held.Tie as tie
@@ -9,13 +10,13 @@ state-held-requires : tie.Need-state-held-requires
 state-held-requires c κs = search needs
 
 returns : tie.Need-returns
-returns c = λ e. no-way e
+returns c = λ e. never e
 
 ramps-held-requires : tie.Need-ramps-held-requires
 ramps-held-requires c κs = search needs
 
 returns-2 : tie.Need-returns-2
-returns-2 c = λ e. no-way e
+returns-2 c = λ e. never e
 
 amounts-held-requires : tie.Need-amounts-held-requires
 amounts-held-requires c κs = search needs

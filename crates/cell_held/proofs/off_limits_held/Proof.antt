@@ -1,7 +1,8 @@
 -- Each limit in turn.
 use borrow.Author.Tests.{leb-true}
 use native.Mathlib.Omega.{arith}
-use Rattle.cell_held.specs.Held.{no-way, passed, passed-last, off-limits}
+use Rattle.numbers.specs.Tests.{never}
+use Rattle.cell_held.specs.Held.{passed, passed-last, off-limits}
 use borrow.Author.Needs.{needs}
 use Rattle.cell_held.proofs.off_limits_held.Statement.{statement}
 use Rattle.cell_held.proofs.off_limits_held.Tie as tie
@@ -28,19 +29,19 @@ add-if1-3 : tie.Need-add-if1-3
 add-if1-3 c = search needs
 
 returns : tie.Need-returns
-returns c = λ e. no-way e
+returns c = λ e. never e
 
 at-most-requires : tie.Need-at-most-requires
 at-most-requires c κs = search needs
 
 returns-2 : tie.Need-returns-2
-returns-2 c = λ e. no-way e
+returns-2 c = λ e. never e
 
 at-most-requires-2 : tie.Need-at-most-requires-2
 at-most-requires-2 c κs = search needs
 
 returns-3 : tie.Need-returns-3
-returns-3 c = λ e. no-way e
+returns-3 c = λ e. never e
 
 at-most-requires-3 : tie.Need-at-most-requires-3
 at-most-requires-3 c κs = search needs

@@ -1,6 +1,7 @@
 -- No online power, the roof, room.
 use native.Mathlib.Omega.{arith}
-use Rattle.cell_held.specs.Held.{no-way, passed-last, off-powers}
+use Rattle.numbers.specs.Tests.{never}
+use Rattle.cell_held.specs.Held.{passed-last, off-powers}
 use borrow.Author.Needs.{needs}
 use Rattle.cell_held.proofs.off_powers_held.Statement.{statement}
 use Rattle.cell_held.proofs.off_powers_held.Tie as tie
@@ -15,10 +16,10 @@ add-roof : tie.Need-add-roof
 add-roof c = search needs
 
 returns : tie.Need-returns
-returns c = λ e. no-way e
+returns c = λ e. never e
 
 returns-2 : tie.Need-returns-2
-returns-2 c = λ e. no-way e
+returns-2 c = λ e. never e
 
 room-kept-requires : tie.Need-room-kept-requires
 room-kept-requires c κs = search needs

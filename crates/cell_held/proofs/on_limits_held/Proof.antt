@@ -1,7 +1,8 @@
 -- Each limit in turn.
 use borrow.Author.Tests.{leb-true}
 use native.Mathlib.Omega.{arith}
-use Rattle.cell_held.specs.Held.{no-way, passed, passed-last, on-limits}
+use Rattle.numbers.specs.Tests.{never}
+use Rattle.cell_held.specs.Held.{passed, passed-last, on-limits}
 use borrow.Author.Needs.{needs}
 use Rattle.cell_held.proofs.on_limits_held.Statement.{statement}
 use Rattle.cell_held.proofs.on_limits_held.Tie as tie
@@ -22,31 +23,31 @@ add-if1-2 : tie.Need-add-if1-2
 add-if1-2 c = search needs
 
 returns : tie.Need-returns
-returns c = λ e. no-way e
+returns c = λ e. never e
 
 at-most-requires : tie.Need-at-most-requires
 at-most-requires c κs = search needs
 
 returns-2 : tie.Need-returns-2
-returns-2 c = λ e. no-way e
+returns-2 c = λ e. never e
 
 at-most-requires-2 : tie.Need-at-most-requires-2
 at-most-requires-2 c κs = search needs
 
 returns-3 : tie.Need-returns-3
-returns-3 c = λ e. no-way e
+returns-3 c = λ e. never e
 
 at-most-requires-3 : tie.Need-at-most-requires-3
 at-most-requires-3 c κs = search needs
 
 returns-4 : tie.Need-returns-4
-returns-4 c = λ e. no-way e
+returns-4 c = λ e. never e
 
 at-most-requires-4 : tie.Need-at-most-requires-4
 at-most-requires-4 c κs = search needs
 
 returns-5 : tie.Need-returns-5
-returns-5 c = λ e. no-way e
+returns-5 c = λ e. never e
 
 at-most-requires-5 : tie.Need-at-most-requires-5
 at-most-requires-5 c κs = search needs

@@ -1,6 +1,7 @@
 -- Roof, floor, no forced power, room.
 use native.Mathlib.Omega.{arith}
-use Rattle.cell_held.specs.Held.{no-way, passed-last, on-powers}
+use Rattle.numbers.specs.Tests.{never}
+use Rattle.cell_held.specs.Held.{passed-last, on-powers}
 use borrow.Author.Needs.{needs}
 use Rattle.cell_held.proofs.on_powers_held.Statement.{statement}
 use Rattle.cell_held.proofs.on_powers_held.Tie as tie
@@ -27,13 +28,13 @@ add-floor : tie.Need-add-floor
 add-floor c = search needs
 
 returns : tie.Need-returns
-returns c = λ e. no-way e
+returns c = λ e. never e
 
 returns-2 : tie.Need-returns-2
-returns-2 c = λ e. no-way e
+returns-2 c = λ e. never e
 
 returns-3 : tie.Need-returns-3
-returns-3 c = λ e. no-way e
+returns-3 c = λ e. never e
 
 room-kept-requires : tie.Need-room-kept-requires
 room-kept-requires c κs = let z : _ = c .before .before .before .before .before .before .before .before .before .before .before .before .before .before .before .before .before .before .pre .0 in (z .cap0, z .cap1, z .cap2, z .cap3)

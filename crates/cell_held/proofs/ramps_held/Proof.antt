@@ -1,7 +1,8 @@
 -- Rules 5 and 6 in turn.
 use Rattle.cell_rules.specs.Word.{no-test, test-holds}
 use Rattle.cell_rules.specs.Tests.{rampTests}
-use Rattle.cell_held.specs.Held.{no-way, passed, passed-last}
+use Rattle.numbers.specs.Tests.{never}
+use Rattle.cell_held.specs.Held.{passed, passed-last}
 use borrow.Author.Needs.{needs}
 use Rattle.cell_held.proofs.ramps_held.Statement.{statement}
 use Rattle.cell_held.proofs.ramps_held.Tie as tie
@@ -10,7 +11,7 @@ rise-kept-requires : tie.Need-rise-kept-requires
 rise-kept-requires c κs = search needs
 
 returns : tie.Need-returns
-returns c = λ e. no-way e
+returns c = λ e. never e
 
 fall-kept-requires : tie.Need-fall-kept-requires
 fall-kept-requires c κs = search needs

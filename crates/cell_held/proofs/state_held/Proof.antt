@@ -2,7 +2,8 @@
 use mathlib.Core.Path.{refl}
 use Rattle.cell_rules.specs.Word.{no-test, test-holds}
 use Rattle.cell_rules.specs.Tests.{stateTests}
-use Rattle.cell_held.specs.Held.{no-way, passed}
+use Rattle.numbers.specs.Tests.{never}
+use Rattle.cell_held.specs.Held.{passed}
 use borrow.Author.Needs.{needs}
 use Rattle.cell_held.proofs.state_held.Statement.{statement}
 use Rattle.cell_held.proofs.state_held.Tie as tie
@@ -11,16 +12,16 @@ status-kept-requires : tie.Need-status-kept-requires
 status-kept-requires c κs = search needs
 
 returns : tie.Need-returns
-returns c = λ e. no-way e
+returns c = λ e. never e
 
 initial-kept-requires : tie.Need-initial-kept-requires
 initial-kept-requires c κs = search needs
 
 returns-2 : tie.Need-returns-2
-returns-2 c = λ e. no-way e
+returns-2 c = λ e. never e
 
 returns-3 : tie.Need-returns-3
-returns-3 c = λ e. no-way e
+returns-3 c = λ e. never e
 
 returns-4 : tie.Need-returns-4
 unfolding stateTests

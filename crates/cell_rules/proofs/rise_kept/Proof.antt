@@ -1,27 +1,28 @@
 -- In each case of u and su.
 use native.Mathlib.Omega.{arith}
+use native.Mathlib.Nat.{mul-le-mul}
 use mathlib.Core.Path.{_≡_}
-use Rattle.cell_rules.specs.Sign.{rise-off, rise-on, rise-start, product}
+use Rattle.cell_rules.specs.Sign.{rise-off, rise-on, rise-start}
 use Rattle.cell_rules.proofs.rise_kept.Statement.{statement}
 use Rattle.cell_rules.proofs.rise_kept.Tie as tie
 
 mul-result : tie.Need-mul-result
-mul-result c = omega (arith, product (c .before .pre .1) (c .before .pre .3))
+mul-result c = omega (arith, mul-le-mul (c .before .pre .1) (c .before .pre .3))
 
 add-result : tie.Need-add-result
-add-result c = omega (arith, product (c .before .before .pre .1) (c .before .before .pre .3))
+add-result c = omega (arith, mul-le-mul (c .before .before .pre .1) (c .before .before .pre .3))
 
 mul-result-2 : tie.Need-mul-result-2
-mul-result-2 c = omega (arith, product (c .before .before .pre .1) (c .before .before .pre .2))
+mul-result-2 c = omega (arith, mul-le-mul (c .before .before .pre .1) (c .before .before .pre .2))
 
 add-result-2 : tie.Need-add-result-2
-add-result-2 c = omega (arith, product (c .before .before .before .pre .1) (c .before .before .before .pre .2))
+add-result-2 c = omega (arith, mul-le-mul (c .before .before .before .pre .1) (c .before .before .before .pre .2))
 
 mul-result-3 : tie.Need-mul-result-3
-mul-result-3 c = omega (arith, product (c .before .before .pre .1) (c .before .before .pre .3))
+mul-result-3 c = omega (arith, mul-le-mul (c .before .before .pre .1) (c .before .before .pre .3))
 
 add-result-3 : tie.Need-add-result-3
-add-result-3 c = omega (arith, product (c .before .before .before .pre .1) (c .before .before .before .pre .3))
+add-result-3 c = omega (arith, mul-le-mul (c .before .before .before .pre .1) (c .before .before .before .pre .3))
 
 returns : tie.Need-returns
 returns c = let a : _ = c .before .before .before .args in let e : a .started ≡ 0 = omega arith in rise-off (a .power .0) (a .previous .0) (a .minutes) (a .up) (a .starting) (c .before .before .if1 .taken) e

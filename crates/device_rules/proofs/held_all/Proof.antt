@@ -4,7 +4,7 @@ use native.Mathlib.Omega.{arith}
 use mathlib.Core.Path.{_≡_}
 use borrow.Author.Tests.{not-false}
 use lib.ListN.{length}
-use Rattle.cell_held.specs.Held.{no-way}
+use Rattle.numbers.specs.Tests.{never}
 use Rattle.device_rules.specs.Whole.{HeldTo, held-none, held-next}
 use borrow.Author.Needs.{needs}
 use Rattle.device_rules.proofs.held_all.Statement.{statement}
@@ -23,7 +23,7 @@ held-at-requires : tie.Need-held-at-requires Inv-loop μ-loop
 held-at-requires c κs = c .before .before .before .before .before .pre .at (c .before .loop .t) (c .loop-test .taken)
 
 returns : tie.Need-returns Inv-loop μ-loop
-returns c = λ e. no-way e
+returns c = λ e. never e
 
 add-t : tie.Need-add-t Inv-loop μ-loop
 add-t c = search needs

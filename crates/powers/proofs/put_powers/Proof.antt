@@ -3,7 +3,7 @@ use Prim.Native.Nat.{_≤_, _-_, _*_}
 use mathlib.Core.Path.{_≡_}
 use native.Mathlib.Omega.{arith}
 use lib.ListN.{length, length-take, length-drop}
-use Rattle.records.specs.Parts.{next-part}
+use Rattle.numbers.specs.Parts.{next-part}
 use Rattle.records.specs.Ranged.{room}
 use Rattle.powers.specs.Fleet.{ForcedTo, forced-none, rampable-at, settled-at, cells-at, clock-at, forced-step, forced-all}
 use borrow.Author.Needs.{needs}

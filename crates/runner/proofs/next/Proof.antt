@@ -9,7 +9,8 @@ use lib.ListN.{length, length-take}
 use lib.Seq.{length-take-le}
 use Rattle.answers.specs.Frames.{framed}
 use Rattle.answers.specs.Answers.{moreOf}
-use Rattle.answers.specs.Steps.{never, more-bytes}
+use Rattle.numbers.specs.Tests.{never}
+use Rattle.answers.specs.Steps.{more-bytes}
 use borrow.Author.Needs.{needs}
 use Rattle.runner.proofs.next.Statement.{statement}
 use Rattle.runner.proofs.next.Tie as tie

@@ -3,7 +3,7 @@ use Prim.Native.Nat.{_≤_, _-_, _+_, _*_}
 use mathlib.Core.Path.{_≡_, refl}
 use native.Mathlib.Omega.{arith}
 use lib.ListN.{length}
-use Rattle.records.specs.Parts.{next-part}
+use Rattle.numbers.specs.Parts.{next-part}
 use Rattle.slacks.specs.Sides.{place, SidesSo, sides-start, sides-next, sides-end}
 use borrow.Author.Needs.{needs}
 use Rattle.slacks.proofs.mismatch.Statement.{statement}

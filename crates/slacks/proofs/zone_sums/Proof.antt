@@ -3,7 +3,7 @@ use Prim.Native.Nat.{_≤_, _-_, _+_, _*_}
 use mathlib.Core.Path.{_≡_}
 use native.Mathlib.Omega.{arith}
 use lib.ListN.{length}
-use Rattle.records.specs.Parts.{next-part}
+use Rattle.numbers.specs.Parts.{next-part}
 use Rattle.slacks.specs.Sides.{place}
 use Rattle.slacks.specs.Sums.{SumsSo, sums-start, sums-next, sums-end, sums-mono, stood}
 use borrow.Author.Needs.{needs}
