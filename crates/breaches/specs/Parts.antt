@@ -17,7 +17,7 @@ use Rattle.model.specs.Breaches.{failing, cellTests, cellBreaches, oneWindow, w
 use Rattle.model.specs.declared.Breach.{Breach}
 use Rattle.records.specs.Figures.{deviceOf}
 use Rattle.numbers.specs.Parts.{part, part-cut, part-inside, part-long}
-use Rattle.records.specs.Views.{systemIn, planIn, mostDevices, mostIntervals, Ready}
+use Rattle.records.specs.Views.{systemIn, planIn, mostWindows, mostDevices, mostIntervals, Ready}
 use Rattle.records.specs.Viewed as W
 use Rattle.records.specs.Figures.{noStart}
 use Rattle.records.specs.declared.Device.{Device}
@@ -135,5 +135,5 @@ module _ {front : Front} {halves : List ℕ} {zones minima devices cells setting
   pub own-long : length ownSettings ≡ length halves
   own-long = rw (part-cut m i a settings e) (part-long m i (length devices) settings l (ready .plan-rows .full))
 
-  pub few-windows : {d : Device} → d ≡ deviceOf (getD devices i []) → d .nstarts ≤ 4
+  pub few-windows : {d : Device} → d ≡ deviceOf (getD devices i []) → d .nstarts ≤ mostWindows
   few-windows is = rw is (ready .case-rows .counted i l .few-starts)

@@ -5,7 +5,7 @@ ghost use mathlib.Core.List.{[]};
 ghost use Prim.Native.Nat.{_*_, _≤_, _<_};
 ghost use lib.ListN.{length};
 ghost use Rattle.model.specs.Breaches.{cellBreaches, windowBreaches, breaches};
-ghost use Rattle.records.specs.Views.{systemIn, planIn, mostDevices, mostIntervals, Ready};
+ghost use Rattle.records.specs.Views.{systemIn, planIn, mostWindows, mostDevices, mostIntervals, Ready};
 ghost use Rattle.cell_rules.specs.Word.{numbersIn};
 ghost use Rattle.breaches.specs.First.{first, breachAt};
 ghost use Rattle.breaches.specs.Bits.{firstOf};
@@ -178,7 +178,7 @@ fn day_rules(
 }
 
 fn window_broken(i: usize, w: usize) -> Check
-    requires { ⌜ (i < mostDevices) × (w < 4) ⌝ }
+    requires { ⌜ (i < mostDevices) × (w < mostWindows) ⌝ }
     ensures { λ r. ⌜ r ≡ Check.Broken (windowAt i w) ⌝ }
 {
     let device = i as u64 + 1;
@@ -193,7 +193,7 @@ fn window_broken(i: usize, w: usize) -> Check
 
 // Rule 20 of a device's windows, from its part of the settings.
 fn device_windows(d: Device, settings: &[SettingRow], starts: &[u32], i: usize) -> Check
-    requires { ⌜ (d .nstarts ≤ 4) × (i < mostDevices) × (length (now settings) ≤ mostIntervals) × (length (now settings) ≤ length (now starts)) ⌝ }
+    requires { ⌜ (d .nstarts ≤ mostWindows) × (i < mostDevices) × (length (now settings) ≤ mostIntervals) × (length (now settings) ≤ length (now starts)) ⌝ }
     ensures { λ r. ⌜ r ≡ first (windowsHere d (now (settings .entry)) (now (starts .entry)) i) ⌝ }
 {
     let all = all_starts(d.on0, settings);

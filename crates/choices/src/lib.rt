@@ -20,6 +20,7 @@ ghost use Rattle.records.specs.Figures.{deviceAt};
 ghost use Rattle.choices.specs.Cells.{CellOf};
 ghost use Rattle.choices.specs.States.{chosen, stateOf};
 ghost use Rattle.choices.specs.Rests.{initial, offSince, Looks};
+ghost use Rattle.records.specs.Views.{mostStates};
 ghost use Rattle.choices.specs.Choices.{ChoiceOf};
 
 // The cost of no state, kept from 0.
@@ -48,7 +49,7 @@ fn with_state(b: Chosen, s: State, n: u32, downtime: u32) -> Chosen
 
 // The lowest-numbered cheapest state that lasts the downtime, and none unless it costs below 0.
 fn best_state(devices: &[DeviceRow], i: usize, downtime: u32) -> u32
-    requires { ⌜ (i < length (now devices)) × (deviceAt (now devices) i .nstates ≤ 4) ⌝ }
+    requires { ⌜ (i < length (now devices)) × (deviceAt (now devices) i .nstates ≤ mostStates) ⌝ }
     ensures { λ r. ⌜ r ≡ stateOf (deviceAt (now (devices .entry)) i) downtime ⌝ }
 {
     let n = states_at(devices, i);
@@ -116,7 +117,7 @@ fn state_at(
     t: usize,
     started: u32,
 ) -> u32
-    requires { ⌜ (i < length (now devices)) × (deviceAt (now devices) i .nstates ≤ 4) × Looks (deviceAt (now devices) i) (now settings) (now starts) t ⌝ }
+    requires { ⌜ (i < length (now devices)) × (deviceAt (now devices) i .nstates ≤ mostStates) × Looks (deviceAt (now devices) i) (now settings) (now starts) t ⌝ }
     ensures { λ r. ⌜ r ≡ pick (eqb started 1) (stateOf (deviceAt (now (devices .entry)) i) (offSince (deviceAt (now (devices .entry)) i) (now (settings .entry)) (now (starts .entry)) t t)) 0 ⌝ }
 {
     if started == 1 {

@@ -16,6 +16,7 @@ ghost use Rattle.layouts.specs.Layout.{noted};
 ghost use Rattle.fields.specs.Got.{got, told};
 ghost use Rattle.field_rows.specs.Each.{row, narrow};
 ghost use Rattle.device_reader.specs.Parts.{sides, firsts, figures, figuresIn, MoneyMade, limitsFrom, DeviceMade};
+ghost use Rattle.model.specs.Editions.{mostZones};
 ghost use Rattle.device_reader.specs.Heads.{HeadDone};
 
 // "A 17-bit power is 0..100,000"
@@ -52,7 +53,7 @@ fn no_sides(went: Went) -> SidesRead
 
 // The place p behind the zone bits, which start at bit b: "zone bit above the zone count" is noted there.
 fn zones_checked(bits: u32, zones: u32, p: Place, b: u64) -> Place
-    requires { ⌜ zones ≤ 4 ⌝ }
+    requires { ⌜ zones ≤ mostZones ⌝ }
     ensures { λ r. ⌜ r ≡ noted (eqb (bits % 2 ^ (4 - zones)) 0) b p ⌝ }
 {
     if bits % (1 << (4 - zones)) == 0 {
@@ -63,7 +64,7 @@ fn zones_checked(bits: u32, zones: u32, p: Place, b: u64) -> Place
 
 // "side 1 (0 producing, 1 consuming); zone bits 4, zone 1 first"
 fn read_sides(s: &[u8], p: Place, zones: u32) -> SidesRead
-    requires { ⌜ zones ≤ 4 ⌝ }
+    requires { ⌜ zones ≤ mostZones ⌝ }
     ensures { λ r. ⌜ told (r .went) (r .side, r .zonebits) ≡ got (sides zones) (now (s .entry)) p ⌝ }
 {
     let first = fields::read_figure(s, p, 1, 0, 1);
@@ -290,7 +291,7 @@ fn stopped(went: Went) -> HeadRead
 
 // What stands ahead of a device's intervals; zones is the case's count, last its last E.
 pub fn read_head(s: &[u8], p: Place, edition: u32, zones: u32, last: u32) -> HeadRead
-    requires { ⌜ zones ≤ 4 ⌝ }
+    requires { ⌜ zones ≤ mostZones ⌝ }
     ensures { λ r. ⌜ HeadDone edition (now (s .entry)) p zones last (r .went) (r .device) ⌝ }
 {
     let sides = read_sides(s, p, zones);

@@ -29,7 +29,7 @@ use Rattle.records.specs.declared.Device.{Device}
 use Rattle.records.specs.declared.Setting.{Setting}
 use Rattle.records.specs.Figures.{settingOf}
 use Rattle.numbers.specs.Parts.{part}
-use Rattle.records.specs.Views.{less, priceOffset, numberOf, cellPricesIn, settingIn}
+use Rattle.records.specs.Views.{mostStates, less, priceOffset, numberOf, cellPricesIn, settingIn}
 use Rattle.records.specs.Viewed as Viewed
 use Rattle.records.specs.Ranged as Ranged
 use Rattle.choices.specs.declared.Choice.{Choice}
@@ -176,7 +176,7 @@ module _ {d : Device} {cell : Cell} {setting : Setting} {p minutes : ℕ} {x : C
           (all-range (λ k. T (lasts q plan (w .t) i k) → k ≤ d .nstates) 1 _ (λ k a b h. omega (arith, states-are (w .place))))
       go false = omega arith
 
-  pub state-small : (x .state ≤ 4) × StateBelow d (x .state)
+  pub state-small : (x .state ≤ mostStates) × StateBelow d (x .state)
   unfolding ours
   state-small =
       let e = w .choice .state (w .place) in

@@ -32,6 +32,7 @@ ghost use Rattle.money.specs.Worth.{Amounts, Priced, FourPriced, valueOf
 ghost use Rattle.money.specs.Costs.{CostsBelow, StateBelow, changesOf, AmountsBelow, PricesBelow, firstFour, lastFour, eightCost};
 ghost use Rattle.money.specs.Ruled.{Ruled};
 ghost use Rattle.money.specs.Terms.{CellEntered};
+ghost use Rattle.records.specs.Views.{mostStates};
 ghost use Rattle.money.specs.Charges.{SixSmall, sixCost, ZoneOf, ZoneEntered, IntervalOf, MismatchEntered, OverrunOf, OverrunEntered};
 
 // Block prices are kept from 0, the price and this.
@@ -104,7 +105,7 @@ fn money_of(x: u32) -> Grains
 
 // A startup state's cost, which is kept from 0.
 fn state_money(l: Ledger, devices: &[DeviceRow], i: usize, state: u32) -> Ledger
-    requires { ⌜ (i < length (now devices)) × Room cellMost l × (state ≤ 4) × StateBelow (deviceAt (now devices) i) state ⌝ }
+    requires { ⌜ (i < length (now devices)) × Room cellMost l × (state ≤ mostStates) × StateBelow (deviceAt (now devices) i) state ⌝ }
     ensures { λ r. ⌜ Entered l r (negℤ (costOf (deviceAt (now (devices .entry)) i) state)) stateMost ⌝ }
 {
     if state == 0 {
@@ -125,7 +126,7 @@ fn change_money(
     state: u32,
 ) -> Ledger
     requires { ⌜ (i < length (now devices)) × Room (reservesMost + tradeMost + onMost) l × CostsBelow (deviceAt (now devices) i) × (started ≤ 1) × (stopped ≤ 1) ×
-        (state ≤ 4) × StateBelow (deviceAt (now devices) i) state ⌝ }
+        (state ≤ mostStates) × StateBelow (deviceAt (now devices) i) state ⌝ }
     ensures { λ r. ⌜ Entered l r (changesOf (deviceAt (now (devices .entry)) i) started stopped state) changeMost ⌝ }
 {
     let start = due(startcost_at(devices, i), started);

@@ -134,28 +134,36 @@ pub fn judge_plan(
     }
 }
 
-// The largest counts that this owner's tables hold.
-const DEVICES: u32 = 16;
+// The largest counts that the tables of this owner hold, and the rows that they need.
+pub const DEVICES: usize = 16;
 
-const INTERVALS: u32 = 48;
+pub const INTERVALS: usize = 48;
+
+pub const ZONES: usize = 4;
+
+pub const CELLS: usize = DEVICES * INTERVALS;
+
+pub const MINIMA: usize = ZONES * INTERVALS;
+
+pub const TIMES: usize = INTERVALS + 1;
 
 // A plan's bytes against a case's bytes.
 pub fn judge(case: &[u8], plan: &[u8], result: &mut [u8]) -> Verdict
     ensures { λ r. ⌜ Judges batch (now (case .entry)) (now (plan .entry)) (now (result .entry)) (now (result .exit)) r ⌝ }
 {
-    let mut halves = [0u32; 48];
+    let mut halves = [0u32; INTERVALS];
     let zone = records::blank_zone();
-    let mut zones = [zone; 4];
+    let mut zones = [zone; ZONES];
     let least = records::blank_minima();
-    let mut minima = [least; 192];
+    let mut minima = [least; MINIMA];
     let device = records::blank_device();
-    let mut devices = [device; 16];
+    let mut devices = [device; DEVICES];
     let cell = records::blank_cell();
-    let mut cells = [cell; 768];
+    let mut cells = [cell; CELLS];
     let read = case_reader::read_case(
         case,
-        DEVICES,
-        INTERVALS,
+        DEVICES as u32,
+        INTERVALS as u32,
         &mut halves,
         &mut zones,
         &mut minima,
@@ -172,9 +180,9 @@ pub fn judge(case: &[u8], plan: &[u8], result: &mut [u8]) -> Verdict
         Ending::Fails(f) => Verdict::Refused(Subject::Case, f),
         Ending::Passes => {
             let setting = records::blank_setting();
-            let mut settings = [setting; 768];
-            let mut starts = [0u32; 49];
-            let mut powers = [0u32; 768];
+            let mut settings = [setting; CELLS];
+            let mut starts = [0u32; TIMES];
+            let mut powers = [0u32; CELLS];
             let k = n * m;
             let j = z * m;
             let e = m + 1;
@@ -205,19 +213,19 @@ pub enum Inspected {
 pub fn inspect(case: &[u8]) -> Inspected
     ensures { λ r. ⌜ r ≡ inspectedOf (statedIn batch (now (case .entry))) ⌝ }
 {
-    let mut halves = [0u32; 48];
+    let mut halves = [0u32; INTERVALS];
     let zone = records::blank_zone();
-    let mut zones = [zone; 4];
+    let mut zones = [zone; ZONES];
     let least = records::blank_minima();
-    let mut minima = [least; 192];
+    let mut minima = [least; MINIMA];
     let device = records::blank_device();
-    let mut devices = [device; 16];
+    let mut devices = [device; DEVICES];
     let cell = records::blank_cell();
-    let mut cells = [cell; 768];
+    let mut cells = [cell; CELLS];
     let read = case_reader::read_case(
         case,
-        DEVICES,
-        INTERVALS,
+        DEVICES as u32,
+        INTERVALS as u32,
         &mut halves,
         &mut zones,
         &mut minima,

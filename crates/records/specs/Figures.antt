@@ -8,6 +8,7 @@ use lib.Dec.{eqb, ltb}
 use lib.ListN.{getD}
 use Rattle.bits.specs.Pick.{pick}
 use Rattle.numbers.specs.Base.{bit}
+use Rattle.model.specs.Editions.{mostStates, mostWindows}
 use Rattle.units.specs.declared.Kw.{Kw}
 use Rattle.units.specs.declared.Grains.{Grains}
 use Rattle.units.specs.Units.{kw, kwMin, grains}
@@ -177,7 +178,7 @@ energyFigures l =
 
 -- figures of 64 bits that stand in a row
 pub record EnergiesSmall (l : List EnergyWindow) : Type 0 where
-  pub energy : (k : ℕ) → k < 4 → getD l k noEnergy .energy .0 < 2 ^ 32
+  pub energy : (k : ℕ) → k < mostWindows → getD l k noEnergy .energy .0 < 2 ^ 32
 
 pub record DeviceSmall (d : Device) : Type 0 where
   pub startcost : d .startcost .0 < 2 ^ 32
@@ -263,14 +264,14 @@ energiesAt devices i = deviceAt devices i .nenergies
 abbrev pub energyAt : List (List ℕ) → ℕ → ℕ → EnergyWindow
 energyAt devices i k = getD (deviceAt devices i .energies) k noEnergy
 
-pub state-of : (r : List ℕ) (k : ℕ) → k < 4 → stateOf r k ≡ getD (statesOf r) k noState
+pub state-of : (r : List ℕ) (k : ℕ) → k < mostStates → stateOf r k ≡ getD (statesOf r) k noState
 state-of r zero h = refl
 state-of r (suc zero) h = refl
 state-of r (suc (suc zero)) h = refl
 state-of r (suc (suc (suc zero))) h = refl
 state-of r (suc (suc (suc (suc k)))) h = absurd (omega arith)
 
-pub energy-of : (r : List ℕ) (k : ℕ) → k < 4 → energyOf r k ≡ getD (energiesOf r) k noEnergy
+pub energy-of : (r : List ℕ) (k : ℕ) → k < mostWindows → energyOf r k ≡ getD (energiesOf r) k noEnergy
 energy-of r zero h = refl
 energy-of r (suc zero) h = refl
 energy-of r (suc (suc zero)) h = refl

@@ -29,7 +29,7 @@ use Rattle.records.specs.Figures.{noState, cellOf, settingOf, deviceOf, 
 use Rattle.numbers.specs.Parts.{part, part-inside, place-inside, part-at, part-long}
 use Rattle.numbers.specs.Ranges.{sum-more, sum-rises}
 use Rattle.records.specs.Views.{less, priceOffset, costOffset, limitsIn, cellIn, cellPricesIn, settingIn, sharesIn, sixIn, deviceIn, devicePricesIn, systemIn, pricesIn, caseIn, planIn}
-use Rattle.records.specs.Views.{mostPower, Padded, CaseRows, PlanRows, Ready}
+use Rattle.records.specs.Views.{mostDevices, mostIntervals, mostStates, mostWindows, mostPower, Padded, CaseRows, PlanRows, Ready}
 use Rattle.records.specs.Viewed as W
 use Rattle.records.specs.Viewed.{getD-any}
 
@@ -57,9 +57,9 @@ pub record DeviceSized (d : Device) : Type 0 where
   pub oncost : d .oncost ≤ 100000
   pub startcost : d .startcost .0 ≤ 1000000000
   pub stopcost : d .stopcost .0 ≤ 1000000000
-  pub few-states : d .nstates ≤ 4
-  pub few-starts : d .nstarts ≤ 4
-  pub few-energies : d .nenergies ≤ 4
+  pub few-states : d .nstates ≤ mostStates
+  pub few-starts : d .nstarts ≤ mostWindows
+  pub few-energies : d .nenergies ≤ mostWindows
   pub cost : (k : ℕ) → k < d .nstates → getD (d .states) k noState .cost ≤ 2000000000
 
 module _ {front : Front} {halves : List ℕ} {zones minima devices cells : List (List ℕ)} (known : CaseRows front halves zones minima devices cells) where
@@ -127,7 +127,7 @@ module _ {front : Front} {halves : List ℕ} {zones minima devices cells : List 
         f : State → ℤ
         f s = less costOffset (s .cost)
 
-        cost : All (λ z. natAbs z ≤ 1000000000) (map f (take (d i .nstates) (d i .states))) → d i .nstates ≤ 4 → (j : ℕ) → j < d i .nstates
+        cost : All (λ z. natAbs z ≤ 1000000000) (map f (take (d i .nstates) (d i .states))) → d i .nstates ≤ mostStates → (j : ℕ) → j < d i .nstates
             → natAbs (f (getD (d i .states) j noState)) ≤ 1000000000
         cost h few j b = rw (W.first-at f noState (d i .nstates) (d i .states) j b) at
             (all-at (λ z. natAbs z ≤ 1000000000) (f noState) (map f (take (d i .nstates) (d i .states))) h j (omega (arith, W.firsts-long f noState (d i .nstates) (d i .states) few)))
@@ -209,7 +209,7 @@ setting-range {n} {m} {settings} chosen i t l h = rw (part-at [] m i settings t 
 pub record Room (a m : ℕ) (cells settings : List (List ℕ)) : Type 0 where
   pub in-cells : a + m ≤ length cells
   pub in-settings : a + m ≤ length settings
-  pub small : a + m ≤ 6144
+  pub small : a + m ≤ mostDevices * mostIntervals
 
 module _ {front : Front} {halves : List ℕ} {zones minima devices cells settings : List (List ℕ)}
     (known : CaseRows front halves zones minima devices cells) (chosen : PlanRows (length devices) (length halves) settings) where

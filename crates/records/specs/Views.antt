@@ -23,6 +23,7 @@ use Rattle.numbers.specs.Parts.{part}
 -- ---- the model's figures, by the records' names
 
 pub use Rattle.ranges.specs.Kept.{less}
+pub use Rattle.model.specs.Editions.{mostDevices, mostIntervals, mostZones, mostStates, mostWindows}
 
 -- the offsets of figures kept from 0
 abbrev pub priceOffset : ℕ
@@ -126,13 +127,6 @@ planIn n m settings = record { settings = rows (λ t. rows (λ i. settingIn (get
 
 -- ---- what the code may rely on
 
--- the largest counts that any owner of tables has
-abbrev pub mostDevices : ℕ
-mostDevices = 64
-
-abbrev pub mostIntervals : ℕ
-mostIntervals = 96
-
 -- the longest day: 96 intervals of 360 minutes
 abbrev pub lastMinute : ℕ
 lastMinute = 34560
@@ -146,17 +140,17 @@ pub record Padded (r : List ℕ) : Type 0 where
   pub few : cellOf r .blocks ≤ 4
   pub absent : (k : ℕ) → cellOf r .blocks ≤ k → k < 4 → getD (cellOf r .caps) k (record { 0 = 0 }) .0 ≡ 0
 
--- a device's lists hold at most four
+-- how many a device's lists hold
 pub record Counted (d : Device) : Type 0 where
-  pub few-states : d .nstates ≤ 4
-  pub few-starts : d .nstarts ≤ 4
-  pub few-energies : d .nenergies ≤ 4
+  pub few-states : d .nstates ≤ mostStates
+  pub few-starts : d .nstarts ≤ mostWindows
+  pub few-energies : d .nenergies ≤ mostWindows
 
 -- a decoded case: a cell for each device and interval, minima for each zone and interval, figures within their ranges
 pub record CaseRows (front : Front) (halves : List ℕ) (zones minima devices cells : List (List ℕ)) : Type 0 where
   pub few-devices : length devices ≤ mostDevices
   pub few-intervals : length halves ≤ mostIntervals
-  pub few-zones : length zones ≤ 4
+  pub few-zones : length zones ≤ mostZones
   pub cells-full : length cells ≡ length devices * length halves
   pub minima-full : length minima ≡ length zones * length halves
   pub range : CaseRange (caseIn front halves zones minima devices cells)

@@ -10,6 +10,7 @@ ghost use lib.Dec.{ltb};
 ghost use lib.ListN.{getD, length, set};
 ghost use Rattle.numbers.specs.Base.{bit};
 ghost use Rattle.units.specs.Units.{grains};
+ghost use Rattle.model.specs.Editions.{mostStates, mostWindows};
 ghost use Rattle.records.specs.Figures.{stateFigures, startFigures, energyFigures, EnergiesSmall, DeviceSmall, cellRow, settingRow, deviceRow, zoneRow, minimaRow, deviceWith, windowOf, statesOf, startsOf, energiesOf, limitsOf, cellOf, settingOf, deviceOf, stateOf, startOf, energyOf, zoneOf, minimaOf, pminAt, onAt, onlineAt, onBefore, startedAt, stoppedAt, sideAt, zonebitsAt};
 ghost use Rattle.records.specs.Figures.{on0At, minutes0At, oncostAt, startcostAt, stopcostAt, statesAt, stateAt, energiesAt, energyAt};
 
@@ -231,7 +232,7 @@ pub fn setting_at(settings: &[SettingRow], k: usize) -> Setting
 
 // Startup state k.
 fn state_in(r: DeviceRow, k: usize) -> State
-    requires { ⌜ k < 4 ⌝ }
+    requires { ⌜ k < mostStates ⌝ }
     ensures { λ s. ⌜ s ≡ stateOf r k ⌝ }
 {
     let a = STATES + 1 + 2 * k;
@@ -253,7 +254,7 @@ fn states_in(r: DeviceRow) -> [State; 4]
 
 // Start window k.
 fn start_in(r: DeviceRow, k: usize) -> StartWindow
-    requires { ⌜ k < 4 ⌝ }
+    requires { ⌜ k < mostWindows ⌝ }
     ensures { λ w. ⌜ w ≡ startOf r k ⌝ }
 {
     let a = STARTS + 1 + 3 * k;
@@ -287,7 +288,7 @@ fn energy_window(kind: u32, from: u32, until: u32, energy: u32) -> EnergyWindow
 
 // Energy window k.
 fn energy_in(r: DeviceRow, k: usize) -> EnergyWindow
-    requires { ⌜ k < 4 ⌝ }
+    requires { ⌜ k < mostWindows ⌝ }
     ensures { λ w. ⌜ w ≡ energyOf r k ⌝ }
 {
     let a = ENERGIES + 1 + 4 * k;
@@ -444,7 +445,7 @@ pub fn states_at(devices: &[DeviceRow], i: usize) -> usize
 }
 
 pub fn state_at(devices: &[DeviceRow], i: usize, k: usize) -> State
-    requires { ⌜ (i < length (now devices)) × (k < 4) ⌝ }
+    requires { ⌜ (i < length (now devices)) × (k < mostStates) ⌝ }
     ensures { λ r. ⌜ r ≡ stateAt (now (devices .entry)) i k ⌝ }
 {
     let a = STATES + 1 + 2 * k;
@@ -463,7 +464,7 @@ pub fn energies_at(devices: &[DeviceRow], i: usize) -> usize
 }
 
 pub fn energy_at(devices: &[DeviceRow], i: usize, k: usize) -> EnergyWindow
-    requires { ⌜ (i < length (now devices)) × (k < 4) ⌝ }
+    requires { ⌜ (i < length (now devices)) × (k < mostWindows) ⌝ }
     ensures { λ r. ⌜ r ≡ energyAt (now (devices .entry)) i k ⌝ }
 {
     let a = ENERGIES + 1 + 4 * k;

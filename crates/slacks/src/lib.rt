@@ -18,7 +18,7 @@ ghost use Rattle.numbers.specs.Sum.{gate};
 ghost use Rattle.ranges.specs.Ranges.{Eight};
 ghost use Rattle.units.specs.Units.{watts};
 ghost use Rattle.records.specs.Figures.{inZone};
-ghost use Rattle.records.specs.Views.{mostPower, lastMinute, eightIn};
+ghost use Rattle.records.specs.Views.{mostDevices, mostZones, mostPower, lastMinute, eightIn};
 ghost use Rattle.slacks.specs.Sides.{Powered, withSide, sidesTo, mismatchOf};
 ghost use Rattle.slacks.specs.Needs.{Thousandths, requiredOf, needsOf, zoneNeeds};
 ghost use Rattle.slacks.specs.Energies.{minutesOf, Running, energyTo, overOf};
@@ -92,7 +92,7 @@ fn counted(counts: bool, p: Kw) -> Kw
 
 // One member more.
 fn with_member(s: ZoneSums, side: u32, p: Kw, r: Reserves) -> ZoneSums
-    requires { ⌜ SumsOf 64 s × (p .0 ≤ mostPower) × Eight (λ x. x ≤ 100000) (eightIn r) ⌝ }
+    requires { ⌜ SumsOf mostDevices s × (p .0 ≤ mostPower) × Eight (λ x. x ≤ 100000) (eightIn r) ⌝ }
     ensures { λ v. ⌜ v ≡ withMember s side (p .0) r ⌝ }
 {
     let load = s.load.plus(counted(side == 1, p));
@@ -117,7 +117,7 @@ fn with_member(s: ZoneSums, side: u32, p: Kw, r: Reserves) -> ZoneSums
 
 // "zone bits 4, zone 1 first"
 fn in_zone(zonebits: u32, z: usize) -> bool
-    requires { ⌜ z < 4 ⌝ }
+    requires { ⌜ z < mostZones ⌝ }
     ensures { λ r. ⌜ r ≡ inZone zonebits z ⌝ }
 {
     (zonebits >> (3 - z)) % 2 == 1
@@ -133,7 +133,7 @@ fn with_device(
     k: usize,
     z: usize,
 ) -> ZoneSums
-    requires { ⌜ (z < 4) × SumsOf 64 s × (i < length (now devices)) × Stood (now settings) (now powers) k ⌝ }
+    requires { ⌜ (z < mostZones) × SumsOf mostDevices s × (i < length (now devices)) × Stood (now settings) (now powers) k ⌝ }
     ensures { λ r. ⌜ DeviceAdded s (now (devices .entry)) (now (settings .entry)) (now (powers .entry)) i k z r ⌝ }
 {
     if !in_zone(zonebits_at(devices, i), z) {
@@ -153,7 +153,7 @@ fn zone_sums(
     t: usize,
     z: usize,
 ) -> ZoneSums
-    requires { ⌜ Zoned (length (now devices)) m t (now settings) (now powers) × (z < 4) ⌝ }
+    requires { ⌜ Zoned (length (now devices)) m t (now settings) (now powers) × (z < mostZones) ⌝ }
     ensures { λ r. ⌜ SumsSo (now (devices .entry)) (now (settings .entry)) (now (powers .entry)) m t z (length (now (devices .entry))) r ⌝ }
 {
     let mut s = ZoneSums {
@@ -178,7 +178,7 @@ fn zone_sums(
 
 // What a zone requires against its load and its largest unit: rgu; rgd; scr, which includes rgu; nsc, which includes both.
 fn required(zone: Zone, load: Kw, unit: Kw) -> [Watts; 4]
-    requires { ⌜ Thousandths zone × (load .0 ≤ 64 * mostPower) × (unit .0 ≤ mostPower) ⌝ }
+    requires { ⌜ Thousandths zone × (load .0 ≤ mostDevices * mostPower) × (unit .0 ≤ mostPower) ⌝ }
     ensures { λ r. ⌜ r ≡ requiredOf zone (load .0) (unit .0) ⌝ }
 {
     let up = load.share(zone.rgu);
@@ -197,7 +197,7 @@ fn short_of(required: Watts, held: Kw) -> Watts
 
 // The six needs: "rgu+scr required − 1000·(rgu+scr); rgu+scr+nsc likewise".
 fn zone_needs(required: [Watts; 4], s: ZoneSums, least: Minima) -> [Watts; 6]
-    requires { ⌜ SumsOf 64 s ⌝ }
+    requires { ⌜ SumsOf mostDevices s ⌝ }
     ensures { λ r. ⌜ r ≡ needsOf required s least ⌝ }
 {
     let spinning = s.rgu.plus(s.scr);
@@ -222,7 +222,7 @@ pub fn shortfalls(
     t: usize,
     z: usize,
 ) -> [Watts; 6]
-    requires { ⌜ Thousandths zone × Zoned (length (now devices)) m t (now settings) (now powers) × (z < 4) ⌝ }
+    requires { ⌜ Thousandths zone × Zoned (length (now devices)) m t (now settings) (now powers) × (z < mostZones) ⌝ }
     ensures { λ r. ⌜ r ≡ zoneNeeds zone least (sumsTo (now (devices .entry)) (now (settings .entry)) (now (powers .entry)) m t z (length (now (devices .entry)))) ⌝ }
 {
     let s = zone_sums(devices, settings, powers, m, t, z);
