@@ -1,10 +1,13 @@
 -- Entries in a ledger: what an entry adds to the balance, and how far credit and debit grow.
-use mathlib.Core.Path.{_≡_, ap, _∙_}
-use Prim.Native.Nat.{ℕ, _+_, _≤_, _<_}
+use mathlib.Core.Path.{_≡_, refl, sym, ap, _∙_}
+use Prim.Native.Nat.{ℕ, zero, suc, _+_, _*_, _≤_, _<_}
 use native.Mathlib.Omega.{arith}
+use native.Mathlib.Numerals.{add-one}
 use lib.IntN.{ℤ, pos, negℤ, _+ℤ_}
 use Rattle.numbers.specs.Z.{at, nat, _⊕_, _⊝_, neg, by≡}
 use Rattle.numbers.specs.Laws as L
+use Rattle.numbers.specs.Sum.{sumℤ}
+use Rattle.numbers.specs.Base.{range, upTo}
 use Rattle.units.specs.Units.{balanceOf, Ledgered}
 use Rattle.units.specs.declared.Ledger.{Ledger}
 use Rattle.money.specs.Bounds.{roomMost, dayMost, day-fits}
@@ -77,3 +80,26 @@ spent-as n h e k = entered-as (spent h) (ap (λ (i : ℕ). negℤ (pos i)) e) k
 -- the balance of a ledger that began empty is what was entered
 pub balance-of : (n : ℕ) {l r : Ledger} {z : ℤ} → Ledgered l 0 0 → Entered l r z n → balanceOf r ≡ z
 balance-of n {l} {r} {z} e h = h .balance ∙ rw (e .credits, e .debits) (by≡ (nat 0 ⊕ at z) (at z) (omega arith))
+
+-- ---- entries in a loop
+
+module _ (f : ℕ → ℤ) where
+  range-last : (k n : ℕ) → sumℤ f (range k (suc n)) ≡ sumℤ f (range k n) +ℤ f (k + n)
+  unfolding range
+  range-last k zero = let e : k + 0 ≡ k = omega arith in rw e (by≡ (at (f k) ⊕ nat 0) (nat 0 ⊕ at (f k)) (omega arith))
+  range-last k (suc n) = let e : k + suc n ≡ suc k + n = omega arith in rw e (ap (λ (z : ℤ). f k +ℤ z) (range-last (suc k) n) ∙ sym (L.add-assoc (f k) (sumℤ f (range (suc k) n)) (f (suc k + n))))
+
+  pub sum-last : (n : ℕ) → sumℤ f (upTo (n + 1)) ≡ sumℤ f (upTo n) +ℤ f n
+  sum-last n = let e : 0 + n ≡ n = omega arith in rw (add-one n) (range-last 0 n ∙ rw e refl)
+
+  -- none, and one more of at most b
+  pub entries-none : (l : Ledger) → Entered l l (sumℤ f (upTo 0)) 0
+  unfolding range
+  entries-none l = entered-none l
+
+  pub entries-next : (n b : ℕ) {l m r : Ledger} → Entered l m (sumℤ f (upTo n)) (n * b) → Entered m r (f n) b → Entered l r (sumℤ f (upTo (n + 1))) ((n + 1) * b)
+  entries-next n b h k = entered-as (entered-then h k) (sym (sum-last n)) (omega arith)
+
+  -- all of them
+  pub entries-done : (k n b : ℕ) {l r : Ledger} → k ≤ n → n ≤ k → Entered l r (sumℤ f (upTo k)) (k * b) → Entered l r (sumℤ f (upTo n)) (n * b)
+  entries-done k n b h i e = let s : k ≡ n = omega arith in rw s at e
