@@ -23,8 +23,7 @@ use Rattle.completion_writer.specs.Fields.{countsIn}
 use Rattle.completion_writer.specs.Size.{frontWidth, surplusWidth, overrunWidth, intervalWidth, needed, written-needed}
 use Rattle.completion_writer.specs.Whole as W
 use Rattle.completion_writer.specs.Whole.{intervalBits, overrunBits, windowsTo}
-use Rattle.completions.specs.Windows.{windowsUpTo}
-use Rattle.completions.specs.Fits.{windows-up-to, windows-whole}
+use Rattle.completions.specs.Windows.{windowsUpTo, windows-up-to, windows-whole}
 
 -- our completion's message with a surplus
 abbrev pub messageOf : Front → (halves : List ℕ) (zones minima devices cells settings : List (List ℕ)) → ℤ → List ℕ

@@ -1,10 +1,13 @@
 -- Entries in a ledger: what an entry adds to the balance, and how far credit and debit grow.
-use mathlib.Core.Path.{_≡_, ap, _∙_}
-use Prim.Native.Nat.{ℕ, _+_, _≤_, _<_}
+use mathlib.Core.Path.{_≡_, refl, sym, ap, _∙_}
+use Prim.Native.Nat.{ℕ, _+_, _*_, _≤_, _<_}
 use native.Mathlib.Omega.{arith}
 use lib.IntN.{ℤ, pos, negℤ, _+ℤ_}
 use Rattle.numbers.specs.Z.{at, nat, _⊕_, _⊝_, neg, by≡}
 use Rattle.numbers.specs.Laws as L
+use Rattle.numbers.specs.Sum.{sumℤ}
+use Rattle.numbers.specs.Base.{range, upTo}
+use Rattle.numbers.specs.Ranges.{sumℤ-more}
 use Rattle.units.specs.Units.{balanceOf, Ledgered}
 use Rattle.units.specs.declared.Ledger.{Ledger}
 use Rattle.money.specs.Bounds.{roomMost, dayMost, day-fits}
@@ -77,3 +80,18 @@ spent-as n h e k = entered-as (spent h) (ap (λ (i : ℕ). negℤ (pos i)) e) k
 -- the balance of a ledger that began empty is what was entered
 pub balance-of : (n : ℕ) {l r : Ledger} {z : ℤ} → Ledgered l 0 0 → Entered l r z n → balanceOf r ≡ z
 balance-of n {l} {r} {z} e h = h .balance ∙ rw (e .credits, e .debits) (by≡ (nat 0 ⊕ at z) (at z) (omega arith))
+
+-- ---- entries in a loop
+
+module _ (f : ℕ → ℤ) where
+  -- none, and one more of at most b
+  pub entries-none : (l : Ledger) → Entered l l (sumℤ f (upTo 0)) 0
+  unfolding range
+  entries-none l = entered-none l
+
+  pub entries-next : (n b : ℕ) {l m r : Ledger} → Entered l m (sumℤ f (upTo n)) (n * b) → Entered m r (f n) b → Entered l r (sumℤ f (upTo (n + 1))) ((n + 1) * b)
+  entries-next n b h k = entered-as (entered-then h k) (sym (sumℤ-more f n)) (omega arith)
+
+  -- all of them
+  pub entries-done : (k n b : ℕ) {l r : Ledger} → k ≤ n → n ≤ k → Entered l r (sumℤ f (upTo k)) (k * b) → Entered l r (sumℤ f (upTo n)) (n * b)
+  entries-done k n b h i e = let s : k ≡ n = omega arith in rw s at e

@@ -2,10 +2,7 @@ pub mod Bounds
 pub mod Entries
 pub mod Worth
 pub mod Costs
-pub mod Sizes
 pub mod Unbroken
 pub mod Ruled
 pub mod Terms
-pub mod Charges
-pub mod Day
 pub mod Here

@@ -48,10 +48,6 @@ four-rates most a b c d f g h j k l m = (omega (arith, f .0, g .0, h .0, j .0), 
 pub over-most : (minutes rate most : ℕ) {v r : ℕ} → minutes ≤ minutesMost → Amounts rate most v → r ≡ minutes * v → Amounts (minutes * rate) (minutesMost * most) r
 over-most minutes rate most {v} {r} h a e = (e ∙ ap (λ (n : ℕ). minutes * n) (a .0), omega (arith, mul-le-mul h (a .1)))
 
--- an amount of money over some minutes: what it is, and its size
-abbrev pub Comes : ℕ → ℕ → ℕ → ℕ → Type 0
-Comes minutes rate most r = (r ≡ minutes * rate) × (r ≤ most)
-
 -- worth of the blocks over an interval: earned by a consuming device, paid by a producing one
 abbrev pub tradeOf : Bool → ℕ → ℕ → ℕ → ℤ
 tradeOf consuming minutes value p = bySide consuming (pos (minutes * value) -ℤ pos (minutes * (priceOffset * p)))

@@ -1,11 +1,10 @@
-// The money of a day's completion, entered in a ledger: what a device brings in an interval; what shortfalls, mismatches and overruns cost.
+// The money that a device brings in an interval, entered in a ledger.
 use choices::Choice;
 use records::Cell;
 use records::DeviceRow;
 use records::ReservePrices;
 use records::Reserves;
 use records::Setting;
-use records::Zone;
 use records::oncost_at;
 use records::side_at;
 use records::startcost_at;
@@ -13,10 +12,8 @@ use records::state_at;
 use records::stopcost_at;
 use units::Grains;
 use units::Kw;
-use units::KwMin;
 use units::Ledger;
 use units::Rate;
-use units::Watts;
 use units::cost_over;
 ghost use mathlib.Core.Path.{_≡_};
 ghost use Prim.Native.Nat.{_+_, _*_, _≤_, _<_};
@@ -25,15 +22,14 @@ ghost use lib.Dec.{eqb};
 ghost use lib.ListN.{length};
 ghost use Rattle.records.specs.Figures.{deviceAt};
 ghost use Rattle.choices.specs.States.{costOf};
-ghost use Rattle.money.specs.Bounds.{powerMost, minutesMost, rateMost, shortPriceMost, shortfallMost, blocksMost, worthMost};
-ghost use Rattle.money.specs.Bounds.{tradeMost, onMost, stateMost, changeMost, reservesMost, cellMost, shortMost, zoneMost};
+ghost use Rattle.money.specs.Bounds.{powerMost, minutesMost, rateMost, blocksMost, worthMost};
+ghost use Rattle.money.specs.Bounds.{tradeMost, onMost, stateMost, changeMost, reservesMost, cellMost};
 ghost use Rattle.money.specs.Entries.{Entered, Room};
 ghost use Rattle.money.specs.Worth.{Amounts, Priced, FourPriced, valueOf, tradeOf};
 ghost use Rattle.money.specs.Costs.{CostsBelow, StateBelow, changesOf, AmountsBelow, PricesBelow, firstFour, lastFour, eightCost};
 ghost use Rattle.money.specs.Ruled.{Ruled};
 ghost use Rattle.money.specs.Terms.{CellEntered};
 ghost use Rattle.records.specs.Views.{mostStates};
-ghost use Rattle.money.specs.Charges.{SixSmall, sixCost, ZoneOf, ZoneEntered, IntervalOf, MismatchEntered, OverrunOf, OverrunEntered};
 
 // Block prices are kept from 0, the price and this.
 const PRICE_OFFSET: u32 = 10_000;
@@ -189,50 +185,4 @@ pub fn cell_money(
     let traded = blocks_money(reserved, side_at(devices, i), p, powers, kept, minutes);
     let running = on_money(traded, oncost_at(devices, i), setting.on, minutes);
     change_money(running, devices, i, x.started, x.stopped, x.state)
-}
-
-// A shortfall over some minutes at its price.
-fn short_cost(x: Watts, price: u32, minutes: u32) -> Grains
-    requires { ⌜ (x .0 ≤ shortfallMost) × (price ≤ shortPriceMost) × (minutes ≤ minutesMost) ⌝ }
-    ensures { λ r. ⌜ (r .0 ≡ minutes * (price * x .0)) × (r .0 ≤ shortMost) ⌝ }
-{
-    x.priced(price, minutes)
-}
-
-fn six_cost(x: [Watts; 6], prices: [u32; 6], minutes: u32) -> Grains
-    requires { ⌜ SixSmall x prices × (minutes ≤ minutesMost) ⌝ }
-    ensures { λ r. ⌜ (r .0 ≡ minutes * sixCost prices x) × (r .0 ≤ zoneMost) ⌝ }
-{
-    let a = short_cost(x[0], prices[0], minutes);
-    let b = short_cost(x[1], prices[1], minutes);
-    let c = short_cost(x[2], prices[2], minutes);
-    let d = short_cost(x[3], prices[3], minutes);
-    let e = short_cost(x[4], prices[4], minutes);
-    let f = short_cost(x[5], prices[5], minutes);
-    a.plus(b).plus(c).plus(d).plus(e).plus(f)
-}
-
-// A zone's shortfalls in one interval, in the order of their prices: "d·shortfall prices".
-pub fn zone_money(l: Ledger, x: [Watts; 6], zone: Zone, minutes: u32) -> Ledger
-    requires { ⌜ Room 0 l × ZoneOf zone minutes x ⌝ }
-    ensures { λ r. ⌜ ZoneEntered zone minutes x l r ⌝ }
-{
-    let prices = zone.prices;
-    l.spend(six_cost(x, prices, minutes))
-}
-
-// An interval's mismatch: "d·mismatch price".
-pub fn mismatch_money(l: Ledger, m: Kw, price: u32, minutes: u32) -> Ledger
-    requires { ⌜ Room 0 l × IntervalOf price minutes (m .0) ⌝ }
-    ensures { λ r. ⌜ MismatchEntered price minutes (m .0) l r ⌝ }
-{
-    l.spend(m.over(minutes).priced(price))
-}
-
-// An energy window's overrun: "overrun price·overrun".
-pub fn overrun_money(l: Ledger, e: KwMin, price: u32) -> Ledger
-    requires { ⌜ Room 0 l × OverrunOf price (e .0) ⌝ }
-    ensures { λ r. ⌜ OverrunEntered price (e .0) l r ⌝ }
-{
-    l.spend(e.priced(price))
 }

@@ -1,0 +1,53 @@
+-- The parts of our completion that belong to intervals.
+use mathlib.Core.List.{List}
+use Prim.Native.Nat.{ℕ, _*_}
+use lib.ListN.{length}
+use lib.IntN.{ℤ, negℤ}
+use Rattle.numbers.specs.Sum.{sumℤ}
+use Rattle.numbers.specs.Base.{upTo}
+use Rattle.model.specs.Case.{System, Plan, Case}
+use Rattle.model.specs.Completion.{Completion, shortfallCost}
+use Rattle.model.specs.Ours.{ours}
+use Rattle.pen.specs.Runs.{run}
+use Rattle.records.specs.declared.Front.{Front}
+use Rattle.records.specs.Views.{systemIn, caseIn, planIn}
+use Rattle.money.specs.Bounds.{cellMost, zoneMost, intervalMost}
+use Rattle.money.specs.Terms.{our, cellBalance}
+use Rattle.slack_money.specs.Day.{intervalBalance}
+use Rattle.completion_writer.specs.Size.{deviceWidth, zoneWidth, intervalWidth}
+use Rattle.completion_writer.specs.Whole.{deviceBits, zoneBits, intervalBits}
+use Rattle.progress.specs.declared.Progress.{Progress}
+use Rattle.progress.specs.Advances.{Advances}
+
+module _ (front : Front) (halves : List ℕ) (zones minima devices cells settings : List (List ℕ)) where
+  abbrev c : Case
+  c = caseIn front halves zones minima devices cells
+
+  abbrev q : System
+  q = systemIn halves zones minima devices cells
+
+  abbrev p : Plan
+  p = planIn (length devices) (length halves) settings
+
+  abbrev x : Completion ℕ
+  x = ours c p
+
+  -- the first n devices of interval t
+  abbrev pub DevicesAdvance : ℕ → ℕ → List ℕ → List ℕ → Progress → Progress → Type 0
+  DevicesAdvance t n entry exit = Advances (n * deviceWidth) (run (deviceBits x t) n) entry exit (sumℤ (cellBalance c p t) (upTo n)) (n * cellMost)
+
+  -- its first n zones
+  abbrev pub zoneBalance : ℕ → ℕ → ℤ
+  zoneBalance t z = negℤ (shortfallCost c p (our c p) t z)
+
+  abbrev pub ZonesAdvance : ℕ → ℕ → List ℕ → List ℕ → Progress → Progress → Type 0
+  ZonesAdvance t n entry exit = Advances (n * zoneWidth) (run (zoneBits x t) n) entry exit (sumℤ (zoneBalance t) (upTo n)) (n * zoneMost)
+
+  -- interval t; the first n intervals
+  abbrev pub IntervalAdvances : ℕ → List ℕ → List ℕ → Progress → Progress → Type 0
+  IntervalAdvances t entry exit =
+      Advances (intervalWidth (front .edition) (length devices) (length zones)) (intervalBits (front .edition) q x t) entry exit (intervalBalance c p t) intervalMost
+
+  abbrev pub IntervalsAdvance : ℕ → List ℕ → List ℕ → Progress → Progress → Type 0
+  IntervalsAdvance n entry exit =
+      Advances (n * intervalWidth (front .edition) (length devices) (length zones)) (run (intervalBits (front .edition) q x) n) entry exit (sumℤ (intervalBalance c p) (upTo n)) (n * intervalMost)

@@ -1,0 +1,188 @@
+-- What the code computes, enters and writes for a device, a zone, an interval: steps of a completion.
+use mathlib.Core.Path.{_≡_, refl, sym, ap, subst, _∙_}
+use mathlib.Core.List.{List, [], map}
+use Prim.Native.Nat.{ℕ, _+_, _-_, _*_, _^_, _≤_, _<_}
+use native.Mathlib.Omega.{arith}
+use native.Mathlib.Nat.{mul-le-mul}
+use lib.ListN.{length, getD, take, drop}
+use Rattle.numbers.specs.Laws.{maxZero}
+use Rattle.units.specs.declared.Watts.{Watts}
+use Rattle.units.specs.declared.Ledger.{Ledger}
+use Rattle.units.specs.Units.{watts}
+use Rattle.layouts.specs.Layout.{any}
+use Rattle.model.specs.Case.{System, Plan, Case}
+use Rattle.model.specs.Completion.{Completion, shortfalls, shortfallNeed, mismatchNeed}
+use Rattle.model.specs.Messages.{six}
+use Rattle.model.specs.ByEdition.{deviceChoice}
+use Rattle.model.specs.Ours.{ours}
+use Rattle.theorems.specs.Back.{FitsSix, FitsDevice}
+use Rattle.pen.specs.declared.Pen.{Pen}
+use Rattle.pen.specs.Pens.{Pushes}
+use Rattle.pen.specs.Runs.{run, pushes-as}
+use Rattle.records.specs.declared.Front.{Front}
+use Rattle.records.specs.declared.Cell.{Cell}
+use Rattle.records.specs.declared.Setting.{Setting}
+use Rattle.records.specs.declared.Zone.{Zone}
+use Rattle.records.specs.declared.Minima.{Minima}
+use Rattle.records.specs.Figures.{cellOf, settingOf, zoneOf, minimaOf, deviceAt}
+use Rattle.numbers.specs.Parts.{part, part-at, part-cut, place-inside}
+use Rattle.records.specs.Views.{mostIntervals, systemIn, caseIn, planIn}
+use Rattle.records.specs.Viewed as Viewed
+use Rattle.choices.specs.declared.Choice.{Choice}
+use Rattle.choices.specs.Cells.{CellOf}
+use Rattle.choices.specs.Choices.{ChoiceOf}
+use Rattle.choices.specs.Here.{cell-here, choice-learnt}
+use Rattle.slacks.specs.Sides.{sidesTo, mismatchOf, mismatch-is}
+use Rattle.slacks.specs.Sums.{sumsTo}
+use Rattle.slacks.specs.Needs.{Thousandths, zoneNeeds, thousandths, shortfalls-are}
+use Rattle.money.specs.Bounds.{zonesMost, cellMost, zoneMost}
+use Rattle.money.specs.Unbroken.{Unbroken}
+use Rattle.money.specs.Ruled.{Ruled}
+use Rattle.money.specs.Terms.{cellBalance, CellEntered}
+use Rattle.money.specs.Here as Cells
+use Rattle.slack_money.specs.Charges.{ZoneOf, ZoneEntered, IntervalOf, MismatchEntered}
+use Rattle.slack_money.specs.Here as Here
+use Rattle.completion_writer.specs.Fields.{choiceIn, sixOf}
+use Rattle.completion_writer.specs.Size.{deviceWidth, zoneWidth, mismatchWidth}
+use Rattle.completion_writer.specs.Whole.{deviceBits, zoneBits, interval-pushes}
+use Rattle.progress.specs.declared.Progress.{Progress}
+use Rattle.progress.specs.Advances.{Advances, along}
+use Rattle.interval_completions.specs.Fits as Fits
+use Rattle.interval_completions.specs.Advances.{DevicesAdvance, ZonesAdvance, zoneBalance, IntervalAdvances}
+
+-- a device's place in an interval
+pub record Place (k : ℕ) (cells settings : List (List ℕ)) (powers : List ℕ) : Type 0 where
+  pub in-cells : k < length cells
+  pub in-settings : k < length settings
+  pub in-powers : k < length powers
+
+module _ {front : Front} {halves : List ℕ} {zones minima devices cells settings : List (List ℕ)} {starts powers : List ℕ}
+    (u : Unbroken front halves zones minima devices cells settings starts powers) where
+  abbrev q : System
+  q = systemIn halves zones minima devices cells
+
+  abbrev c : Case
+  c = caseIn front halves zones minima devices cells
+
+  abbrev p : Plan
+  p = planIn (length devices) (length halves) settings
+
+  abbrev x : Completion ℕ
+  x = ours c p
+
+  abbrev m : ℕ
+  m = length halves
+
+  -- ---- a device in an interval
+
+  module _ (t i a : ℕ) (h : t < m) (l : i < length devices) (begins : a ≡ i * m) where
+    pub place-of : Place (a + t) cells settings powers
+    place-of =
+        let n = place-inside m i (length devices) t l h in
+        record {
+          in-cells = omega (arith, n, u .ready .case-rows .cells-full);
+          in-settings = omega (arith, n, u .ready .plan-rows .full);
+          in-powers = omega (arith, n, u .ready .forced-rows .powers-full);
+        }
+
+    -- its settings, as the code takes them
+    abbrev own : List (List ℕ)
+    own = take (a + m - a) (drop a settings)
+
+    own-is : own ≡ part m i settings
+    own-is = part-cut m i a settings begins
+
+    abbrev power : ℕ
+    power = getD powers (a + t) 0
+
+    module _ {cell : Cell} (ec : cell ≡ cellOf (getD cells (a + t) [])) where
+      pub cell-of : CellOf (deviceAt devices i) cell own starts power t
+      cell-of = cell-here (u .ready) t i a h l begins refl ec own-is refl
+
+      module _ {v : Choice} (o : ChoiceOf (deviceAt devices i) cell own starts power t v) where
+        pub device-fits : FitsDevice (choiceIn (v .started) (v .stopped) (v .state) (v .blocks))
+        device-fits = Fits.choice-fits u t h i l (choice-learnt (u .ready) t i a h l begins refl ec own-is refl o)
+
+        -- the cell read again
+        module _ {again : Cell} {s : Setting} {minutes : ℕ} (ea : again ≡ cellOf (getD cells (a + t) [])) (es : s ≡ settingOf (getD settings (a + t) [])) (em : minutes ≡ 2 * getD halves t 0) where
+          chosen : ChoiceOf (deviceAt devices i) again own starts power t v
+          chosen = subst (λ (k : Cell). ChoiceOf (deviceAt devices i) k own starts power t v) (ec ∙ sym ea) o
+
+          pub ruled : Ruled (deviceAt devices i) again s power minutes v
+          ruled = Cells.ruled-here u t i a h l begins refl ea own-is refl es em chosen
+
+          pub device-done : {b d : List ℕ} {pen r : Pen} {y z : Ledger} → CellEntered (deviceAt devices i) again s power minutes v y z
+              → Pushes deviceWidth (deviceChoice .write (choiceIn (v .started) (v .stopped) (v .state) (v .blocks))) b d pen r
+              → Advances deviceWidth (deviceBits x t i) b d (cellBalance c p t i) cellMost (along y pen) (along z r)
+          device-done e w = record {
+            pushes = pushes-as (ap (deviceChoice .write) (Fits.choice-is u t h i l (choice-learnt (u .ready) t i a h l begins refl ec own-is refl o))) refl w;
+            entered = Cells.cell-learnt u t i a h l begins refl ea own-is refl es em chosen e;
+          }
+
+  -- ---- a zone in an interval
+
+  module _ (t : ℕ) (h : t < m) where
+    module _ (z k : ℕ) (l : z < length zones) (at : k ≡ z * m + t) where
+      pub in-minima : k < length minima
+      in-minima = omega (arith, place-inside m z (length zones) t l h, u .ready .case-rows .minima-full)
+
+      pub next-small : k + m ≤ (zonesMost + 1) * mostIntervals
+      next-small =
+          let few = u .ready .case-rows .few-intervals in
+          omega (arith, place-inside m z (length zones) t l h, mul-le-mul (u .ready .case-rows .few-zones) few, few)
+
+      module _ {zone : Zone} (ez : zone ≡ zoneOf (getD zones z [])) where
+        pub shares-small : Thousandths zone
+        shares-small = rw ez (thousandths (u .ready) t h z l)
+
+        module _ {least : Minima} {v : List Watts} (el : least ≡ minimaOf (getD minima k [])) (e : v ≡ zoneNeeds zone least (sumsTo devices settings powers m t z (length devices))) where
+          least-is : least ≡ minimaOf (getD (part m z minima) t [])
+          least-is = el ∙ ap (λ (n : ℕ). minimaOf (getD minima n [])) at ∙ ap minimaOf (sym (part-at [] m z minima t h))
+
+          short-is : v ≡ map (λ k. watts (maxZero (shortfallNeed q p t z k))) shortfalls
+          short-is = e ∙ rw (ez, least-is) (shortfalls-are (u .ready) t h z l)
+
+          pub zone-fits : FitsSix (sixOf v)
+          zone-fits = Fits.six-fits u t h z l short-is
+
+          module _ {minutes : ℕ} (em : minutes ≡ 2 * getD halves t 0) where
+            pub zone-of : ZoneOf zone minutes v
+            zone-of = Here.zone-here u t z h l ez em short-is
+
+            pub zone-done : {b d : List ℕ} {pen r : Pen} {y w : Ledger} → ZoneEntered zone minutes v y w → Pushes zoneWidth (six (any 33) .write (sixOf v)) b d pen r
+                → Advances zoneWidth (zoneBits x t z) b d (zoneBalance front halves zones minima devices cells settings t z) zoneMost (along y pen) (along w r)
+            zone-done f g = record {
+              pushes = pushes-as (ap (six (any 33) .write) (Fits.six-is u t h z l short-is)) refl g;
+              entered = Here.zone-learnt u t z h l ez em short-is f;
+            }
+
+    -- ---- the mismatch, and with it the interval
+
+    module _ {y : ℕ} (e : y ≡ mismatchOf (sidesTo devices powers m t (length devices))) where
+      need-is : y ≡ mismatchNeed q p t
+      need-is = e ∙ mismatch-is (u .ready) t h
+
+      pub mismatch-fits : y < 2 ^ 23
+      mismatch-fits = rw need-is (Fits.mismatch-fits u t h)
+
+      module _ {minutes : ℕ} (em : minutes ≡ 2 * getD halves t 0) where
+        pub interval-of : IntervalOf (front .mismatch) minutes y
+        interval-of = Here.mismatch-here u t h refl em need-is
+
+        pub interval-done : {a b d g : List ℕ} {r s v : Progress} {w : Ledger} {pen : Pen}
+            → DevicesAdvance front halves zones minima devices cells settings t (length devices) a b r s
+            → ZonesAdvance front halves zones minima devices cells settings t (length zones) b d s v
+            → MismatchEntered (front .mismatch) minutes y (v .money) w
+            → Pushes mismatchWidth (any 23 .write y) d g (v .pen) pen
+            → IntervalAdvances front halves zones minima devices cells settings t a g r (along w pen)
+        unfolding ours
+        interval-done {a} {b} {d} {g} {r} {s} {v} {w} {pen} i j f k =
+            let n = Viewed.devices-are halves zones minima devices cells in
+            let o = Viewed.zones-are halves zones minima devices cells in
+            record {
+              pushes = pushes-as refl (rw (n, o) refl) (interval-pushes (front .edition) q x t
+                  (pushes-as (ap (run (deviceBits x t)) (sym n)) (ap (λ (k : ℕ). k * deviceWidth) (sym n)) (i .pushes))
+                  (pushes-as (ap (run (zoneBits x t)) (sym o)) (ap (λ (k : ℕ). k * zoneWidth) (sym o)) (j .pushes))
+                  (pushes-as (ap (any 23 .write) need-is) refl k));
+              entered = Here.interval-whole u t (i .entered) (j .entered) (Here.mismatch-learnt u t h refl em need-is f);
+            }

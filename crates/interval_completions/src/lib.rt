@@ -1,0 +1,219 @@
+// The intervals of our completion: each figure is computed once, its money entered in a ledger and its bits written behind those before it.
+use choices::choose;
+use completion_writer::put_choice;
+use completion_writer::put_mismatch;
+use completion_writer::put_shortfalls;
+use money::cell_money;
+use progress::Progress;
+use records::CellRow;
+use records::DeviceRow;
+use records::Front;
+use records::MinimaRow;
+use records::SettingRow;
+use records::ZoneRow;
+use records::cell_at;
+use records::minima_at;
+use records::setting_at;
+use records::zone_at;
+use slack_money::mismatch_money;
+use slack_money::zone_money;
+use slacks::mismatch;
+use slacks::shortfalls;
+use units::Kw;
+ghost use mathlib.Core.Path.{_≡_};
+ghost use Prim.Native.Nat.{_*_, _<_};
+ghost use lib.ListN.{length, getD};
+ghost use Rattle.pen.specs.Pens.{Ready};
+ghost use Rattle.pen.specs.Runs.{Room};
+ghost use Rattle.records.specs.Views.{mostDevices, mostIntervals};
+ghost use Rattle.money.specs.Bounds.{zonesMost, cellMost, zoneMost, intervalMost};
+ghost use Rattle.money.specs.Entries.{Spare};
+ghost use Rattle.money.specs.Unbroken.{Unbroken};
+ghost use Rattle.completion_writer.specs.Size.{deviceWidth, zoneWidth, intervalWidth};
+ghost use Rattle.interval_completions.specs.Advances.{DevicesAdvance, ZonesAdvance, IntervalAdvances, IntervalsAdvance};
+
+// The devices of interval t: "per device started, stopped, startup state, four block powers".
+fn complete_devices(
+    front: Front,
+    halves: &[u32],
+    zones: &[ZoneRow],
+    minima: &[MinimaRow],
+    devices: &[DeviceRow],
+    cells: &[CellRow],
+    settings: &[SettingRow],
+    starts: &[u32],
+    powers: &[u32],
+    t: usize,
+    minutes: u32,
+    buf: &mut [u8],
+    p: Progress,
+) -> Progress
+    requires { ⌜ Unbroken front (now halves) (now zones) (now minima) (now devices) (now cells) (now settings) (now starts) (now powers) × (t < length (now halves))
+        × (minutes ≡ 2 * getD (now halves) t 0) ⌝ }
+    requires { ⌜ Ready (p .pen) × Room (now buf) (p .pen) (length (now devices) * deviceWidth) × Spare (mostDevices * cellMost) (p .money) ⌝ }
+    ensures { λ r. ⌜ DevicesAdvance front (now (halves .entry)) (now (zones .entry)) (now (minima .entry)) (now (devices .entry)) (now (cells .entry)) (now (settings .entry)) t
+        (length (now (devices .entry))) (now (buf .entry)) (now (buf .exit)) p r ⌝ }
+{
+    let m = halves.len();
+    let mut money = p.money;
+    let mut pen = p.pen;
+    let mut i = 0;
+    let mut a = 0;
+    while i < devices.len() {
+        let e = a + m;
+        let k = a + t;
+        let kw = powers[k];
+        let power = Kw(kw);
+        let cell = cell_at(cells, k);
+        let x = choose(devices, i, cell, &settings[a..e], starts, power, t);
+        // read again: its prices are loaded where they are used
+        let cell = cell_at(cells, k);
+        let setting = setting_at(settings, k);
+        money = cell_money(money, x, devices, i, cell, setting, power, minutes);
+        let blocks = x.blocks;
+        pen = put_choice(buf, pen, x.started, x.stopped, x.state, blocks);
+        a = e;
+        i += 1;
+    }
+    Progress { money, pen }
+}
+
+// Its zones: "then per zone six shortfalls in W, in the order of their prices".
+fn complete_zones(
+    front: Front,
+    halves: &[u32],
+    zones: &[ZoneRow],
+    minima: &[MinimaRow],
+    devices: &[DeviceRow],
+    cells: &[CellRow],
+    settings: &[SettingRow],
+    starts: &[u32],
+    powers: &[u32],
+    t: usize,
+    minutes: u32,
+    buf: &mut [u8],
+    p: Progress,
+) -> Progress
+    requires { ⌜ Unbroken front (now halves) (now zones) (now minima) (now devices) (now cells) (now settings) (now starts) (now powers) × (t < length (now halves))
+        × (minutes ≡ 2 * getD (now halves) t 0) ⌝ }
+    requires { ⌜ Ready (p .pen) × Room (now buf) (p .pen) (length (now zones) * zoneWidth) × Spare (zonesMost * zoneMost) (p .money) ⌝ }
+    ensures { λ r. ⌜ ZonesAdvance front (now (halves .entry)) (now (zones .entry)) (now (minima .entry)) (now (devices .entry)) (now (cells .entry)) (now (settings .entry)) t
+        (length (now (zones .entry))) (now (buf .entry)) (now (buf .exit)) p r ⌝ }
+{
+    let m = halves.len();
+    let mut money = p.money;
+    let mut pen = p.pen;
+    let mut z = 0;
+    let mut k = t;
+    while z < zones.len() {
+        let zone = zone_at(zones, z);
+        let least = minima_at(minima, k);
+        let six = shortfalls(zone, least, devices, settings, powers, m, t, z);
+        money = zone_money(money, six, zone, minutes);
+        pen = put_shortfalls(buf, pen, six);
+        k += m;
+        z += 1;
+    }
+    Progress { money, pen }
+}
+
+// Interval t: its devices, its zones, "then mismatch".
+fn complete_interval(
+    front: Front,
+    halves: &[u32],
+    zones: &[ZoneRow],
+    minima: &[MinimaRow],
+    devices: &[DeviceRow],
+    cells: &[CellRow],
+    settings: &[SettingRow],
+    starts: &[u32],
+    powers: &[u32],
+    t: usize,
+    buf: &mut [u8],
+    p: Progress,
+) -> Progress
+    requires { ⌜ Unbroken front (now halves) (now zones) (now minima) (now devices) (now cells) (now settings) (now starts) (now powers) × (t < length (now halves)) ⌝ }
+    requires { ⌜ Ready (p .pen) × Room (now buf) (p .pen) (intervalWidth (front .edition) (length (now devices)) (length (now zones))) × Spare intervalMost (p .money) ⌝ }
+    ensures { λ r. ⌜ IntervalAdvances front (now (halves .entry)) (now (zones .entry)) (now (minima .entry)) (now (devices .entry)) (now (cells .entry)) (now (settings .entry)) t
+        (now (buf .entry)) (now (buf .exit)) p r ⌝ }
+{
+    let minutes = 2 * halves[t];
+    let a = complete_devices(
+        front,
+        halves,
+        zones,
+        minima,
+        devices,
+        cells,
+        settings,
+        starts,
+        powers,
+        t,
+        minutes,
+        buf,
+        p,
+    );
+    let b = complete_zones(
+        front,
+        halves,
+        zones,
+        minima,
+        devices,
+        cells,
+        settings,
+        starts,
+        powers,
+        t,
+        minutes,
+        buf,
+        a,
+    );
+    let apart = mismatch(devices, powers, halves.len(), t);
+    let paid = b.money;
+    let last = b.pen;
+    let money = mismatch_money(paid, apart, front.mismatch, minutes);
+    let pen = put_mismatch(buf, last, apart);
+    Progress { money, pen }
+}
+
+// The intervals, one behind the other.
+pub fn complete_intervals(
+    front: Front,
+    halves: &[u32],
+    zones: &[ZoneRow],
+    minima: &[MinimaRow],
+    devices: &[DeviceRow],
+    cells: &[CellRow],
+    settings: &[SettingRow],
+    starts: &[u32],
+    powers: &[u32],
+    buf: &mut [u8],
+    p: Progress,
+) -> Progress
+    requires { ⌜ Unbroken front (now halves) (now zones) (now minima) (now devices) (now cells) (now settings) (now starts) (now powers) ⌝ }
+    requires { ⌜ Ready (p .pen) × Room (now buf) (p .pen) (length (now halves) * intervalWidth (front .edition) (length (now devices)) (length (now zones)))
+        × Spare (mostIntervals * intervalMost) (p .money) ⌝ }
+    ensures { λ r. ⌜ IntervalsAdvance front (now (halves .entry)) (now (zones .entry)) (now (minima .entry)) (now (devices .entry)) (now (cells .entry)) (now (settings .entry))
+        (length (now (halves .entry))) (now (buf .entry)) (now (buf .exit)) p r ⌝ }
+{
+    let mut q = p;
+    let mut t = 0;
+    while t < halves.len() {
+        q = complete_interval(
+            front,
+            halves,
+            zones,
+            minima,
+            devices,
+            cells,
+            settings,
+            starts,
+            powers,
+            t,
+            buf,
+            q,
+        );
+        t += 1;
+    }
+    q
+}

@@ -1,0 +1,8 @@
+// How far a completion has come: its money so far, and the pen behind its last bit.
+use pen::Pen;
+use units::Ledger;
+
+pub struct Progress {
+    pub money: Ledger,
+    pub pen: Pen,
+}

@@ -1,0 +1,4 @@
+pub mod Sizes
+pub mod Charges
+pub mod Day
+pub mod Here
