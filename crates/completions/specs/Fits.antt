@@ -8,8 +8,8 @@ use Rattle.numbers.specs.Laws.{maxZero}
 use Rattle.numbers.specs.Sum.{sumℕ-cong}
 use Rattle.numbers.specs.Base.{upTo}
 use Rattle.numbers.specs.Every.{all-upTo}
-use Rattle.units.specs.declared.Watts.{Watts}
-use Rattle.units.specs.Units.{watts}
+use Rattle.energy.specs.declared.Watts.{Watts}
+use Rattle.energy.specs.Energy.{watts}
 use Rattle.model.specs.Case.{System, Plan, Case}
 use Rattle.model.specs.Forced as F
 use Rattle.model.specs.Completion.{Completion, shortfalls, shortfallNeed, mismatchNeed, overrunNeed, rgu, rgd, scr, nsc, rru, rrd}

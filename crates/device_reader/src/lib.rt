@@ -1,14 +1,14 @@
 // What a case says of a device ahead of its intervals, in every edition, as a record by value.
+use energy::KwMin;
 use fields::Figure;
 use fields::Went;
+use grains::Grains;
+use kilowatts::Kw;
 use layouts::Place;
 use records::Device;
 use records::EnergyWindow;
 use records::StartWindow;
 use records::State;
-use units::Grains;
-use units::Kw;
-use units::KwMin;
 ghost use mathlib.Core.Path.{_≡_};
 ghost use mathlib.Core.Bool.{true, _&&_};
 ghost use Prim.Native.Nat.{_-_, _*_, _%_, _^_, _≤_};

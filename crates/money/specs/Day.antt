@@ -8,7 +8,7 @@ use lib.IntN.{ℤ, pos, negℤ, _+ℤ_, _-ℤ_, _*ℤ_}
 use Rattle.numbers.specs.Z.{at, nat, _⊕_, by≡}
 use Rattle.numbers.specs.Laws as L
 use Rattle.numbers.specs.Sum.{sumℤ, sum-add, sum-sub, sum-neg, sum-scale, sum-cong, all}
-use Rattle.units.specs.declared.Ledger.{Ledger}
+use Rattle.grains.specs.declared.Ledger.{Ledger}
 use Rattle.numbers.specs.Base.{range, upTo}
 use Rattle.model.specs.Case.{System, Plan, Case}
 use Rattle.model.specs.Forced.{intervals, devices, zones, device}

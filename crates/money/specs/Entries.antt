@@ -5,8 +5,8 @@ use native.Mathlib.Omega.{arith}
 use lib.IntN.{ℤ, pos, negℤ, _+ℤ_}
 use Rattle.numbers.specs.Z.{at, nat, _⊕_, _⊝_, neg, by≡}
 use Rattle.numbers.specs.Laws as L
-use Rattle.units.specs.Units.{balanceOf, Ledgered}
-use Rattle.units.specs.declared.Ledger.{Ledger}
+use Rattle.grains.specs.Money.{balanceOf, Ledgered}
+use Rattle.grains.specs.declared.Ledger.{Ledger}
 use Rattle.money.specs.Bounds.{roomMost, dayMost, day-fits}
 
 -- from l to r: z more in balance, and at most n more in credit and in debit

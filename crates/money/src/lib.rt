@@ -1,5 +1,12 @@
 // The money of a day's completion, entered in a ledger: what a device brings in an interval; what shortfalls, mismatches and overruns cost.
 use choices::Choice;
+use energy::KwMin;
+use energy::Watts;
+use grains::Grains;
+use grains::Ledger;
+use grains::Rate;
+use grains::cost_over;
+use kilowatts::Kw;
 use records::Cell;
 use records::DeviceRow;
 use records::ReservePrices;
@@ -11,13 +18,6 @@ use records::side_at;
 use records::startcost_at;
 use records::state_at;
 use records::stopcost_at;
-use units::Grains;
-use units::Kw;
-use units::KwMin;
-use units::Ledger;
-use units::Rate;
-use units::Watts;
-use units::cost_over;
 ghost use mathlib.Core.Path.{_≡_};
 ghost use Prim.Native.Nat.{_+_, _*_, _≤_, _<_};
 ghost use lib.IntN.{pos, negℤ};
