@@ -16,8 +16,8 @@ use Rattle.numbers.specs.Sum.{sumℕ, sumℕ-cong, gate, all}
 use Rattle.numbers.specs.Fill as F
 use Rattle.numbers.specs.Blocks.{rank, first, turned, cheapest, dearest}
 use Rattle.bits.specs.Pick.{pick}
-use Rattle.units.specs.declared.Kw.{Kw}
-use Rattle.units.specs.Units.{kw}
+use Rattle.kilowatts.specs.declared.Kw.{Kw}
+use Rattle.kilowatts.specs.Power.{kw}
 use Rattle.numbers.specs.Base.{range}
 use Rattle.numbers.specs.Every.{all-upTo}
 use Rattle.numbers.specs.Tests.{same-test}

@@ -1,5 +1,5 @@
 // The powers of a device's blocks: the cheapest filled first when producing, the dearest when consuming; "lower-numbered block first".
-use units::Kw;
+use kilowatts::Kw;
 ghost use mathlib.Core.Path.{_≡_};
 ghost use mathlib.Core.Bool.{false};
 ghost use Prim.Native.Nat.{_≤_, _<_};

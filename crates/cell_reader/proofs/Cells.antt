@@ -15,7 +15,7 @@ use Rattle.model.specs.Messages as L
 use Rattle.model.specs.Messages.{apart}
 use Rattle.model.specs.ByEdition.{cell}
 use Rattle.ranges.specs.Kept.{reservesOf}
-use Rattle.units.specs.declared.Kw.{Kw}
+use Rattle.kilowatts.specs.declared.Kw.{Kw}
 use Rattle.records.specs.declared.Cell.{Cell}
 use Rattle.records.specs.declared.ReservePrices.{ReservePrices}
 use Rattle.records.specs.Figures.{cellRow, kwAt}

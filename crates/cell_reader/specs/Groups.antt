@@ -9,7 +9,7 @@ use Rattle.layouts.specs.declared.Place.{Place}
 use Rattle.layouts.specs.Layout.{Layout, int, _then_, _▸_, such, counted, figure, countOf}
 use Rattle.model.specs.Case as M
 use Rattle.model.specs.Messages.{kW, eight}
-use Rattle.units.specs.Units.{kw}
+use Rattle.kilowatts.specs.Power.{kw}
 use Rattle.records.specs.declared.Cell.{Cell}
 use Rattle.records.specs.declared.ReservePrices.{ReservePrices}
 use Rattle.records.specs.Figures.{eightPrices}

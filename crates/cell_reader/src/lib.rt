@@ -1,11 +1,11 @@
 // A device's cells of a case message, one for each interval, read into rows. A cell is read in groups: limits, blocks, the prices of the eight.
 use fields::Figure;
 use fields::Went;
+use kilowatts::Kw;
 use layouts::Place;
 use records::Cell;
 use records::CellRow;
 use records::ReservePrices;
-use units::Kw;
 ghost use mathlib.Core.Path.{_≡_};
 ghost use Prim.Native.Nat.{_≤_};
 ghost use lib.Dec.{leb};

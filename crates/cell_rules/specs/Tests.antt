@@ -10,8 +10,8 @@ use lib.IntN.{pos, _-ℤ_}
 use lib.Signed.{leZ}
 use Rattle.bits.specs.Pick.{pick}
 use Rattle.numbers.specs.Base.{implies}
-use Rattle.units.specs.Units.{kw}
-use Rattle.units.specs.declared.Kw.{Kw}
+use Rattle.kilowatts.specs.Power.{kw}
+use Rattle.kilowatts.specs.declared.Kw.{Kw}
 use Rattle.records.specs.Views.{mostPower, lastMinute}
 use Rattle.records.specs.declared.Cell.{Cell}
 use Rattle.records.specs.declared.Device.{Device}

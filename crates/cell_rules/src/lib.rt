@@ -11,11 +11,11 @@ ghost use Rattle.records.specs.Views.{mostPower, lastMinute};
 ghost use Rattle.cell_rules.specs.Sign.{mayRise, mayFall};
 ghost use Rattle.cell_rules.specs.Word.{bitUnless, failingWord};
 ghost use Rattle.cell_rules.specs.Tests.{limitsOf, boundsOf, cap, roomOf, Sized, Small, stateTests, rampTests, onTests, offTests, powerTests, tests};
+use kilowatts::Kw;
 use records::Cell;
 use records::Device;
 use records::Reserves;
 use records::Setting;
-use units::Kw;
 
 // What the rules of a device's intervals read of it; the ramps are in kW/min.
 pub struct Bounds {

@@ -15,8 +15,8 @@ use Rattle.model.specs.Rules.{blocks}
 use Rattle.model.specs.Completion.{stateCost, blockPrice}
 use Rattle.model.specs.Ours.{filling, lasts, bestState, ours}
 use Rattle.numbers.specs.Every.{all-range}
-use Rattle.units.specs.declared.Kw.{Kw}
-use Rattle.units.specs.Units.{kw}
+use Rattle.kilowatts.specs.declared.Kw.{Kw}
+use Rattle.kilowatts.specs.Power.{kw}
 use Rattle.records.specs.declared.Cell.{Cell}
 use Rattle.records.specs.declared.Device.{Device}
 use Rattle.records.specs.Figures.{startedAt, stoppedAt}

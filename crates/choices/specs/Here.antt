@@ -3,7 +3,7 @@ use mathlib.Core.Path.{_≡_, sym, ap, _∙_}
 use mathlib.Core.List.{List, [], map}
 use Prim.Native.Nat.{ℕ, _+_, _*_, _<_}
 use lib.ListN.{length, getD}
-use Rattle.units.specs.Units.{kw}
+use Rattle.kilowatts.specs.Power.{kw}
 use Rattle.model.specs.Case.{Plan, Case}
 use Rattle.model.specs.Rules.{blocks}
 use Rattle.model.specs.Ours.{ours}

@@ -1,4 +1,5 @@
 // Our choices for a device in an interval: "lower-numbered block first; lowest-numbered cheapest state, and none unless it costs below 0".
+use kilowatts::Kw;
 use records::Cell;
 use records::DeviceRow;
 use records::SettingRow;
@@ -10,7 +11,6 @@ use records::side_at;
 use records::started_at;
 use records::states_at;
 use records::stopped_at;
-use units::Kw;
 ghost use mathlib.Core.Path.{_≡_};
 ghost use Prim.Native.Nat.{_≤_, _<_, _-_};
 ghost use lib.Dec.{eqb};

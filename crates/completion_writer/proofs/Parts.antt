@@ -13,8 +13,8 @@ use Rattle.model.specs.Editions.{deviceBits, intervalBits}
 use Rattle.model.specs.Messages as M
 use Rattle.model.specs.ByEdition.{completionFront, deviceChoice}
 use Rattle.theorems.specs.Back.{FitsDevice}
-use Rattle.units.specs.declared.Kw.{Kw}
-use Rattle.units.specs.declared.Watts.{Watts}
+use Rattle.kilowatts.specs.declared.Kw.{Kw}
+use Rattle.energy.specs.declared.Watts.{Watts}
 use Rattle.pen.proofs.Stores.{joined}
 use Rattle.completion_writer.specs.declared.Group.{Group}
 use Rattle.completion_writer.specs.Fields.{countsIn, choiceIn, blockAt, shortfallAt, sixOf}

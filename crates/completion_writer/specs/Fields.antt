@@ -2,8 +2,8 @@
 use mathlib.Core.List.{List, map}
 use Prim.Native.Nat.{ℕ}
 use lib.ListN.{getD}
-use Rattle.units.specs.declared.Kw.{Kw}
-use Rattle.units.specs.declared.Watts.{Watts}
+use Rattle.kilowatts.specs.declared.Kw.{Kw}
+use Rattle.energy.specs.declared.Watts.{Watts}
 use Rattle.model.specs.Case.{Six}
 use Rattle.model.specs.Messages.{Counts, DeviceChoice}
 

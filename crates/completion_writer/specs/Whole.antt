@@ -10,9 +10,10 @@ use Rattle.numbers.specs.Base.{range, upTo, gather}
 use Rattle.numbers.specs.Gather.{gather-map, gather-gather}
 use Rattle.numbers.specs.Ranges.{sum-last, sum-more, sum-rises, gather-last}
 use Rattle.layouts.specs.Layout.{bytes, int, _then_, list, held, any}
-use Rattle.units.specs.declared.Kw.{Kw}
-use Rattle.units.specs.declared.Watts.{Watts}
-use Rattle.units.specs.Units.{kw, watts}
+use Rattle.kilowatts.specs.declared.Kw.{Kw}
+use Rattle.energy.specs.declared.Watts.{Watts}
+use Rattle.kilowatts.specs.Power.{kw}
+use Rattle.energy.specs.Energy.{watts}
 use Rattle.model.specs.Case.{System, Six}
 use Rattle.model.specs.Forced.{intervals, devices, zones, device}
 use Rattle.model.specs.Rules.{blocks}

@@ -1,11 +1,11 @@
 // The fields of a completion's message, of every edition, written through a pen.
 use editions::device_bits;
 use editions::interval_bits;
+use energy::KwMin;
+use energy::Watts;
+use kilowatts::Kw;
 use pen::Pen;
 use pen::push;
-use units::Kw;
-use units::KwMin;
-use units::Watts;
 ghost use mathlib.Core.Path.{_≡_};
 ghost use mathlib.Core.List.{_++_};
 ghost use Prim.Native.Nat.{_+_, _*_, _^_, _≤_, _<_};

@@ -14,7 +14,7 @@ use records::MinimaRow;
 use records::SettingRow;
 use records::ZoneRow;
 use records::energies_at;
-use units::empty_ledger;
+use grains::empty_ledger;
 ghost use mathlib.Core.Path.{_≡_};
 ghost use Prim.Native.Nat.{_≤_};
 ghost use lib.ListN.{length};

@@ -10,8 +10,8 @@ use Rattle.layouts.specs.declared.Place.{Place}
 use Rattle.layouts.specs.Layout.{Layout, _then_, _▸_, held}
 use Rattle.model.specs.Case as M
 use Rattle.model.specs.Messages.{head, costs, ramps, zoneBits, apart, eight, kW}
-use Rattle.units.specs.declared.Kw.{Kw}
-use Rattle.units.specs.declared.Grains.{Grains}
+use Rattle.kilowatts.specs.declared.Kw.{Kw}
+use Rattle.grains.specs.declared.Grains.{Grains}
 use Rattle.records.specs.declared.State.{State}
 use Rattle.records.specs.declared.StartWindow.{StartWindow}
 use Rattle.records.specs.declared.EnergyWindow.{EnergyWindow}

@@ -7,9 +7,10 @@ use Rattle.layouts.specs.Layout.{Layout, _▸_, any}
 use Rattle.model.specs.Case as M
 use Rattle.model.specs.Messages.{eight, kW, zoneBits}
 use Rattle.ranges.specs.Kept.{reservesOf}
-use Rattle.units.specs.declared.Kw.{Kw}
-use Rattle.units.specs.declared.Grains.{Grains}
-use Rattle.units.specs.Units.{kw, grains}
+use Rattle.kilowatts.specs.declared.Kw.{Kw}
+use Rattle.grains.specs.declared.Grains.{Grains}
+use Rattle.kilowatts.specs.Power.{kw}
+use Rattle.grains.specs.Money.{grains}
 use Rattle.records.specs.declared.State.{State}
 use Rattle.records.specs.declared.StartWindow.{StartWindow}
 use Rattle.records.specs.declared.EnergyWindow.{EnergyWindow}

@@ -1,12 +1,15 @@
 // What a case says of a device ahead of its intervals, in every edition, as a record by value.
+use energy::KwMin;
 use fields::Figure;
 use fields::Went;
+use grains::Grains;
+use kilowatts::Kw;
 use layouts::Place;
 use list_reader::ItemsRead;
 use list_reader::Listed;
 use records::Device;
-use units::Grains;
-use units::Kw;
+use grains::Grains;
+use kilowatts::Kw;
 ghost use mathlib.Core.Path.{_≡_};
 ghost use mathlib.Core.Bool.{true};
 ghost use Prim.Native.Nat.{_-_, _*_, _%_, _^_, _≤_};

@@ -6,7 +6,7 @@ use Prim.Native.Nat.{ℕ, _*_, _≤_, _<_}
 use lib.Dec.{T, eqb}
 use lib.ListN.{getD, length}
 use Rattle.numbers.specs.Base.{implies}
-use Rattle.units.specs.Units.{kw}
+use Rattle.kilowatts.specs.Power.{kw}
 use Rattle.records.specs.Figures.{cellOf, settingOf, startedAt, stoppedAt, previousAt}
 use Rattle.records.specs.declared.Cell.{Cell}
 use Rattle.records.specs.declared.Setting.{Setting}

@@ -5,7 +5,7 @@ ghost use mathlib.Core.List.{[]};
 ghost use Prim.Native.Nat.{_*_, _≤_, _<_};
 ghost use lib.Dec.{eqb, leb};
 ghost use lib.ListN.{getD, length};
-ghost use Rattle.units.specs.Units.{kw};
+ghost use Rattle.kilowatts.specs.Power.{kw};
 ghost use Rattle.numbers.specs.Base.{implies};
 ghost use Rattle.model.specs.Breaches.{failing};
 ghost use Rattle.records.specs.Figures.{previousAt};
@@ -17,6 +17,7 @@ ghost use Rattle.device_rules.specs.Whole.{AllFit, HeldTo};
 ghost use Rattle.device_rules.specs.Windows.{countedStart, startsAt, allStarts};
 use cell_rules::Bounds;
 use cell_rules::Moment;
+use kilowatts::Kw;
 use records::CellRow;
 use records::SettingRow;
 use records::StartWindow;
@@ -24,7 +25,6 @@ use records::cell_at;
 use records::setting_at;
 use records::started_at;
 use records::stopped_at;
-use units::Kw;
 
 // What must lie back: starts or stops, and by how many minutes.
 pub struct Rest {

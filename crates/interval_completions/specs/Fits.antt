@@ -5,8 +5,8 @@ use Prim.Native.Nat.{ℕ, _^_, _<_}
 use native.Mathlib.Omega.{arith}
 use lib.ListN.{length}
 use Rattle.numbers.specs.Laws.{maxZero}
-use Rattle.units.specs.declared.Watts.{Watts}
-use Rattle.units.specs.Units.{watts}
+use Rattle.energy.specs.declared.Watts.{Watts}
+use Rattle.energy.specs.Energy.{watts}
 use Rattle.model.specs.Case.{System, Plan, Case}
 use Rattle.model.specs.Forced as F
 use Rattle.model.specs.Completion.{Completion, shortfalls, shortfallNeed, mismatchNeed, rgu, rgd, scr, nsc, rru, rrd}

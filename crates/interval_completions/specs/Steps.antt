@@ -6,9 +6,9 @@ use native.Mathlib.Omega.{arith}
 use native.Mathlib.Nat.{mul-le-mul}
 use lib.ListN.{length, getD, take, drop}
 use Rattle.numbers.specs.Laws.{maxZero}
-use Rattle.units.specs.declared.Watts.{Watts}
-use Rattle.units.specs.declared.Ledger.{Ledger}
-use Rattle.units.specs.Units.{watts}
+use Rattle.energy.specs.declared.Watts.{Watts}
+use Rattle.grains.specs.declared.Ledger.{Ledger}
+use Rattle.energy.specs.Energy.{watts}
 use Rattle.layouts.specs.Layout.{any}
 use Rattle.model.specs.Case.{System, Plan, Case}
 use Rattle.model.specs.Completion.{Completion, shortfalls, shortfallNeed, mismatchNeed}

@@ -19,7 +19,7 @@ use slack_money::mismatch_money;
 use slack_money::zone_money;
 use slacks::mismatch;
 use slacks::shortfalls;
-use units::Kw;
+use kilowatts::Kw;
 ghost use mathlib.Core.Path.{_≡_};
 ghost use Prim.Native.Nat.{_*_, _<_};
 ghost use lib.ListN.{length, getD};

@@ -5,7 +5,7 @@ use layouts::Place;
 use records::EnergyWindow;
 use records::StartWindow;
 use records::State;
-use units::KwMin;
+use energy::KwMin;
 ghost use mathlib.Core.Path.{_≡_};
 ghost use mathlib.Core.Bool.{_&&_};
 ghost use lib.Dec.{leb};

@@ -7,9 +7,9 @@ use native.Mathlib.Nat.{mul-le-mul}
 use lib.ListN.{getD}
 use lib.IntN.{ℤ, pos, negℤ, _+ℤ_}
 use Rattle.numbers.specs.Laws as L
-use Rattle.units.specs.declared.Grains.{Grains}
-use Rattle.units.specs.declared.Ledger.{Ledger}
-use Rattle.units.specs.Units.{Ledgered}
+use Rattle.grains.specs.declared.Grains.{Grains}
+use Rattle.grains.specs.declared.Ledger.{Ledger}
+use Rattle.grains.specs.Money.{Ledgered}
 use Rattle.records.specs.declared.Device.{Device}
 use Rattle.records.specs.declared.Reserves.{Reserves}
 use Rattle.records.specs.declared.ReservePrices.{ReservePrices}

@@ -8,8 +8,8 @@ use Rattle.numbers.specs.Laws as L
 use Rattle.numbers.specs.Sum.{sumℤ}
 use Rattle.numbers.specs.Base.{range, upTo}
 use Rattle.numbers.specs.Ranges.{sumℤ-more}
-use Rattle.units.specs.Units.{balanceOf, Ledgered}
-use Rattle.units.specs.declared.Ledger.{Ledger}
+use Rattle.grains.specs.Money.{balanceOf, Ledgered}
+use Rattle.grains.specs.declared.Ledger.{Ledger}
 use Rattle.money.specs.Bounds.{roomMost, dayMost, day-fits}
 
 -- from l to r: z more in balance, and at most n more in credit and in debit

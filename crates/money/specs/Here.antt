@@ -3,7 +3,7 @@ use mathlib.Core.Path.{_≡_, sym, ap, _∙_}
 use mathlib.Core.List.{List, []}
 use Prim.Native.Nat.{ℕ, _+_, _*_, _<_}
 use lib.ListN.{length, getD}
-use Rattle.units.specs.declared.Ledger.{Ledger}
+use Rattle.grains.specs.declared.Ledger.{Ledger}
 use Rattle.model.specs.Case.{Plan, Case}
 use Rattle.records.specs.declared.Front.{Front}
 use Rattle.records.specs.declared.Cell.{Cell}

@@ -10,8 +10,8 @@ use lib.ListN.{getD, length}
 use lib.IntN.{ℤ, pos, natAbs}
 use Rattle.numbers.specs.State.{best, best-is}
 use Rattle.bits.specs.Pick.{pick}
-use Rattle.units.specs.declared.Kw.{Kw}
-use Rattle.units.specs.Units.{kw}
+use Rattle.kilowatts.specs.declared.Kw.{Kw}
+use Rattle.kilowatts.specs.Power.{kw}
 use Rattle.numbers.specs.Base.{range}
 use Rattle.model.specs.Case.{System, Plan, Case}
 use Rattle.model.specs.Forced.{devices, device, consuming, cap, u, uBefore, su, sd, power, duration}

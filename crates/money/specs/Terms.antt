@@ -12,7 +12,7 @@ use lib.IntN.{ℤ, pos, negℤ, _+ℤ_, _-ℤ_, _*ℤ_}
 use Rattle.numbers.specs.Z.{at, nat, _⊕_, _⊝_, neg, by≡}
 use Rattle.numbers.specs.Laws as L
 use Rattle.numbers.specs.Sum.{sumℤ, sumℕ}
-use Rattle.units.specs.declared.Ledger.{Ledger}
+use Rattle.grains.specs.declared.Ledger.{Ledger}
 use Rattle.numbers.specs.Base.{range}
 use Rattle.model.specs.Case as M
 use Rattle.model.specs.Case.{System, Plan, Case}

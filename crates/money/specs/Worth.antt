@@ -10,9 +10,9 @@ use lib.Dec.{eqb}
 use lib.ListN.{getD}
 use lib.IntN.{ℤ, pos, _-ℤ_}
 use Rattle.numbers.specs.Laws as L
-use Rattle.units.specs.declared.Kw.{Kw}
-use Rattle.units.specs.declared.Ledger.{Ledger}
-use Rattle.units.specs.Units.{Ledgered}
+use Rattle.kilowatts.specs.declared.Kw.{Kw}
+use Rattle.grains.specs.declared.Ledger.{Ledger}
+use Rattle.grains.specs.Money.{Ledgered}
 use Rattle.model.specs.Completion.{bySide}
 use Rattle.records.specs.Views.{priceOffset, numberOf}
 use Rattle.money.specs.Bounds.{powerMost, minutesMost, keptMost, worthMost, valueMost, blocksMost, tradeMost}

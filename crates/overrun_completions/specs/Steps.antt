@@ -5,7 +5,7 @@ use Prim.Native.Nat.{ℕ, _+_, _-_, _*_, _^_, _≤_, _<_}
 use native.Mathlib.Omega.{arith}
 use lib.ListN.{length, take, drop}
 use Rattle.numbers.specs.Laws.{maxZero}
-use Rattle.units.specs.declared.Ledger.{Ledger}
+use Rattle.grains.specs.declared.Ledger.{Ledger}
 use Rattle.layouts.specs.Layout.{any}
 use Rattle.model.specs.Case.{System, Plan, Case}
 use Rattle.model.specs.Completion.{Completion, overrunNeed}

@@ -1,4 +1,5 @@
 // The forced figures: S of each interval, and the power p of each device in each interval. A device's functions take its part of each table.
+use kilowatts::Kw;
 use records::CellRow;
 use records::DeviceRow;
 use records::SettingRow;
@@ -6,7 +7,6 @@ use records::device_at;
 use records::on_at;
 use records::online_at;
 use records::pmin_at;
-use units::Kw;
 ghost use mathlib.Core.Path.{_≡_};
 ghost use mathlib.Core.List.{[]};
 ghost use Prim.Native.Nat.{_+_, _-_, _*_, _<_, _≤_};

@@ -6,7 +6,7 @@ use native.Mathlib.Omega.{arith}
 use lib.IntN.{ℤ}
 use Rattle.numbers.specs.Sum.{sumℤ}
 use Rattle.numbers.specs.Base.{upTo}
-use Rattle.units.specs.declared.Ledger.{Ledger}
+use Rattle.grains.specs.declared.Ledger.{Ledger}
 use Rattle.pen.specs.Pens.{Ready, Pushes}
 use Rattle.pen.specs.Runs.{run, run-none, run-even, run-done, pushes-as}
 use Rattle.pen.specs.declared.Pen.{Pen}

@@ -9,9 +9,11 @@ use lib.ListN.{getD}
 use Rattle.bits.specs.Pick.{pick}
 use Rattle.numbers.specs.Base.{bit}
 use Rattle.model.specs.Editions.{mostStates, mostWindows}
-use Rattle.units.specs.declared.Kw.{Kw}
-use Rattle.units.specs.declared.Grains.{Grains}
-use Rattle.units.specs.Units.{kw, kwMin, grains}
+use Rattle.kilowatts.specs.declared.Kw.{Kw}
+use Rattle.grains.specs.declared.Grains.{Grains}
+use Rattle.kilowatts.specs.Power.{kw}
+use Rattle.energy.specs.Energy.{kwMin}
+use Rattle.grains.specs.Money.{grains}
 use Rattle.records.specs.declared.Reserves.{Reserves}
 use Rattle.records.specs.declared.ReservePrices.{ReservePrices}
 use Rattle.records.specs.declared.Cell.{Cell}

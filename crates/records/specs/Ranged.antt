@@ -20,8 +20,8 @@ use Rattle.model.specs.Completion as C
 use Rattle.ranges.specs.Ranges.{CaseRange, DeviceRange, DevicePriceRange, CellRange, CellPriceRange, SettingRange, ZoneRange, SharesRange, SixRange, Eight}
 use Rattle.ranges.specs.Kept.{kept-small}
 use Rattle.numbers.specs.Every.{all-at, all-or, all-getD}
-use Rattle.units.specs.declared.Kw.{Kw}
-use Rattle.units.specs.Units.{kw}
+use Rattle.kilowatts.specs.declared.Kw.{Kw}
+use Rattle.kilowatts.specs.Power.{kw}
 use Rattle.records.specs.declared.State.{State}
 use Rattle.records.specs.declared.Device.{Device}
 use Rattle.records.specs.declared.Front.{Front}

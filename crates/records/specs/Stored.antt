@@ -5,7 +5,7 @@ use Prim.Native.Nat.{ℕ, _≤_, _<_}
 use lib.ListN.{length, getD, take}
 use Rattle.numbers.specs.Rows.{tabbed}
 use Rattle.model.specs.Case as M
-use Rattle.units.specs.declared.Kw.{Kw}
+use Rattle.kilowatts.specs.declared.Kw.{Kw}
 use Rattle.records.specs.declared.Cell.{Cell}
 use Rattle.records.specs.Figures.{kwAt, cellOf, cellRow}
 use Rattle.records.specs.Views.{less, priceOffset, eightPricesIn, cellIn, cellPricesIn, Padded}

@@ -10,7 +10,7 @@ use Rattle.model.specs.Case.{System, Prices, Case, Plan}
 use Rattle.model.specs.Forced.{startOf, power}
 use Rattle.ranges.specs.Ranges.{CaseRange, SettingRange}
 use Rattle.numbers.specs.Rows.{rows}
-use Rattle.units.specs.declared.Kw.{Kw}
+use Rattle.kilowatts.specs.declared.Kw.{Kw}
 use Rattle.records.specs.declared.Reserves.{Reserves}
 use Rattle.records.specs.declared.ReservePrices.{ReservePrices}
 use Rattle.records.specs.declared.State.{State}

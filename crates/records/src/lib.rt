@@ -1,15 +1,15 @@
 // The rows of a decoded case and plan: their widths, the places of their figures, and the records taken from them. Nothing outside this crate knows a
 // place. At rest figures stand in lent slices of rows, device by device, zone by zone; counts are the slices' lengths. In flight they are structs by value.
-use units::Grains;
-use units::Kw;
-use units::KwMin;
+use energy::KwMin;
+use grains::Grains;
+use kilowatts::Kw;
 ghost use mathlib.Core.Path.{_≡_};
 ghost use mathlib.Core.List.{[]};
 ghost use Prim.Native.Nat.{_<_, _≤_, _^_};
 ghost use lib.Dec.{ltb};
 ghost use lib.ListN.{getD, length, set};
 ghost use Rattle.numbers.specs.Base.{bit};
-ghost use Rattle.units.specs.Units.{grains};
+ghost use Rattle.grains.specs.Money.{grains};
 ghost use Rattle.model.specs.Editions.{mostStates, mostWindows};
 ghost use Rattle.records.specs.Figures.{stateFigures, startFigures, energyFigures, EnergiesSmall, DeviceSmall, cellRow, settingRow, deviceRow, zoneRow, minimaRow, deviceWith, windowOf, statesOf, startsOf, energiesOf, limitsOf, cellOf, settingOf, deviceOf, stateOf, startOf, energyOf, zoneOf, minimaOf, pminAt, onAt, onlineAt, onBefore, startedAt, stoppedAt, sideAt, zonebitsAt};
 ghost use Rattle.records.specs.Figures.{on0At, minutes0At, oncostAt, startcostAt, stopcostAt, statesAt, stateAt, energiesAt, energyAt};

@@ -7,9 +7,10 @@ use native.Mathlib.Nat.{mul-le-mul, mul-comm}
 use lib.ListN.{getD, length}
 use lib.IntN.{ℤ, pos, negℤ, _*ℤ_}
 use Rattle.numbers.specs.Laws.{maxZero}
-use Rattle.units.specs.declared.Watts.{Watts}
-use Rattle.units.specs.declared.Ledger.{Ledger}
-use Rattle.units.specs.Units.{watts, Ledgered}
+use Rattle.energy.specs.declared.Watts.{Watts}
+use Rattle.grains.specs.declared.Ledger.{Ledger}
+use Rattle.energy.specs.Energy.{watts}
+use Rattle.grains.specs.Money.{Ledgered}
 use Rattle.model.specs.Case.{System, Plan, Case, Six}
 use Rattle.model.specs.Forced as F
 use Rattle.model.specs.Completion.{Shortfall, shortfalls, shortfallNeed, mismatchNeed, overrunNeed, shortfallCost, mismatchCost}

@@ -6,7 +6,7 @@ use native.Mathlib.Omega.{arith}
 use lib.ListN.{length}
 use lib.IntN.{ℤ, pos, negℤ, _+ℤ_, _-ℤ_, _*ℤ_}
 use Rattle.numbers.specs.Sum.{sumℤ, sum-add, sum-neg, sum-scale, sum-cong, sums-sub, sums-neg, all}
-use Rattle.units.specs.declared.Ledger.{Ledger}
+use Rattle.grains.specs.declared.Ledger.{Ledger}
 use Rattle.numbers.specs.Base.{upTo}
 use Rattle.model.specs.Case.{System, Plan, Case}
 use Rattle.model.specs.Forced.{intervals, devices, zones, device}

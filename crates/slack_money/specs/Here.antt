@@ -7,9 +7,9 @@ use lib.ListN.{length, getD}
 use lib.IntN.{negℤ}
 use Rattle.numbers.specs.Laws.{maxZero}
 use Rattle.numbers.specs.Sum.{sumℤ}
-use Rattle.units.specs.declared.Watts.{Watts}
-use Rattle.units.specs.declared.Ledger.{Ledger}
-use Rattle.units.specs.Units.{watts}
+use Rattle.energy.specs.declared.Watts.{Watts}
+use Rattle.grains.specs.declared.Ledger.{Ledger}
+use Rattle.energy.specs.Energy.{watts}
 use Rattle.numbers.specs.Base.{upTo}
 use Rattle.model.specs.Case.{System, Plan, Case}
 use Rattle.model.specs.Completion.{shortfalls, shortfallNeed, mismatchNeed, overrunNeed, shortfallCost, mismatchCost}

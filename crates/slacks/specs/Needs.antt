@@ -15,8 +15,9 @@ use Rattle.model.specs.Case as M
 use Rattle.model.specs.Case.{System, Plan, noMinima}
 use Rattle.model.specs.Forced.{devices as count, zone, consuming, member, setting, power}
 use Rattle.model.specs.Completion as C
-use Rattle.units.specs.declared.Watts.{Watts}
-use Rattle.units.specs.Units.{kw, watts}
+use Rattle.energy.specs.declared.Watts.{Watts}
+use Rattle.kilowatts.specs.Power.{kw}
+use Rattle.energy.specs.Energy.{watts}
 use Rattle.records.specs.declared.Front.{Front}
 use Rattle.records.specs.declared.Reserves.{Reserves}
 use Rattle.records.specs.declared.Zone.{Zone}

@@ -17,8 +17,8 @@ use Rattle.numbers.specs.Base.{range, upTo}
 use Rattle.model.specs.Case.{System, Plan}
 use Rattle.model.specs.Forced.{devices as count, consuming, power}
 use Rattle.model.specs.Completion as C
-use Rattle.units.specs.declared.Kw.{Kw}
-use Rattle.units.specs.Units.{kw}
+use Rattle.kilowatts.specs.declared.Kw.{Kw}
+use Rattle.kilowatts.specs.Power.{kw}
 use Rattle.records.specs.declared.Front.{Front}
 use Rattle.records.specs.Figures.{sideAt}
 use Rattle.numbers.specs.Parts.{place-inside}

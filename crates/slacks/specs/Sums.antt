@@ -11,8 +11,8 @@ use Rattle.numbers.specs.Sum.{gate}
 use Rattle.bits.specs.Pick.{pick}
 use Rattle.ranges.specs.Ranges.{SettingRange, Eight}
 use Rattle.numbers.specs.Every.{gate-le}
-use Rattle.units.specs.declared.Kw.{Kw}
-use Rattle.units.specs.Units.{kw}
+use Rattle.kilowatts.specs.declared.Kw.{Kw}
+use Rattle.kilowatts.specs.Power.{kw}
 use Rattle.records.specs.declared.Front.{Front}
 use Rattle.records.specs.declared.Reserves.{Reserves}
 use Rattle.records.specs.Figures.{sideAt, zonebitsAt, inZone, settingOf}

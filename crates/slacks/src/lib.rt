@@ -1,4 +1,7 @@
 // What a completion must cover: an interval's mismatch, a zone's shortfalls, an energy window's overrun, each at its need.
+use energy::KwMin;
+use energy::Watts;
+use kilowatts::Kw;
 use records::DeviceRow;
 use records::EnergyWindow;
 use records::Minima;
@@ -8,15 +11,12 @@ use records::Zone;
 use records::setting_at;
 use records::side_at;
 use records::zonebits_at;
-use units::Kw;
-use units::KwMin;
-use units::Watts;
 ghost use mathlib.Core.Path.{_≡_};
 ghost use Prim.Native.Nat.{_+_, _-_, _*_, _<_, _≤_, _^_};
 ghost use lib.ListN.{length, getD};
 ghost use Rattle.numbers.specs.Sum.{gate};
 ghost use Rattle.ranges.specs.Ranges.{Eight};
-ghost use Rattle.units.specs.Units.{watts};
+ghost use Rattle.energy.specs.Energy.{watts};
 ghost use Rattle.records.specs.Figures.{inZone};
 ghost use Rattle.records.specs.Views.{mostDevices, mostZones, mostPower, lastMinute, eightIn};
 ghost use Rattle.slacks.specs.Sides.{Powered, withSide, sidesTo, mismatchOf};

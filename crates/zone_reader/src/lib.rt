@@ -1,10 +1,10 @@
 // A zone of a case: its shares and prices by value, its minima in its part of the table.
 use fields::Went;
+use kilowatts::Kw;
 use layouts::Place;
 use records::Minima;
 use records::MinimaRow;
 use records::Zone;
-use units::Kw;
 ghost use mathlib.Core.Path.{_≡_};
 ghost use mathlib.Core.List.{map};
 ghost use Prim.Native.Nat.{_≤_};

@@ -3,9 +3,9 @@ use Prim.Native.Nat.{ℕ}
 use mathlib.Core.Path.{_≡_, refl, _∙_}
 use mathlib.Core.List.{List, []}
 use lib.ListN.{getD}
-use Rattle.units.specs.declared.Kw.{Kw}
-use Rattle.units.specs.declared.Grains.{Grains}
-use Rattle.units.specs.Units.{grains}
+use Rattle.kilowatts.specs.declared.Kw.{Kw}
+use Rattle.grains.specs.declared.Grains.{Grains}
+use Rattle.grains.specs.Money.{grains}
 use Rattle.records.specs.declared.State.{State}
 use Rattle.records.specs.declared.StartWindow.{StartWindow}
 use Rattle.records.specs.declared.EnergyWindow.{EnergyWindow}

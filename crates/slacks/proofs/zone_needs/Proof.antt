@@ -2,7 +2,7 @@
 use Prim.Native.Nat.{ℕ, _+_, _-_, _*_}
 use mathlib.Core.Path.{_≡_, ap, ap₂, _∙_}
 use lib.ListN.{getD}
-use Rattle.units.specs.Units.{watts}
+use Rattle.energy.specs.Energy.{watts}
 use Rattle.slacks.specs.Needs.{six-made}
 use borrow.Author.Needs.{needs}
 use Rattle.slacks.proofs.zone_needs.Statement.{statement}

@@ -2,9 +2,9 @@
 use mathlib.Core.Path.{refl}
 use native.Mathlib.Omega.{arith}
 use borrow.Author.Needs.{needs}
-use Rattle.units.proofs.Products.{product-below}
-use Rattle.units.proofs.product.Statement.{statement}
-use Rattle.units.proofs.product.Tie as tie
+use Rattle.grains.specs.Products.{product-below}
+use Rattle.grains.proofs.product.Statement.{statement}
+use Rattle.grains.proofs.product.Tie as tie
 
 wide-requires : tie.Need-wide-requires
 wide-requires c κs = search needs

@@ -1,10 +1,10 @@
 -- A rate below 2^44 over fewer than 2^20 minutes is money below 2^64.
 use mathlib.Core.Path.{refl}
 use native.Mathlib.Omega.{arith}
-use Rattle.units.proofs.Products.{product-below}
+use Rattle.grains.specs.Products.{product-below}
 use borrow.Author.Needs.{needs}
-use Rattle.units.proofs.Rate.over.Statement.{statement}
-use Rattle.units.proofs.Rate.over.Tie as tie
+use Rattle.grains.proofs.Rate.over.Statement.{statement}
+use Rattle.grains.proofs.Rate.over.Tie as tie
 
 wide-requires : tie.Need-wide-requires
 wide-requires c κs = search needs

@@ -10,8 +10,8 @@ use mir.Val.{toZ}
 use mir.ValLaws.{toZ-ofZ}
 use Rattle.numbers.specs.Z.{whole, n-, n~}
 use Rattle.numbers.specs.Bounds.{le-abs, fits64}
-use Rattle.units.proofs.Ledger.balance.Statement.{statement}
-use Rattle.units.proofs.Ledger.balance.Tie as tie
+use Rattle.grains.proofs.Ledger.balance.Statement.{statement}
+use Rattle.grains.proofs.Ledger.balance.Tie as tie
 
 module _ (a b : ℕ) (h : a < 2 ^ 63) (k : b < 2 ^ 63) where
   as-is : toZ w64 a -ℤ toZ w64 b ≡ pos a -ℤ pos b

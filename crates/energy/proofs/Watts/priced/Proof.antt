@@ -2,9 +2,9 @@
 use mathlib.Core.Path.{refl}
 use native.Mathlib.Omega.{arith}
 use borrow.Author.Needs.{needs}
-use Rattle.units.proofs.Products.{product-below}
-use Rattle.units.proofs.Watts.priced.Statement.{statement}
-use Rattle.units.proofs.Watts.priced.Tie as tie
+use Rattle.grains.specs.Products.{product-below}
+use Rattle.energy.proofs.Watts.priced.Statement.{statement}
+use Rattle.energy.proofs.Watts.priced.Tie as tie
 
 wide-requires : tie.Need-wide-requires
 wide-requires c κs = search needs
@@ -13,15 +13,15 @@ wide-requires-2 : tie.Need-wide-requires-2
 wide-requires-2 c κs = search needs
 
 mul-t6 : tie.Need-mul-t6
-mul-t6 c = let p = c .before .before .before .pre in rw (c .before .wide2 .ensures .0) (omega (arith, product-below 14 36 (p .1) (p .0)))
+mul-t6 c = let p = c .before .before .before .pre in rw (c .before .wide2 .ensures) (omega (arith, product-below 14 36 (p .1) (p .0)))
 
 mul-t7 : tie.Need-mul-t7
 mul-t7 c =
     let p = c .before .before .before .pre in
-    rw (c .before .before .wide .ensures .0, c .before .wide2 .ensures .0) (omega (arith, product-below 14 50 (p .2) (product-below 14 36 (p .1) (p .0))))
+    rw (c .before .before .wide .ensures, c .before .wide2 .ensures) (omega (arith, product-below 14 50 (p .2) (product-below 14 36 (p .1) (p .0))))
 
 returns : tie.Need-returns
-returns c = rw (c .before .before .wide .ensures .0, c .before .wide2 .ensures .0) refl
+returns c = rw (c .before .before .wide .ensures, c .before .wide2 .ensures) refl
 
 pub priced-spec : {M : Type 1} → statement M
 priced-spec = tie.close (tie.spec wide-requires wide-requires-2 mul-t6 mul-t7 returns)
