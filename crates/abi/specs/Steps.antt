@@ -35,7 +35,8 @@ set-in xs i k a h = rw (length-set xs k a) h
 pub told-accepted : {v : Verdict} {z : ℤ} {n : ℕ} → v ≡ Accepted z → n ≡ toTwos 64 z → record { word = 0; first = n; second = 0; third = 0; fourth = 0 } ≡ toldOf v
 told-accepted e f = rw (e, f) refl
 
-pub told-refused : {v : Verdict} {s : Subject} {f : Fault} {w n m : ℕ} → v ≡ Refused s f → w ≡ wordOf s → n ≡ numberOf f → m ≡ returnedBy f → record { word = w; first = n; second = m; third = 0; fourth = 0 } ≡ toldOf v
+pub told-refused : {v : Verdict} {s : Subject} {f : Fault} {w n m : ℕ} → v ≡ Refused s f → w ≡ wordOf s → n ≡ numberOf f → m ≡ returnedBy f
+    → record { word = w; first = n; second = m; third = 0; fourth = 0 } ≡ toldOf v
 told-refused e g h k = rw (e, g, h, k) refl
 
 pub told-fault : {x : Inspected} {f : Fault} {n m : ℕ} → x ≡ I.Refused f → n ≡ numberOf f → m ≡ returnedBy f → record { word = 2; first = n; second = m; third = 0; fourth = 0 } ≡ toldCase x
@@ -46,7 +47,8 @@ module _ (cs ps before figures : List ℕ) where
   pub judges-short : length figures < 4 → HostJudges cs ps before before figures figures 5
   judges-short h = record { short = λ _. (refl, refl, refl); judges = λ k. absurd (omega (arith, h, k)) }
 
-  pub judges-told : {after told : List ℕ} {t : Told} (v : Verdict) → 4 ≤ length figures → Judges batch cs ps before after v → t ≡ toldOf v → told ≡ figuresOf t ++ drop 4 figures → HostJudges cs ps before after figures told (t .word)
+  pub judges-told : {after told : List ℕ} {t : Told} (v : Verdict) → 4 ≤ length figures → Judges batch cs ps before after v → t ≡ toldOf v → told
+      ≡ figuresOf t ++ drop 4 figures → HostJudges cs ps before after figures told (t .word)
   judges-told v h j e f = record {
     short = λ k. absurd (omega (arith, h, k));
     judges = λ _. (v, j, ap (λ (x : Told). x .word) e, f ∙ ap (λ (x : Told). figuresOf x ++ drop 4 figures) e);
@@ -56,7 +58,8 @@ module _ (cs figures : List ℕ) where
   pub inspects-short : length figures < 4 → HostInspects cs figures figures 5
   inspects-short h = record { short = λ _. (refl, refl); inspects = λ k. absurd (omega (arith, h, k)) }
 
-  pub inspects-told : {told : List ℕ} {t : Told} {x : Inspected} → 4 ≤ length figures → x ≡ inspectedOf (statedIn batch cs) → t ≡ toldCase x → told ≡ figuresOf t ++ drop 4 figures → HostInspects cs figures told (t .word)
+  pub inspects-told : {told : List ℕ} {t : Told} {x : Inspected} → 4 ≤ length figures → x ≡ inspectedOf (statedIn batch cs) → t ≡ toldCase x → told
+      ≡ figuresOf t ++ drop 4 figures → HostInspects cs figures told (t .word)
   inspects-told {told} {t} {x} h i e f =
       let g : t ≡ toldCase (inspectedOf (statedIn batch cs)) = e ∙ ap toldCase i in
       record {

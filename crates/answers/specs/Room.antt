@@ -31,7 +31,8 @@ module _ (x : Stated) (r : SystemRange (x .case .system)) (few : devices (x .cas
   windows-few : energyWindows q ≤ 64
   unfolding energyWindows
   windows-few =
-      let s = sum-bound (λ i. length (device q i .energyWindows)) 4 (upTo (devices q)) (all-upTo _ (devices q) (λ i l. all-at (DeviceRange (length (q .halves))) noDevice (q .devices) (r .eachDevice) i l .energies)) in
+      let s = sum-bound (λ i. length (device q i .energyWindows)) 4 (upTo (devices q))
+      (all-upTo _ (devices q) (λ i l. all-at (DeviceRange (length (q .halves))) noDevice (q .devices) (r .eachDevice) i l .energies)) in
       omega (arith, s, length-range 0 (devices q), few)
 
   interval-few : intervalWidth (x .edition) (devices q) (zones q) ≤ 1983

@@ -112,7 +112,8 @@ module _ (s : List ℕ) (at : ℕ) (small : length s < 2 ^ 61) where
       let l = rest-long in
       let e = frame-cut (omega arith) in
       let r = reach-all rest (omega arith) in
-      rw e (refuses (sym (cut-in-length limit s at (omega (arith, reach-all s small)) (omega (arith, reach-all s small)))) (sym (cut-in-length limit rest 0 (omega (arith, r)) (omega (arith, r)))) refl)
+      rw e (refuses (sym (cut-in-length limit s at (omega (arith, reach-all s small)) (omega (arith, reach-all s small))))
+      (sym (cut-in-length limit rest 0 (omega (arith, r)) (omega (arith, r)))) refl)
 
   module _ (h : at + 3 ≤ length s) where
     here : 3 ≤ length rest

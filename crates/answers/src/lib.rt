@@ -163,7 +163,8 @@ pub fn answer_plan(
 ) -> PlanAnswer
     requires { ⌜ Decoded front (now halves) (now zones) (now minima) (now devices) (now cells) × Work (now halves) (now devices) (now settings) (now starts) (now powers) ⌝ }
     requires { ⌜ (length (now devices) ≤ batch .devices) × (length (now halves) ≤ batch .intervals) × (resultRoom ≤ length (now result)) × (lineRoom ≤ length (now out)) ⌝ }
-    ensures { λ r. ⌜ AnswersPlan (statedRows front (now (halves .entry)) (now (zones .entry)) (now (minima .entry)) (now (devices .entry)) (now (cells .entry))) index (now (frame .entry)) (now (result .entry)) (now (result .exit)) (now (out .entry)) (now (out .exit)) r ⌝ }
+    ensures { λ r. ⌜ AnswersPlan (statedRows front (now (halves .entry)) (now (zones .entry)) (now (minima .entry)) (now (devices .entry)) (now (cells .entry)))
+        index (now (frame .entry)) (now (result .entry)) (now (result .exit)) (now (out .entry)) (now (out .exit)) r ⌝ }
 {
     match layouts::frame_at(frame, 0, LIMIT) {
         Framed::End => PlanAnswer {

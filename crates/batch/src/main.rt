@@ -29,7 +29,8 @@ fn run_plans(
     frame: &mut [u8],
     left: u64,
 )
-    requires { ⌜ Decoded front (now halves) (now zones) (now minima) (now devices) (now cells) × Work (now halves) (now devices) (now settings) (now starts) (now powers) × (length (now devices) ≤ batch .devices) × (length (now halves) ≤ batch .intervals) ⌝ }
+    requires { ⌜ Decoded front (now halves) (now zones) (now minima) (now devices) (now cells)
+        × Work (now halves) (now devices) (now settings) (now starts) (now powers) × (length (now devices) ≤ batch .devices) × (length (now halves) ≤ batch .intervals) ⌝ }
     requires { ⌜ (length (now frame) ≡ frameRoom) × (left < 2 ^ 61) ⌝ }
 {
     let mut result = runner::result_buffer();

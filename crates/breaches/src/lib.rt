@@ -79,8 +79,10 @@ fn cell_check(
     a: usize,
     t: usize,
 ) -> Check
-    requires { ⌜ Ready front (now halves) (now zones) (now minima) (now devices) (now cells) (now settings) (now starts) (now powers) × (i < length (now devices)) × (a ≡ i * length (now halves)) × (t < length (now halves)) ⌝ }
-    ensures { λ r. ⌜ r ≡ first (cellBreaches (systemIn (now (halves .entry)) (now (zones .entry)) (now (minima .entry)) (now (devices .entry)) (now (cells .entry))) (planIn (length (now (devices .entry))) (length (now (halves .entry))) (now (settings .entry))) t i) ⌝ }
+    requires { ⌜ Ready front (now halves) (now zones) (now minima) (now devices) (now cells) (now settings) (now starts) (now powers)
+        × (i < length (now devices)) × (a ≡ i * length (now halves)) × (t < length (now halves)) ⌝ }
+    ensures { λ r. ⌜ r ≡ first (cellBreaches (systemIn (now (halves .entry)) (now (zones .entry)) (now (minima .entry)) (now (devices .entry))
+        (now (cells .entry))) (planIn (length (now (devices .entry))) (length (now (halves .entry))) (now (settings .entry))) t i) ⌝ }
 {
     let d = device_at(devices, i);
     let b = bounds_of(d);
@@ -112,7 +114,8 @@ fn interval_rules(
     t: usize,
 ) -> Check
     requires { ⌜ Ready front (now halves) (now zones) (now minima) (now devices) (now cells) (now settings) (now starts) (now powers) × (t < length (now halves)) ⌝ }
-    ensures { λ r. ⌜ r ≡ first (intervalBreaches (systemIn (now (halves .entry)) (now (zones .entry)) (now (minima .entry)) (now (devices .entry)) (now (cells .entry))) (planIn (length (now (devices .entry))) (length (now (halves .entry))) (now (settings .entry))) t) ⌝ }
+    ensures { λ r. ⌜ r ≡ first (intervalBreaches (systemIn (now (halves .entry)) (now (zones .entry)) (now (minima .entry)) (now (devices .entry))
+        (now (cells .entry))) (planIn (length (now (devices .entry))) (length (now (halves .entry))) (now (settings .entry))) t) ⌝ }
 {
     let mut i = 0;
     let mut a = 0;
@@ -153,7 +156,8 @@ fn day_rules(
     powers: &[u32],
 ) -> Check
     requires { ⌜ Ready front (now halves) (now zones) (now minima) (now devices) (now cells) (now settings) (now starts) (now powers) ⌝ }
-    ensures { λ r. ⌜ r ≡ first (dayBreaches (systemIn (now (halves .entry)) (now (zones .entry)) (now (minima .entry)) (now (devices .entry)) (now (cells .entry))) (planIn (length (now (devices .entry))) (length (now (halves .entry))) (now (settings .entry)))) ⌝ }
+    ensures { λ r. ⌜ r ≡ first (dayBreaches (systemIn (now (halves .entry)) (now (zones .entry)) (now (minima .entry)) (now (devices .entry))
+        (now (cells .entry))) (planIn (length (now (devices .entry))) (length (now (halves .entry))) (now (settings .entry)))) ⌝ }
 {
     let mut t = 0;
     while t < halves.len() {
@@ -223,7 +227,8 @@ fn window_check(
     a: usize,
 ) -> Check
     requires { ⌜ Ready front (now halves) (now zones) (now minima) (now devices) (now cells) (now settings) (now starts) (now powers) × (i < length (now devices)) × (a ≡ i * length (now halves)) ⌝ }
-    ensures { λ r. ⌜ r ≡ first (windowBreaches (systemIn (now (halves .entry)) (now (zones .entry)) (now (minima .entry)) (now (devices .entry)) (now (cells .entry))) (planIn (length (now (devices .entry))) (length (now (halves .entry))) (now (settings .entry))) i) ⌝ }
+    ensures { λ r. ⌜ r ≡ first (windowBreaches (systemIn (now (halves .entry)) (now (zones .entry)) (now (minima .entry)) (now (devices .entry))
+        (now (cells .entry))) (planIn (length (now (devices .entry))) (length (now (halves .entry))) (now (settings .entry))) i) ⌝ }
 {
     let d = device_at(devices, i);
     let e = a + halves.len();
@@ -243,7 +248,8 @@ fn window_rules(
     powers: &[u32],
 ) -> Check
     requires { ⌜ Ready front (now halves) (now zones) (now minima) (now devices) (now cells) (now settings) (now starts) (now powers) ⌝ }
-    ensures { λ r. ⌜ r ≡ first (dayWindows (systemIn (now (halves .entry)) (now (zones .entry)) (now (minima .entry)) (now (devices .entry)) (now (cells .entry))) (planIn (length (now (devices .entry))) (length (now (halves .entry))) (now (settings .entry)))) ⌝ }
+    ensures { λ r. ⌜ r ≡ first (dayWindows (systemIn (now (halves .entry)) (now (zones .entry)) (now (minima .entry)) (now (devices .entry))
+        (now (cells .entry))) (planIn (length (now (devices .entry))) (length (now (halves .entry))) (now (settings .entry)))) ⌝ }
 {
     let mut i = 0;
     let mut a = 0;
@@ -285,7 +291,8 @@ fn device_held(
     a: usize,
 ) -> bool
     requires { ⌜ Ready front (now halves) (now zones) (now minima) (now devices) (now cells) (now settings) (now starts) (now powers) × (i < length (now devices)) × (a ≡ i * length (now halves)) ⌝ }
-    ensures { λ r. ⌜ (r ≡ true → DeviceHolds (systemIn (now (halves .entry)) (now (zones .entry)) (now (minima .entry)) (now (devices .entry)) (now (cells .entry))) (planIn (length (now (devices .entry))) (length (now (halves .entry))) (now (settings .entry))) (length (now (halves .entry))) i) ⌝ }
+    ensures { λ r. ⌜ (r ≡ true → DeviceHolds (systemIn (now (halves .entry)) (now (zones .entry)) (now (minima .entry)) (now (devices .entry))
+        (now (cells .entry))) (planIn (length (now (devices .entry))) (length (now (halves .entry))) (now (settings .entry))) (length (now (halves .entry))) i) ⌝ }
 {
     let d = device_at(devices, i);
     let b = bounds_of(d);
@@ -315,7 +322,8 @@ pub fn no_breach(
     powers: &[u32],
 ) -> bool
     requires { ⌜ Ready front (now halves) (now zones) (now minima) (now devices) (now cells) (now settings) (now starts) (now powers) ⌝ }
-    ensures { λ r. ⌜ (r ≡ true → breaches (systemIn (now (halves .entry)) (now (zones .entry)) (now (minima .entry)) (now (devices .entry)) (now (cells .entry))) (planIn (length (now (devices .entry))) (length (now (halves .entry))) (now (settings .entry))) ≡ []) ⌝ }
+    ensures { λ r. ⌜ (r ≡ true → breaches (systemIn (now (halves .entry)) (now (zones .entry)) (now (minima .entry)) (now (devices .entry))
+        (now (cells .entry))) (planIn (length (now (devices .entry))) (length (now (halves .entry))) (now (settings .entry))) ≡ []) ⌝ }
 {
     let mut i = 0;
     let mut a = 0;
@@ -354,7 +362,8 @@ fn exact_breach(
     powers: &[u32],
 ) -> Check
     requires { ⌜ Ready front (now halves) (now zones) (now minima) (now devices) (now cells) (now settings) (now starts) (now powers) ⌝ }
-    ensures { λ r. ⌜ r ≡ first (breaches (systemIn (now (halves .entry)) (now (zones .entry)) (now (minima .entry)) (now (devices .entry)) (now (cells .entry))) (planIn (length (now (devices .entry))) (length (now (halves .entry))) (now (settings .entry)))) ⌝ }
+    ensures { λ r. ⌜ r ≡ first (breaches (systemIn (now (halves .entry)) (now (zones .entry)) (now (minima .entry)) (now (devices .entry)) (now (cells .entry)))
+        (planIn (length (now (devices .entry))) (length (now (halves .entry))) (now (settings .entry)))) ⌝ }
 {
     let r = day_rules(
         front,
@@ -396,7 +405,8 @@ pub fn first_breach(
     powers: &[u32],
 ) -> Check
     requires { ⌜ Ready front (now halves) (now zones) (now minima) (now devices) (now cells) (now settings) (now starts) (now powers) ⌝ }
-    ensures { λ r. ⌜ r ≡ first (breaches (systemIn (now (halves .entry)) (now (zones .entry)) (now (minima .entry)) (now (devices .entry)) (now (cells .entry))) (planIn (length (now (devices .entry))) (length (now (halves .entry))) (now (settings .entry)))) ⌝ }
+    ensures { λ r. ⌜ r ≡ first (breaches (systemIn (now (halves .entry)) (now (zones .entry)) (now (minima .entry)) (now (devices .entry)) (now (cells .entry)))
+        (planIn (length (now (devices .entry))) (length (now (halves .entry))) (now (settings .entry)))) ⌝ }
 {
     if no_breach(
         front,

@@ -14,20 +14,20 @@ use Rattle.records.specs.Figures.{deviceAt, energiesAt}
 use Rattle.numbers.specs.Ranges.{sum-next}
 use Rattle.records.specs.Views.{mostDevices, mostIntervals, systemIn, Counted, CaseRows}
 use Rattle.records.specs.Viewed as Viewed
-use Rattle.money.specs.Bounds.{zonesMost, windowsMost}
+use Rattle.model.specs.Editions.{mostZones, mostWindows}
 use Rattle.completion_writer.specs.Whole.{windowsOf, windowsTo, windows-all}
 use Rattle.overrun_completions.specs.Fits.{windows-are}
 
 pub record Few (halves : List ℕ) (zones devices : List (List ℕ)) : Type 0 where
   pub few-devices : length devices ≤ mostDevices
   pub few-intervals : length halves ≤ mostIntervals
-  pub few-zones : length zones ≤ zonesMost
+  pub few-zones : length zones ≤ mostZones
   pub counted : (i : ℕ) → i < length devices → Counted (deviceAt devices i)
 
 -- few devices with few energy windows each
 pub record FewWindows (devices : List (List ℕ)) : Type 0 where
   pub few : length devices ≤ mostDevices
-  pub each : (i : ℕ) → i < length devices → energiesAt devices i ≤ windowsMost
+  pub each : (i : ℕ) → i < length devices → energiesAt devices i ≤ mostWindows
 
 pub few-windows : {halves : List ℕ} {zones devices : List (List ℕ)} → Few halves zones devices → FewWindows devices
 few-windows f = record { few = f .few-devices; each = λ i l. f .counted i l .few-energies }
@@ -39,14 +39,14 @@ windowsUpTo devices n = sumℕ (energiesAt devices) (upTo n)
 -- what the loop over the devices has
 pub record CountedTo (devices : List (List ℕ)) (i n : ℕ) : Type 0 where
   pub is : n ≡ windowsUpTo devices i
-  pub small : n ≤ i * windowsMost
+  pub small : n ≤ i * mostWindows
 
 module _ (devices : List (List ℕ)) where
   pub count-none : CountedTo devices 0 0
   unfolding windowsUpTo range
   count-none = record { is = refl; small = omega arith }
 
-  pub count-next : (i : ℕ) {n m : ℕ} → CountedTo devices i n → m ≡ energiesAt devices i → energiesAt devices i ≤ windowsMost → CountedTo devices (i + 1) (n + m)
+  pub count-next : (i : ℕ) {n m : ℕ} → CountedTo devices i n → m ≡ energiesAt devices i → energiesAt devices i ≤ mostWindows → CountedTo devices (i + 1) (n + m)
   unfolding windowsUpTo
   count-next i h e l = record { is = sum-next (energiesAt devices) i (h .is) e; small = omega (arith, h .small) }
 

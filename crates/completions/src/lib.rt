@@ -2,6 +2,7 @@
 use completion_writer::bytes_needed;
 use completion_writer::put_front;
 use completion_writer::put_surplus;
+use grains::empty_ledger;
 use interval_completions::complete_intervals;
 use overrun_completions::complete_overruns;
 use pen::Pen;
@@ -14,7 +15,6 @@ use records::MinimaRow;
 use records::SettingRow;
 use records::ZoneRow;
 use records::energies_at;
-use grains::empty_ledger;
 ghost use mathlib.Core.Path.{_≡_};
 ghost use Prim.Native.Nat.{_≤_};
 ghost use lib.ListN.{length};

@@ -79,7 +79,8 @@ fn run_plans(
     frame: &mut [u8],
     left: u64,
 ) -> u64
-    requires { ⌜ Decoded front (now halves) (now zones) (now minima) (now devices) (now cells) × Work (now halves) (now devices) (now settings) (now starts) (now powers) × (length (now devices) ≤ batch .devices) × (length (now halves) ≤ batch .intervals) ⌝ }
+    requires { ⌜ Decoded front (now halves) (now zones) (now minima) (now devices) (now cells)
+        × Work (now halves) (now devices) (now settings) (now starts) (now powers) × (length (now devices) ≤ batch .devices) × (length (now halves) ≤ batch .intervals) ⌝ }
     requires { ⌜ (length (now frame) ≡ frameRoom) × (left < 2 ^ 32) ⌝ }
     ensures { λ r. ⌜ r < 2 ^ 32 ⌝ }
 {

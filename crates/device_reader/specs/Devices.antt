@@ -45,7 +45,8 @@ pub ahead-natural : (e zones last : ℕ) → Natural (ahead e zones last)
 unfolding apart
 ahead-natural e zones last =
     then-natural (head-natural zones) (λ a. then-natural costs-natural (λ b. then-natural (eight-natural (nat-natural _)) (λ c.
-    then-natural (held-natural _ _ (counted-natural _ (item-natural States e last))) (λ d. then-natural (counted-natural _ (item-natural Starts e last)) (λ f. counted-natural _ (item-natural Energies e last))))))
+    then-natural (held-natural _ _ (counted-natural _ (item-natural States e last)))
+    (λ d. then-natural (counted-natural _ (item-natural Starts e last)) (λ f. counted-natural _ (item-natural Energies e last))))))
 
 pub cell-natural : (e : ℕ) → Natural (cell e)
 unfolding L.cell apart

@@ -35,7 +35,8 @@ use Rattle.choices.specs.Here.{cell-here, choice-learnt}
 use Rattle.slacks.specs.Sides.{sidesTo, mismatchOf, mismatch-is}
 use Rattle.slacks.specs.Sums.{sumsTo}
 use Rattle.slacks.specs.Needs.{Thousandths, zoneNeeds, thousandths, shortfalls-are}
-use Rattle.money.specs.Bounds.{zonesMost, cellMost, zoneMost}
+use Rattle.model.specs.Editions.{mostZones}
+use Rattle.money.specs.Bounds.{cellMost, zoneMost}
 use Rattle.money.specs.Unbroken.{Unbroken}
 use Rattle.money.specs.Ruled.{Ruled}
 use Rattle.money.specs.Terms.{cellBalance, CellEntered}
@@ -126,7 +127,7 @@ module _ {front : Front} {halves : List ℕ} {zones minima devices cells setting
       pub in-minima : k < length minima
       in-minima = omega (arith, place-inside m z (length zones) t l h, u .ready .case-rows .minima-full)
 
-      pub next-small : k + m ≤ (zonesMost + 1) * mostIntervals
+      pub next-small : k + m ≤ (mostZones + 1) * mostIntervals
       next-small =
           let few = u .ready .case-rows .few-intervals in
           omega (arith, place-inside m z (length zones) t l h, mul-le-mul (u .ready .case-rows .few-zones) few, few)

@@ -3,6 +3,7 @@ use choices::choose;
 use completion_writer::put_choice;
 use completion_writer::put_mismatch;
 use completion_writer::put_shortfalls;
+use kilowatts::Kw;
 use money::cell_money;
 use progress::Progress;
 use records::CellRow;
@@ -19,14 +20,14 @@ use slack_money::mismatch_money;
 use slack_money::zone_money;
 use slacks::mismatch;
 use slacks::shortfalls;
-use kilowatts::Kw;
 ghost use mathlib.Core.Path.{_≡_};
 ghost use Prim.Native.Nat.{_*_, _<_};
 ghost use lib.ListN.{length, getD};
 ghost use Rattle.pen.specs.Pens.{Ready};
 ghost use Rattle.pen.specs.Runs.{Room};
 ghost use Rattle.records.specs.Views.{mostDevices, mostIntervals};
-ghost use Rattle.money.specs.Bounds.{zonesMost, cellMost, zoneMost, intervalMost};
+ghost use Rattle.model.specs.Editions.{mostZones};
+ghost use Rattle.money.specs.Bounds.{cellMost, zoneMost, intervalMost};
 ghost use Rattle.money.specs.Entries.{Spare};
 ghost use Rattle.money.specs.Unbroken.{Unbroken};
 ghost use Rattle.completion_writer.specs.Size.{deviceWidth, zoneWidth, intervalWidth};
@@ -96,7 +97,7 @@ fn complete_zones(
 ) -> Progress
     requires { ⌜ Unbroken front (now halves) (now zones) (now minima) (now devices) (now cells) (now settings) (now starts) (now powers) × (t < length (now halves))
         × (minutes ≡ 2 * getD (now halves) t 0) ⌝ }
-    requires { ⌜ Ready (p .pen) × Room (now buf) (p .pen) (length (now zones) * zoneWidth) × Spare (zonesMost * zoneMost) (p .money) ⌝ }
+    requires { ⌜ Ready (p .pen) × Room (now buf) (p .pen) (length (now zones) * zoneWidth) × Spare (mostZones * zoneMost) (p .money) ⌝ }
     ensures { λ r. ⌜ ZonesAdvance front (now (halves .entry)) (now (zones .entry)) (now (minima .entry)) (now (devices .entry)) (now (cells .entry)) (now (settings .entry)) t
         (length (now (zones .entry))) (now (buf .entry)) (now (buf .exit)) p r ⌝ }
 {

@@ -117,7 +117,8 @@ own-bits s bs q h w f =
     let n : q .at ≡ length bs = omega (arith, w .ends) in
     let r = w .has .room in
     let m = length-bytes bs in
-    let ok : All (λ b. b < 2) bs = all-each (λ b. b < 2) 0 bs (λ k l. let t : 0 + k ≡ k = omega arith in let e : bitAt s k ≡ getD bs k 0 = rw t at (w .has .bits k l) in let u = bit-lt s k in omega arith) in
+    let ok : All (λ b. b < 2) bs = all-each (λ b. b < 2) 0 bs (λ k l. let t : 0 + k ≡ k = omega arith in
+    let e : bitAt s k ≡ getD bs k 0 = rw t at (w .has .bits k l) in let u = bit-lt s k in omega arith) in
     let l = f .last in
     same-bytes (bytes bs) s (bytes-small bs ok) h (omega arith) (λ i j. bit-bytes bs ok i ∙ elim (decLe (suc i) (length bs)) [
       | yes k ↦ sym (let t : 0 + i ≡ i = omega arith in rw t at (w .has .bits i k))

@@ -45,7 +45,8 @@ spelt (suc r) (suc k) n h f g =
     let few : 10 ≤ n = omega arith in
     let below : n / 10 < 10 ^ suc r = omega arith in
     let least : 10 ^ r ≤ n / 10 = omega arith in
-    rw (le-ltb n 10 few) (ap (λ (l : List ℕ). l ++ (glyph (n % 10) ∷ [])) (spelt r k (n / 10) (omega arith) below (λ _. least)) ∙ ap (λ (d : ℕ). decimalWithin k (n / 10) ++ (d ∷ [])) (glyph-is (n % 10) (omega arith)))
+    rw (le-ltb n 10 few) (ap (λ (l : List ℕ). l ++ (glyph (n % 10) ∷ [])) (spelt r k (n / 10) (omega arith) below (λ _. least))
+    ∙ ap (λ (d : ℕ). decimalWithin k (n / 10) ++ (d ∷ [])) (glyph-is (n % 10) (omega arith)))
   where
     pow-one : (r : ℕ) → 1 ≤ 10 ^ r
     pow-one zero = omega arith

@@ -44,7 +44,8 @@ module _ {room more : ℕ} {t u a b c : List ℕ} {at m n : ℕ} (p : Puts room 
   behind = record {
     moved = q .moved ∙ place;
     short = omega (arith, length-append t u, p .short, q .short);
-    bytes = q .bytes ∙ rw (front, back, place) (append-assoc (take at a) t (u ++ drop (at + length (t ++ u)) a) ∙ ap (λ (l : List ℕ). take at a ++ l) (sym (append-assoc t u (drop (at + length (t ++ u)) a))));
+    bytes = q .bytes ∙ rw (front, back, place) (append-assoc (take at a) t (u ++ drop (at + length (t ++ u)) a)
+        ∙ ap (λ (l : List ℕ). take at a ++ l) (sym (append-assoc t u (drop (at + length (t ++ u)) a))));
   }
 
 -- a line from a buffer's front

@@ -79,7 +79,8 @@ fn put_word(out: &mut [u8], at: usize, word: &[u8], figures: &[u64]) -> usize
 // An index, a word and numbers.
 fn put_indexed(out: &mut [u8], index: u64, word: &[u8], figures: &[u64]) -> usize
     requires { ⌜ 20 + (length (now word) + 21 * length (now figures) + 1) ≤ length (now out) ⌝ }
-    ensures { λ r. ⌜ Puts (20 + (length (now (word .entry)) + 21 * length (now (figures .entry)) + 1)) (decimal index ++ wordLine (now (word .entry)) (now (figures .entry))) (now (out .entry)) (now (out .exit)) 0 r ⌝ }
+    ensures { λ r. ⌜ Puts (20 + (length (now (word .entry)) + 21 * length (now (figures .entry)) + 1))
+        (decimal index ++ wordLine (now (word .entry)) (now (figures .entry))) (now (out .entry)) (now (out .exit)) 0 r ⌝ }
 {
     let at = put_number(out, 0, index);
     put_word(out, at, word, figures)

@@ -1,11 +1,11 @@
 // The lists of a device: startup states, start windows, energy windows, each as a count and that many, in every edition.
+use energy::KwMin;
 use fields::Figure;
 use fields::Went;
 use layouts::Place;
 use records::EnergyWindow;
 use records::StartWindow;
 use records::State;
-use energy::KwMin;
 ghost use mathlib.Core.Path.{_≡_};
 ghost use mathlib.Core.Bool.{_&&_};
 ghost use lib.Dec.{leb};

@@ -11,7 +11,26 @@ use lib.Dec.{T, leb, eqb, leb→le, le→leb}
 use lib.ListN.{length}
 use Rattle.numbers.specs.Sum.{All, all-map, all-zip}
 use Rattle.numbers.specs.Base.{range, upTo, gather}
-use Rattle.numbers.specs.Every.{all-in, all-of, all-upTo, all-range, range-all, map-of-all, all-append, all-gather, has, in-list, in-map, in-gather, in-range, Ordered, ordered-append, ordered-gather, range-ordered, map-ordered}
+use Rattle.numbers.specs.Every.{
+  all-in,
+  all-of,
+  all-upTo,
+  all-range,
+  range-all,
+  map-of-all,
+  all-append,
+  all-gather,
+  has,
+  in-list,
+  in-map,
+  in-gather,
+  in-range,
+  Ordered,
+  ordered-append,
+  ordered-gather,
+  range-ordered,
+  map-ordered,
+}
 use Rattle.model.specs.declared.Breach.{Breach}
 use Rattle.model.specs.Case.{System, Plan}
 use Rattle.model.specs.Forced.{intervals, devices, device}
@@ -49,7 +68,8 @@ module _ (R : ℕ → Type 0) where
   failing-in [] h n m f = absurd (List·Memᴰ·not-nil m)
   failing-in (x ∷ ns) h n m f = go (x .1) (h .0) (λ k. failing-in ns (h .1) n k f) (List·Memᴰ·cases-cons m)
     where
-      go : (b : Bool) → Decides (R (x .0)) b → (List·Memᴰ n (map (λ n. n .0) ns) → List·Memᴰ n (failing ns)) → (n ≡ x .0) ⊎ List·Memᴰ n (map (λ n. n .0) ns) → List·Memᴰ n (unless b (x .0) (failing ns))
+      go : (b : Bool) → Decides (R (x .0)) b → (List·Memᴰ n (map (λ n. n .0) ns) → List·Memᴰ n (failing ns)) → (n ≡ x .0) ⊎ List·Memᴰ n (map (λ n. n .0) ns)
+          → List·Memᴰ n (unless b (x .0) (failing ns))
       go true d r (inl e) = absurd (f (rw e (d .yes tt)))
       go true d r (inr k) = r k
       go false d r (inl e) = List·Memᴰ·head e

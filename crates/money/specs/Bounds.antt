@@ -4,55 +4,28 @@
 -- its credits are of cells alone, at most 1.8·10^16. Both stay below 2^62, which is 4.6·10^18.
 use Prim.Native.Nat.{ℕ, _+_, _*_, _^_, _<_}
 use native.Mathlib.Omega.{arith}
-use Rattle.records.specs.Views.{priceOffset, costOffset, mostDevices, mostIntervals}
+-- the greatest figures that pass reading, by the names that money has for them
+pub use Rattle.theorems.specs.Sizes.{
+  mostPower as powerMost,
+  mostMinutes as minutesMost,
+  mostPrice as priceMost,
+  mostShortfallPrice as shortPriceMost,
+  mostOnCost as rateMost,
+  mostChange as costMost,
+  mostEnergy as limitMost,
+  mostShare as shareMost,
+}
+use Rattle.records.specs.Views.{priceOffset, costOffset, mostDevices, mostIntervals, mostZones, mostWindows}
 
 -- ---- figures
-
--- kW: p of a device where no rule is broken, a block, a reserve
-abbrev pub powerMost : ℕ
-powerMost = 100000
-
--- minutes of an interval
-abbrev pub minutesMost : ℕ
-minutesMost = 360
-
--- grains per kW·min: blocks (on either side of 0), reserves, mismatch, overrun
-abbrev pub priceMost : ℕ
-priceMost = 10000
 
 -- a block's price kept from 0
 abbrev pub keptMost : ℕ
 keptMost = priceOffset + priceMost
 
--- grains per W·min
-abbrev pub shortPriceMost : ℕ
-shortPriceMost = 100
-
--- grains a minute: on cost
-abbrev pub rateMost : ℕ
-rateMost = 100000
-
--- grains: start, stop and state costs, these on either side of 0
-abbrev pub costMost : ℕ
-costMost = 1000000000
-
--- kW·min: the limit of an energy window
-abbrev pub limitMost : ℕ
-limitMost = 4000000000
-
--- in thousandths: a share
-abbrev pub shareMost : ℕ
-shareMost = 1000
-
--- counts of blocks, zones and windows
+-- blocks of a device in an interval
 abbrev pub blocksMost : ℕ
 blocksMost = 4
-
-abbrev pub zonesMost : ℕ
-zonesMost = 4
-
-abbrev pub windowsMost : ℕ
-windowsMost = 4
 
 -- ---- what follows of them
 
@@ -110,10 +83,10 @@ abbrev pub overrunCostMost : ℕ
 overrunCostMost = limitMost * priceMost
 
 abbrev pub intervalMost : ℕ
-intervalMost = mostDevices * cellMost + zonesMost * zoneMost + mismatchCostMost
+intervalMost = mostDevices * cellMost + mostZones * zoneMost + mismatchCostMost
 
 abbrev pub windowsCostMost : ℕ
-windowsCostMost = windowsMost * overrunCostMost
+windowsCostMost = mostWindows * overrunCostMost
 
 abbrev pub dayMost : ℕ
 dayMost = mostIntervals * intervalMost + mostDevices * windowsCostMost

@@ -142,7 +142,8 @@ four-entries : {l a b e r : Ledger} (c : Case) (p : Plan) (t i : ℕ) → Entere
     → Entered b e (negℤ (onCost c p (our c p) t i)) onMost → Entered e r (negℤ (changeCost c p (our c p) t i)) changeMost → Entered l r (cellBalance c p t i) cellMost
 unfolding cellBalance
 four-entries c p t i f g h j =
-    entered-as (entered-then (entered-then (entered-then f g) h) j) (turn (blockWorth c p (our c p) t i) (onCost c p (our c p) t i) (changeCost c p (our c p) t i) (reservesCost c p (our c p) t i)) (omega arith)
+    entered-as (entered-then (entered-then (entered-then f g) h) j) (turn (blockWorth c p (our c p) t i) (onCost c p (our c p) t i)
+    (changeCost c p (our c p) t i) (reservesCost c p (our c p) t i)) (omega arith)
   where
     turn : (w o k v : ℤ) → negℤ v +ℤ w +ℤ negℤ o +ℤ negℤ k ≡ w -ℤ o -ℤ k -ℤ v
     turn w o k v = by≡ (neg (at v) ⊕ at w ⊕ neg (at o) ⊕ neg (at k)) (at w ⊝ at o ⊝ at k ⊝ at v) (omega arith)

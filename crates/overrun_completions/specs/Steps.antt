@@ -21,7 +21,8 @@ use Rattle.numbers.specs.Parts.{part-cut}
 use Rattle.records.specs.Views.{systemIn, caseIn, planIn}
 use Rattle.records.specs.Viewed as Viewed
 use Rattle.slacks.specs.Energies.{Running, running, energyTo, overOf, overrun-is}
-use Rattle.money.specs.Bounds.{windowsMost, overrunCostMost}
+use Rattle.model.specs.Editions.{mostWindows}
+use Rattle.money.specs.Bounds.{overrunCostMost}
 use Rattle.money.specs.Unbroken.{Unbroken}
 use Rattle.slack_money.specs.Charges.{OverrunOf, OverrunEntered, overrunBalance}
 use Rattle.slack_money.specs.Day.{windows-entered}
@@ -84,6 +85,6 @@ module _ {front : Front} {halves : List ℕ} {zones minima devices cells setting
     unfolding overrunBits
     windows-done {n} {b} {d} {r} {s} e h =
         let f : n ≡ windowsOf q i = e ∙ Fits.windows-are (u .ready .case-rows) i l in
-        let few : windowsOf q i ≤ windowsMost = omega (arith, Fits.windows-are (u .ready .case-rows) i l, u .ready .case-rows .counted i l .few-energies) in
+        let few : windowsOf q i ≤ mostWindows = omega (arith, Fits.windows-are (u .ready .case-rows) i l, u .ready .case-rows .counted i l .few-energies) in
         let g : FirstWindowsAdvance front halves zones minima devices cells settings i (windowsOf q i) b d r s = rw f at h in
         record { pushes = g .pushes; entered = windows-entered c p i few (g .entered) }

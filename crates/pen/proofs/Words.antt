@@ -34,7 +34,8 @@ behind before front at w v m t lf small e lt room =
 
 -- the eight stores of a word
 pub eight-sets : (l : List ℕ) (j v : ℕ)
-    → set (set (set (set (set (set (set (set l (j + 7) (v % 256)) (j + 6) (v / 2 ^ 8 % 256)) (j + 5) (v / 2 ^ 16 % 256)) (j + 4) (v / 2 ^ 24 % 256)) (j + 3) (v / 2 ^ 32 % 256)) (j + 2) (v / 2 ^ 40 % 256)) (j + 1) (v / 2 ^ 48 % 256)) j (v / 2 ^ 56 % 256)
+    → set (set (set (set (set (set (set (set l (j + 7) (v % 256)) (j + 6) (v / 2 ^ 8 % 256)) (j + 5) (v / 2 ^ 16 % 256)) (j + 4) (v / 2 ^ 24 % 256)) (j + 3)
+    (v / 2 ^ 32 % 256)) (j + 2) (v / 2 ^ 40 % 256)) (j + 1) (v / 2 ^ 48 % 256)) j (v / 2 ^ 56 % 256)
     ≡ stored l j 8 v
 unfolding stored
 eight-sets l j v =
@@ -129,7 +130,8 @@ module _ (p : Pen) (w v : ℕ) (ok : Ready p) (few : w ≤ 56) (small : v < 2 ^ 
             let long : length entry ≡ length before = length-penned W in
             record {
               front = W .front ++ bitsOf 64 word;
-              is = ap (λ (l : List ℕ). l ++ bitsOf w v) (W .is) ∙ (append-assoc (W .front) (bitsOf (p .n) (p .acc)) (bitsOf w v) ∙ (ap (λ (l : List ℕ). W .front ++ l) word-bits ∙ sym (append-assoc (W .front) (bitsOf 64 word) (bitsOf rest (v % 2 ^ rest)))));
+              is = ap (λ (l : List ℕ). l ++ bitsOf w v) (W .is) ∙ (append-assoc (W .front) (bitsOf (p .n) (p .acc)) (bitsOf w v)
+                  ∙ (ap (λ (l : List ℕ). W .front ++ l) word-bits ∙ sym (append-assoc (W .front) (bitsOf 64 word) (bitsOf rest (v % 2 ^ rest)))));
               whole = length-append (W .front) (bitsOf 64 word) ∙ omega (arith, W .whole, length-bits 64 word);
               binary = all-append (λ b. b < 2) (W .front) (bitsOf 64 word) (W .binary) (bits-small 64 word);
               wrote = x ∙ (ap (λ (l : List ℕ). stored l (p .at) 8 word) (W .wrote) ∙ (ap (λ (k : ℕ). stored (bytes (W .front) ++ drop (p .at) before) (p .at) 8 k) (sym (mul-one word))

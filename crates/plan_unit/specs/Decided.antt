@@ -87,7 +87,8 @@ module _ (front : Front) (halves : List ℕ) (zones minima devices cells setting
     ready-of d f = record { case-rows = d .decoded .rows; plan-rows = d .plan-rows; forced-rows = f .rows zones minima }
 
     -- none broken
-    pub kept-of : Decoded front halves zones minima devices cells → Ready front halves zones minima devices cells settings starts powers → {k : Check} → k ≡ first (breaches q p) → k ≡ K.Held → Kept starts powers
+    pub kept-of : Decoded front halves zones minima devices cells → Ready front halves zones minima devices cells settings starts powers → {k : Check} → k
+        ≡ first (breaches q p) → k ≡ K.Held → Kept starts powers
     kept-of d r e f = record { unbroken = record { ready = r; rules = none-every q p (none-first (breaches q p) e f) }; countable = d .countable }
 
     module _ (u : Kept starts powers) where

@@ -35,7 +35,8 @@ pub record Planned (front : Front) (halves : List ℕ) (zones minima devices cel
   pub starts-full : length starts ≡ length halves + 1
   pub powers-full : length powers ≡ length devices * length halves
 
-pub sound-rows : {front : Front} {halves : List ℕ} {zones minima devices cells : List (List ℕ)} → Decoded front halves zones minima devices cells → Sound (statedRows front halves zones minima devices cells)
+pub sound-rows : {front : Front} {halves : List ℕ} {zones minima devices cells : List (List ℕ)} → Decoded front halves zones minima devices cells
+    → Sound (statedRows front halves zones minima devices cells)
 sound-rows d = record { range = d .rows .range; countable = d .countable }
 
 -- ---- tables with room for more: a case in their first rows

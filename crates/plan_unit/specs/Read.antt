@@ -52,7 +52,8 @@ module _ {front : Front} {halves : List ℕ} {zones minima devices cells : List 
       let g : readPlan x ps ≡ fails f = sym plan-read ∙ ap (ended p) t in
       judges-plan d (rw g refl) (rw g refl)
 
-  pub plan-passes : {before after : List ℕ} {v : Verdict} → e ≡ Passes → Decides front halves zones minima devices cells settings before after v → JudgesPlan front halves zones minima devices cells ps before after v
+  pub plan-passes : {before after : List ℕ} {v : Verdict} → e ≡ Passes → Decides front halves zones minima devices cells settings before after v
+      → JudgesPlan front halves zones minima devices cells ps before after v
   plan-passes t k =
       let g : readPlan x ps ≡ passes p = sym plan-read ∙ ap (ended p) t in
       judges-plan d (rw g (k .verdict)) (rw g (k .result))

@@ -32,7 +32,8 @@ fn complete(
     result: &mut [u8],
 ) -> Verdict
     requires { ⌜ Kept front (now halves) (now zones) (now minima) (now devices) (now cells) (now settings) (now starts) (now powers) ⌝ }
-    ensures { λ r. ⌜ Decides front (now (halves .entry)) (now (zones .entry)) (now (minima .entry)) (now (devices .entry)) (now (cells .entry)) (now (settings .entry)) (now (result .entry)) (now (result .exit)) r ⌝ }
+    ensures { λ r. ⌜ Decides front (now (halves .entry)) (now (zones .entry)) (now (minima .entry)) (now (devices .entry)) (now (cells .entry))
+        (now (settings .entry)) (now (result .entry)) (now (result .exit)) r ⌝ }
 {
     let needed = completions::completion_bytes(front.edition, halves, zones, devices);
     if (result.len() as u64) < needed {
@@ -67,7 +68,8 @@ fn judge_settings(
     result: &mut [u8],
 ) -> Verdict
     requires { ⌜ Planned front (now halves) (now zones) (now minima) (now devices) (now cells) (now settings) (now starts) (now powers) ⌝ }
-    ensures { λ r. ⌜ Decides front (now (halves .entry)) (now (zones .entry)) (now (minima .entry)) (now (devices .entry)) (now (cells .entry)) (now (settings .entry)) (now (result .entry)) (now (result .exit)) r ⌝ }
+    ensures { λ r. ⌜ Decides front (now (halves .entry)) (now (zones .entry)) (now (minima .entry)) (now (devices .entry)) (now (cells .entry))
+        (now (settings .entry)) (now (result .entry)) (now (result .exit)) r ⌝ }
 {
     powers::force(halves, devices, cells, settings, starts, powers);
     let first = breaches::first_breach(
@@ -113,7 +115,8 @@ pub fn judge_plan(
     result: &mut [u8],
 ) -> Verdict
     requires { ⌜ Decoded front (now halves) (now zones) (now minima) (now devices) (now cells) × Work (now halves) (now devices) (now settings) (now starts) (now powers) ⌝ }
-    ensures { λ r. ⌜ JudgesPlan front (now (halves .entry)) (now (zones .entry)) (now (minima .entry)) (now (devices .entry)) (now (cells .entry)) (now (plan .entry)) (now (result .entry)) (now (result .exit)) r ⌝ }
+    ensures { λ r. ⌜ JudgesPlan front (now (halves .entry)) (now (zones .entry)) (now (minima .entry)) (now (devices .entry)) (now (cells .entry))
+        (now (plan .entry)) (now (result .entry)) (now (result .exit)) r ⌝ }
 {
     let n = devices.len();
     let m = halves.len();

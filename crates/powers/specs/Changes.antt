@@ -67,7 +67,8 @@ leaves-low r cells e h l = go (decLe e 0)
     go (yes z) = rw (eq-eqb e 0 (omega arith)) (h .power-small)
     go (no z) = rw (ne-eqb e 0 (λ q. omega arith)) (h .pmin-small (e - 1) (omega arith))
 
-module _ {r : Ramping} {cells : List (List ℕ)} {starts : List ℕ} {e : ℕ} {row : List ℕ} (h : Rampable r cells) (l : e < length cells) (c : Clock (length cells) starts) (n : length row ≡ length cells) (w : Low row) where
+module _ {r : Ramping} {cells : List (List ℕ)} {starts : List ℕ} {e : ℕ} {row : List ℕ} (h : Rampable r cells) (l : e < length cells)
+    (c : Clock (length cells) starts) (n : length row ≡ length cells) (w : Low row) where
   clock : Clock (length row) starts
   clock = rw n c
 
@@ -79,7 +80,8 @@ module _ {r : Ramping} {cells : List (List ℕ)} {starts : List ℕ} {e : ℕ} {
 
 -- a start, a stop, or neither
 module _ (r : Ramping) (cells : List (List ℕ)) (starts : List ℕ) (before on e : ℕ) where
-  pub started-adds : {power : ℕ} {old new : List ℕ} → before < on → power ≡ pminAt cells e → Raised (riseIn power (r .starting) starts e) 0 e old new → Changed (addedBy r cells starts before on e) old new
+  pub started-adds : {power : ℕ} {old new : List ℕ} → before < on → power ≡ pminAt cells e → Raised (riseIn power (r .starting) starts e) 0 e old new
+      → Changed (addedBy r cells starts before on e) old new
   unfolding addedBy
   started-adds {power} {old} {new} l z h = record { long = h .long; number = λ k. h .number k ∙ simp (z, lt-ltb before on l, le-ltb on before (omega arith), one-mul, zero-mul, add-zero) }
 

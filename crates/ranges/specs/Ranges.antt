@@ -23,7 +23,8 @@ pair-checked l m P Q u v = then-checked l (λ a. m) P (λ a. Q) u (λ a ok. v)
 
 counted-checked : {A : Type 0} (f : Field) (l : Layout A) (P : A → Type 0) → Checked l P → Checked (counted f l) (λ xs. (length xs ≤ f .high) × All P xs)
 unfolding counted
-counted-checked f l P u = held-checked _ _ _ _ _ (then-checked (nat f) (λ n. list n l) _ (λ n xs. (length xs ≡ n) × All P xs) (nat-checked f) (λ n ok. list-checked n l P u)) (λ a ok. (omega arith, ok .1 .1))
+counted-checked f l P u = held-checked _ _ _ _ _ (then-checked (nat f) (λ n. list n l) _ (λ n xs. (length xs ≡ n) × All P xs) (nat-checked f)
+    (λ n ok. list-checked n l P u)) (λ a ok. (omega arith, ok .1 .1))
 
 -- a cell: status, pmin and pmax, at most four blocks, each cap
 pub record CellRange (c : Cell) : Type 0 where
@@ -36,7 +37,11 @@ pub record CellRange (c : Cell) : Type 0 where
 apart-checked : {A B : Type 0} (l : Layout (List (A × B))) (n : ℕ) (P : A → Type 0) (Q : B → Type 0)
     → Checked l (λ xs. (length xs ≤ n) × All (λ x. P (x .0) × Q (x .1)) xs) → Checked (M.apart l) (λ v. (length (v .0) ≤ n) × All P (v .0) × All Q (v .1))
 unfolding M.apart
-apart-checked l n P Q u = held-checked _ _ _ _ _ u (λ xs ok. (rw length-map (ok .0), map-of-all P (λ x. x .0) xs (all-map (λ x k. k .0) xs (ok .1)), map-of-all Q (λ x. x .1) xs (all-map (λ x k. k .1) xs (ok .1))))
+apart-checked l n P Q u = held-checked _ _ _ _ _ u (λ xs ok. (
+  rw length-map (ok .0),
+  map-of-all P (λ x. x .0) xs (all-map (λ x k. k .0) xs (ok .1)),
+  map-of-all Q (λ x. x .1) xs (all-map (λ x k. k .1) xs (ok .1)),
+))
 
 figure-checked : (w low high : ℕ) → Checked (figure w low high) (λ v. v ≤ high)
 figure-checked w low high = weaken (figure w low high) _ _ (nat-checked (record { width = w; low = low; high = high; wrong = _ })) (λ a ok. ok .1)
@@ -56,7 +61,16 @@ eight-checked : (l : Layout ℕ) (P : ℕ → Type 0) → Checked l P → Checke
 unfolding M.eight
 eight-checked l P u = held-checked _ _ _ _ _
     (pair-checked _ _ _ _ u (pair-checked _ _ _ _ u (pair-checked _ _ _ _ u (pair-checked _ _ _ _ u (pair-checked _ _ _ _ u (pair-checked _ _ _ _ u (pair-checked _ _ _ _ u u)))))))
-    (λ v ok. record { rgu = ok .0; rgd = ok .1 .0; scr = ok .1 .1 .0; nsc = ok .1 .1 .1 .0; rruOn = ok .1 .1 .1 .1 .0; rruOff = ok .1 .1 .1 .1 .1 .0; rrdOn = ok .1 .1 .1 .1 .1 .1 .0; rrdOff = ok .1 .1 .1 .1 .1 .1 .1 })
+    (λ v ok. record {
+      rgu = ok .0;
+      rgd = ok .1 .0;
+      scr = ok .1 .1 .0;
+      nsc = ok .1 .1 .1 .0;
+      rruOn = ok .1 .1 .1 .1 .0;
+      rruOff = ok .1 .1 .1 .1 .1 .0;
+      rrdOn = ok .1 .1 .1 .1 .1 .1 .0;
+      rrdOff = ok .1 .1 .1 .1 .1 .1 .1;
+    })
 
 pub record CellPriceRange (c : CellPrices) : Type 0 where
   pub blocks : All (λ x. natAbs x ≤ 10000) (c .blocks)
@@ -125,7 +139,16 @@ unfolding M.head M.zoneBits
 head-checked zones = let f = figure-checked 16 0 60000 in let b = figure-checked 1 0 1 in held-checked _ _ _ _ _
     (pair-checked _ _ _ _ b (pair-checked _ _ _ _ (such-checked _ _ _ (figure-checked 4 0 15)) (pair-checked _ _ _ _ b (pair-checked _ _ _ _ (figure-checked 17 0 100000)
     (pair-checked _ _ _ _ f (pair-checked _ _ _ _ f (pair-checked _ _ _ _ f ramps-checked)))))))
-    (λ v ok. record { side = ok .0; zoneBits = ok .1 .0; on0 = ok .1 .1 .0; power0 = ok .1 .1 .1 .0; minutes0 = ok .1 .1 .1 .1 .0; minUp = ok .1 .1 .1 .1 .1 .0; minDown = ok .1 .1 .1 .1 .1 .1 .0; ramps = ok .1 .1 .1 .1 .1 .1 .1 })
+    (λ v ok. record {
+      side = ok .0;
+      zoneBits = ok .1 .0;
+      on0 = ok .1 .1 .0;
+      power0 = ok .1 .1 .1 .0;
+      minutes0 = ok .1 .1 .1 .1 .0;
+      minUp = ok .1 .1 .1 .1 .1 .0;
+      minDown = ok .1 .1 .1 .1 .1 .1 .0;
+      ramps = ok .1 .1 .1 .1 .1 .1 .1;
+    })
 
 costs-checked : Checked M.costs (λ x. (x .on ≤ 100000) × (x .start ≤ 1000000000) × (x .stop ≤ 1000000000))
 unfolding M.costs
@@ -148,7 +171,8 @@ energy-checked last = held-checked _ _ _ _ _ (pair-checked _ _ _ _ (figure-check
 some-checked : {A B : Type 0} (n : ℕ) (l : Layout (A × B)) (P : A → Type 0) (Q : B → Type 0) → Checked l (λ x. P (x .0) × Q (x .1))
     → Checked (M.apart (list n l)) (λ v. (length (v .0) ≡ n) × All P (v .0) × All Q (v .1))
 unfolding M.apart
-some-checked n l P Q u = held-checked _ _ _ _ _ (list-checked n l (λ x. P (x .0) × Q (x .1)) u) (λ xs ok. (rw length-map (ok .0), map-of-all P (λ x. x .0) xs (all-map (λ x k. k .0) xs (ok .1)), map-of-all Q (λ x. x .1) xs (all-map (λ x k. k .1) xs (ok .1))))
+some-checked n l P Q u = held-checked _ _ _ _ _ (list-checked n l (λ x. P (x .0) × Q (x .1)) u)
+    (λ xs ok. (rw length-map (ok .0), map-of-all P (λ x. x .0) xs (all-map (λ x k. k .0) xs (ok .1)), map-of-all Q (λ x. x .1) xs (all-map (λ x k. k .1) xs (ok .1))))
 
 pub record DevicePriceRange (x : DevicePrices) : Type 0 where
   pub on : x .onCost ≤ 100000
@@ -169,7 +193,18 @@ device-checked e n zones last = held-checked _ _ _ _ _
     (pair-checked _ _ _ _ (counted-checked (countOf 3 0 mostWindows) _ _ (energy-checked last))
     (some-checked n (B.cell e) CellRange CellPriceRange (cell-checked e))))))))
     (λ v ok. (
-      record { head = ok .0; limits = ok .1 .1 .0; longest = ok .1 .1 .1 .0 .1; startWindows = ok .1 .1 .1 .1 .0 .1; states = ok .1 .1 .1 .0 .0; starts = ok .1 .1 .1 .1 .0 .0; energies = ok .1 .1 .1 .1 .1 .0 .0; energy = ok .1 .1 .1 .1 .1 .0 .1; each = ok .1 .1 .1 .1 .1 .1 .0; cells = ok .1 .1 .1 .1 .1 .1 .1 },
+      record {
+        head = ok .0;
+        limits = ok .1 .1 .0;
+        longest = ok .1 .1 .1 .0 .1;
+        startWindows = ok .1 .1 .1 .1 .0 .1;
+        states = ok .1 .1 .1 .0 .0;
+        starts = ok .1 .1 .1 .1 .0 .0;
+        energies = ok .1 .1 .1 .1 .1 .0 .0;
+        energy = ok .1 .1 .1 .1 .1 .0 .1;
+        each = ok .1 .1 .1 .1 .1 .1 .0;
+        cells = ok .1 .1 .1 .1 .1 .1 .1;
+      },
       record { on = ok .1 .0 .0; start = ok .1 .0 .1; stop = ok .1 .0 .2; states = ok .1 .1 .1 .0 .2; cells = ok .1 .1 .1 .1 .1 .1 .2 },
     ))
 
@@ -206,7 +241,9 @@ pub record SixRange (r : Six) : Type 0 where
 
 six-checked : Checked (M.six (figure 7 1 100)) SixRange
 unfolding M.six
-six-checked = let u = figure-checked 7 1 100 in held-checked _ _ _ _ _ (pair-checked _ _ _ _ u (pair-checked _ _ _ _ u (pair-checked _ _ _ _ u (pair-checked _ _ _ _ u (pair-checked _ _ _ _ u u))))) (λ v ok. record { rgu = ok .0; rgd = ok .1 .0; scr = ok .1 .1 .0; nsc = ok .1 .1 .1 .0; rru = ok .1 .1 .1 .1 .0; rrd = ok .1 .1 .1 .1 .1 })
+six-checked = let u = figure-checked 7 1 100 in
+    held-checked _ _ _ _ _ (pair-checked _ _ _ _ u (pair-checked _ _ _ _ u (pair-checked _ _ _ _ u (pair-checked _ _ _ _ u (pair-checked _ _ _ _ u u)))))
+    (λ v ok. record { rgu = ok .0; rgd = ok .1 .0; scr = ok .1 .1 .0; nsc = ok .1 .1 .1 .0; rru = ok .1 .1 .1 .1 .0; rrd = ok .1 .1 .1 .1 .1 })
 
 zone-checked : (e intervals : ℕ) → Checked (B.zone e intervals) (λ v. ZoneRange (v .0) × SixRange (v .1))
 unfolding M.zone
@@ -328,7 +365,8 @@ settings-in e devices intervals = held-checked _ _ _ _ _
     (λ v ok. (ok .1 .1 .1 .1 .0, ok .1 .1 .1 .1 .1))
 
 pub planned-checked : (e : ℕ) (q : System) → Checked (B.planLayout e (length (q .devices)) (length (q .halves))) (PlanRange q)
-planned-checked e q = weaken _ (Settings (length (q .devices)) (length (q .halves))) (PlanRange q) (settings-in e (length (q .devices)) (length (q .halves))) (λ p ok. record { intervals = ok .0; each = ok .1 })
+planned-checked e q = weaken _ (Settings (length (q .devices)) (length (q .halves))) (PlanRange q) (settings-in e (length (q .devices)) (length (q .halves)))
+    (λ p ok. record { intervals = ok .0; each = ok .1 })
 
 pub planned-range : (e : ℕ) (q : System) (s : List ℕ) (p : Plan) → plannedIn e q s ≡ passes p → PlanRange q p
 unfolding plannedIn

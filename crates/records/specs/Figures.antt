@@ -162,7 +162,8 @@ noEnergy = record { kind = 0; from = 0; until = 0; energy = kwMin 0 }
 -- a device's lists, their figures in turn
 abbrev pub stateFigures : List State → List ℕ
 stateFigures l =
-    getD l 0 noState .longest ∷ getD l 0 noState .cost ∷ getD l 1 noState .longest ∷ getD l 1 noState .cost ∷ getD l 2 noState .longest ∷ getD l 2 noState .cost ∷ getD l 3 noState .longest ∷ getD l 3 noState .cost ∷ []
+    getD l 0 noState .longest ∷ getD l 0 noState .cost ∷ getD l 1 noState .longest ∷ getD l 1 noState .cost ∷ getD l 2 noState .longest ∷ getD l 2 noState .cost
+    ∷ getD l 3 noState .longest ∷ getD l 3 noState .cost ∷ []
 
 abbrev pub startFigures : List StartWindow → List ℕ
 startFigures l =
@@ -198,7 +199,8 @@ deviceRowWith d startcost stopcost nstates nstarts nenergies states starts energ
     ∷ kwAt (d .limits) 0 ∷ kwAt (d .limits) 1 ∷ kwAt (d .limits) 2 ∷ kwAt (d .limits) 3 ∷ kwAt (d .limits) 4 ∷ kwAt (d .limits) 5 ∷ kwAt (d .limits) 6 ∷ kwAt (d .limits) 7
     ∷ nstates ∷ at states 0 ∷ at states 1 ∷ at states 2 ∷ at states 3 ∷ at states 4 ∷ at states 5 ∷ at states 6 ∷ at states 7
     ∷ nstarts ∷ at starts 0 ∷ at starts 1 ∷ at starts 2 ∷ at starts 3 ∷ at starts 4 ∷ at starts 5 ∷ at starts 6 ∷ at starts 7 ∷ at starts 8 ∷ at starts 9 ∷ at starts 10 ∷ at starts 11
-    ∷ nenergies ∷ at energies 0 ∷ at energies 1 ∷ at energies 2 ∷ at energies 3 ∷ at energies 4 ∷ at energies 5 ∷ at energies 6 ∷ at energies 7 ∷ at energies 8 ∷ at energies 9 ∷ at energies 10 ∷ at energies 11 ∷ at energies 12 ∷ at energies 13 ∷ at energies 14 ∷ at energies 15 ∷ []
+    ∷ nenergies ∷ at energies 0 ∷ at energies 1 ∷ at energies 2 ∷ at energies 3 ∷ at energies 4 ∷ at energies 5 ∷ at energies 6 ∷ at energies 7 ∷ at energies 8
+    ∷ at energies 9 ∷ at energies 10 ∷ at energies 11 ∷ at energies 12 ∷ at energies 13 ∷ at energies 14 ∷ at energies 15 ∷ []
 
 abbrev pub deviceRow : Device → List ℕ
 deviceRow d =

@@ -11,7 +11,40 @@ ghost use lib.ListN.{getD, length, set};
 ghost use Rattle.numbers.specs.Base.{bit};
 ghost use Rattle.grains.specs.Money.{grains};
 ghost use Rattle.model.specs.Editions.{mostStates, mostWindows};
-ghost use Rattle.records.specs.Figures.{stateFigures, startFigures, energyFigures, EnergiesSmall, DeviceSmall, cellRow, settingRow, deviceRow, zoneRow, minimaRow, deviceWith, windowOf, statesOf, startsOf, energiesOf, limitsOf, cellOf, settingOf, deviceOf, stateOf, startOf, energyOf, zoneOf, minimaOf, pminAt, onAt, onlineAt, onBefore, startedAt, stoppedAt, sideAt, zonebitsAt};
+ghost use Rattle.records.specs.Figures.{
+  stateFigures,
+  startFigures,
+  energyFigures,
+  EnergiesSmall,
+  DeviceSmall,
+  cellRow,
+  settingRow,
+  deviceRow,
+  zoneRow,
+  minimaRow,
+  deviceWith,
+  windowOf,
+  statesOf,
+  startsOf,
+  energiesOf,
+  limitsOf,
+  cellOf,
+  settingOf,
+  deviceOf,
+  stateOf,
+  startOf,
+  energyOf,
+  zoneOf,
+  minimaOf,
+  pminAt,
+  onAt,
+  onlineAt,
+  onBefore,
+  startedAt,
+  stoppedAt,
+  sideAt,
+  zonebitsAt,
+};
 ghost use Rattle.records.specs.Figures.{on0At, minutes0At, oncostAt, startcostAt, stopcostAt, statesAt, stateAt, energiesAt, energyAt};
 
 // A device in one interval: status, pmin, pmax, count of blocks, four caps, four prices kept from −10,000, the prices of the eight.

@@ -151,7 +151,8 @@ pub fn start(
     left: u64,
 ) -> Started
     requires { ⌜ (length (now frame) ≡ frameRoom) × CaseRoom (batch .devices) (batch .intervals) (now halves) (now zones) (now minima) (now devices) (now cells) ⌝ }
-    ensures { λ r. ⌜ (r .rest ≤ left) × (r .more ≡ true → DecodedFirst (r .front) (r .counts) (now (halves .exit)) (now (zones .exit)) (now (minima .exit)) (now (devices .exit)) (now (cells .exit)) batch) ⌝ }
+    ensures { λ r. ⌜ (r .rest ≤ left) × (r .more ≡ true → DecodedFirst (r .front) (r .counts) (now (halves .exit)) (now (zones .exit)) (now (minima .exit))
+        (now (devices .exit)) (now (cells .exit)) batch) ⌝ }
 {
     let n = told(read_frame(frame, left));
     let mut line = lines::line_buffer();

@@ -13,7 +13,8 @@ use Rattle.model.specs.Forced.{intervals, devices, zones, device}
 use Rattle.model.specs.Completion.{blockWorth, onCost, changeCost, reservesCost, shortfallCost, mismatchCost, overruns, surplusOf}
 use Rattle.model.specs.Judgement.{ourSurplus}
 use Rattle.records.specs.Views.{mostDevices, mostIntervals}
-use Rattle.money.specs.Bounds.{zonesMost, windowsMost, cellMost, zoneMost, mismatchCostMost, overrunCostMost, intervalMost, windowsCostMost, dayMost}
+use Rattle.model.specs.Editions.{mostZones, mostWindows}
+use Rattle.money.specs.Bounds.{cellMost, zoneMost, mismatchCostMost, overrunCostMost, intervalMost, windowsCostMost, dayMost}
 use Rattle.money.specs.Entries.{Entered, entered-then, entered-as}
 use Rattle.money.specs.Terms.{our, cellBalance}
 use Rattle.slack_money.specs.Charges.{overrunBalance}
@@ -99,13 +100,13 @@ module _ (c : Case) (p : Plan) where
 
   -- ---- what the entries of the day come to
 
-  pub interval-entered : (t : ℕ) {l a b r : Ledger} → devices q ≤ mostDevices → zones q ≤ zonesMost → Entered l a (sumℤ (cellBalance c p t) (upTo (devices q))) (devices q * cellMost)
+  pub interval-entered : (t : ℕ) {l a b r : Ledger} → devices q ≤ mostDevices → zones q ≤ mostZones → Entered l a (sumℤ (cellBalance c p t) (upTo (devices q))) (devices q * cellMost)
       → Entered a b (sumℤ (λ z. negℤ (shortfallCost c p (our c p) t z)) (upTo (zones q))) (zones q * zoneMost) → Entered b r (negℤ (mismatchCost c p (our c p) t)) mismatchCostMost
       → Entered l r (intervalBalance t) intervalMost
   unfolding intervalBalance
   interval-entered t m n f g h = entered-as (entered-then (entered-then f g) h) refl (omega arith)
 
-  pub windows-entered : (i : ℕ) {l r : Ledger} → length (device q i .energyWindows) ≤ windowsMost
+  pub windows-entered : (i : ℕ) {l r : Ledger} → length (device q i .energyWindows) ≤ mostWindows
       → Entered l r (sumℤ (overrunBalance c p i) (upTo (length (device q i .energyWindows)))) (length (device q i .energyWindows) * overrunCostMost) → Entered l r (windowsBalance i) windowsCostMost
   unfolding windowsBalance
   windows-entered i n h = entered-as h refl (omega arith)

@@ -1,10 +1,10 @@
 // The money that shortfalls, mismatches and overruns cost, entered in a ledger.
-use records::Zone;
-use grains::Grains;
-use kilowatts::Kw;
 use energy::KwMin;
-use grains::Ledger;
 use energy::Watts;
+use grains::Grains;
+use grains::Ledger;
+use kilowatts::Kw;
+use records::Zone;
 ghost use mathlib.Core.Path.{_≡_};
 ghost use Prim.Native.Nat.{_*_, _≤_};
 ghost use Rattle.money.specs.Bounds.{minutesMost, shortPriceMost, shortfallMost, shortMost, zoneMost};

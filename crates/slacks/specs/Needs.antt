@@ -67,7 +67,8 @@ pub six-made : {a b c d e f : Watts} {u v w x y z : ℕ} → a .0 ≡ u → b .0
     → _≡_ {A = List Watts} (a ∷ b ∷ c ∷ d ∷ e ∷ f ∷ []) (watts u ∷ watts v ∷ watts w ∷ watts x ∷ watts y ∷ watts z ∷ [])
 six-made p q r s t o = rw (← p, ← q, ← r, ← s, ← t, ← o) refl
 
-pub needs-from : (z : Zone) (least : Minima) {s v : ZoneSums} {required r : List Watts} → r ≡ needsOf required s least → required ≡ requiredOf z (s .load .0) (s .unit .0) → s ≡ v → r ≡ zoneNeeds z least v
+pub needs-from : (z : Zone) (least : Minima) {s v : ZoneSums} {required r : List Watts} → r ≡ needsOf required s least → required
+    ≡ requiredOf z (s .load .0) (s .unit .0) → s ≡ v → r ≡ zoneNeeds z least v
 needs-from z least e f g = e ∙ rw (f, g) refl
 
 -- ---- a decoded case and plan
@@ -216,6 +217,7 @@ module _ {front : Front} {halves : List ℕ} {zones minima devices cells setting
         (need C.rgu up (all .rgu-is))
         (need C.rgd (part-of (share (λ x. x .rgd)) load-all) (all .rgd-is))
         (need C.scr (ap₂ (λ (a b : ℕ). a + b) up spinning) (ap₂ (λ (a b : ℕ). a + b) (all .rgu-is) (all .scr-is) ∙ both))
-        (need C.nsc (ap₂ (λ (a b : ℕ). a + b) (ap₂ (λ (a b : ℕ). a + b) up spinning) standing) (ap₂ (λ (a b : ℕ). a + b) (ap₂ (λ (a b : ℕ). a + b) (all .rgu-is) (all .scr-is) ∙ both) (all .nsc-is) ∙ three))
+        (need C.nsc (ap₂ (λ (a b : ℕ). a + b) (ap₂ (λ (a b : ℕ). a + b) up spinning) standing)
+        (ap₂ (λ (a b : ℕ). a + b) (ap₂ (λ (a b : ℕ). a + b) (all .rgu-is) (all .scr-is) ∙ both) (all .nsc-is) ∙ three))
         (need C.rru (ap (λ (n : ℕ). 1000 * n) (sym (minimum (λ x. x .rru)))) (all .rru-is))
         (need C.rrd (ap (λ (n : ℕ). 1000 * n) (sym (minimum (λ x. x .rrd)))) (all .rrd-is))

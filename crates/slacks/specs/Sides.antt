@@ -100,7 +100,8 @@ module _ (devices : List (List ℕ)) (powers : List ℕ) (m t : ℕ) where
   unfolding sidesTo
   sides-start = record { is = refl; small = omega arith }
 
-  pub sides-next : (i : ℕ) {s r : Sides} {k x y : ℕ} → SidesSo devices powers m t i s → k ≡ i * m + t → x ≡ sideAt devices i → y ≡ getD powers k 0 → y ≤ mostPower → r ≡ withSide s x y → SidesSo devices powers m t (i + 1) r
+  pub sides-next : (i : ℕ) {s r : Sides} {k x y : ℕ} → SidesSo devices powers m t i s → k ≡ i * m + t → x ≡ sideAt devices i → y ≡ getD powers k 0
+      → y ≤ mostPower → r ≡ withSide s x y → SidesSo devices powers m t (i + 1) r
   unfolding sidesTo
   sides-next i {s} {r} {k} {x} {y} h j e f l g = record { is = g ∙ rw (add-one i, h .is, e, f, j) refl; small = rw g (go (eqb x 1)) }
     where

@@ -142,7 +142,8 @@ module _ (devices settings : List (List ℕ)) (powers : List ℕ) (m t z : ℕ) 
     small = record { load = omega arith; unit = omega arith; rgu = omega arith; rgd = omega arith; scr = omega arith; nsc = omega arith; rru = omega arith; rrd = omega arith };
   }
 
-  pub sums-next : (i : ℕ) {s r : ZoneSums} {k : ℕ} → SumsSo devices settings powers m t z i s → k ≡ i * m + t → DeviceAdded s devices settings powers i k z r → SumsSo devices settings powers m t z (i + 1) r
+  pub sums-next : (i : ℕ) {s r : ZoneSums} {k : ℕ} → SumsSo devices settings powers m t z i s → k ≡ i * m + t → DeviceAdded s devices settings powers i k z r
+      → SumsSo devices settings powers m t z (i + 1) r
   unfolding sumsTo
   sums-next i h e a = record { is = a .is ∙ rw (add-one i, h .is, e) refl; small = a .small i (h .small) }
 

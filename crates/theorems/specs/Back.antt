@@ -63,13 +63,15 @@ six-law = let u = any-law 33 (omega arith) in
 device-law : Lawful deviceChoice FitsDevice
 unfolding deviceChoice
 device-law =
-    weaken _ _ _ (held-law _ _ _ _ (pair-law _ _ _ _ (any-law 1 (omega arith)) (pair-law _ _ _ _ (any-law 1 (omega arith)) (pair-law _ _ _ _ (any-law 3 (omega arith)) (list-law 4 (any 17) _ (any-law 17 (omega arith)))))))
+    weaken _ _ _ (held-law _ _ _ _ (pair-law _ _ _ _ (any-law 1 (omega arith))
+    (pair-law _ _ _ _ (any-law 1 (omega arith)) (pair-law _ _ _ _ (any-law 3 (omega arith)) (list-law 4 (any 17) _ (any-law 17 (omega arith)))))))
     (λ r ok. ((ok .started, (ok .stopped, (ok .state, (ok .four, ok .blocks)))), refl))
 
 interval-law : (n : Counts) → Lawful (intervalChoice (n .devices) (n .zones)) (FitsInterval n)
 unfolding intervalChoice
 interval-law n =
-    weaken _ _ _ (held-law _ _ _ _ (pair-law _ _ _ _ (list-law (n .devices) deviceChoice FitsDevice device-law) (pair-law _ _ _ _ (list-law (n .zones) (six (any 33)) FitsSix six-law) (any-law 23 (omega arith)))))
+    weaken _ _ _ (held-law _ _ _ _ (pair-law _ _ _ _ (list-law (n .devices) deviceChoice FitsDevice device-law)
+    (pair-law _ _ _ _ (list-law (n .zones) (six (any 33)) FitsSix six-law) (any-law 23 (omega arith)))))
     (λ r ok. (((ok .each, ok .devices), ((ok .every, ok .zones), ok .mismatch)), refl))
 
 -- ---- a completion of every edition

@@ -81,7 +81,8 @@ module _ (c : Case) (p : Plan) (t i : ℕ) where
       beats = best-beats cost (lasts (c .system) p t i) 0 states (asc-from-0 _)
 
       each : (k : ℕ) → MayUse (c .system) p t i k → cost (best cost (lasts (c .system) p t i) 0 states) ≤ℤ cost (suc k)
-      each k m = range-all (λ j. T (lasts (c .system) p t i j) → Beats cost (best cost (lasts (c .system) p t i) 0 states) j) 1 _ (beats .1) (suc k) (omega arith) (omega (arith, m .known)) (le→leb _ _ (m .longEnough)) .less
+      each k m = range-all (λ j. T (lasts (c .system) p t i j) → Beats cost (best cost (lasts (c .system) p t i) 0 states) j) 1 _ (beats .1) (suc k)
+          (omega arith) (omega (arith, m .known)) (le→leb _ _ (m .longEnough)) .less
 
       go : (b : Bool) → (su (c .system) p t i ≡ 1 → T b) → StateAllowed (c .system) p t i z → stateCost c i (pos (pick b (best cost (lasts (c .system) p t i) 0 states) 0)) ≤ℤ stateCost c i z
       go true s (inl e) = rw e (beats .0 .less)
@@ -125,7 +126,8 @@ module _ (c : Case) (p : Plan) where
 
     changes-least : (t i : ℕ) → t < intervals q → i < devices q → C.changeCost c p our t i ≤ℤ C.changeCost c p x t i
     unfolding C.changeCost whole ours
-    changes-least t i l k = rw (m .started t i l k, m .stopped t i l k) (L.add-mono-l (pos (C.devicePrices c i .startCost) *ℤ pos (su q p t i) +ℤ pos (C.devicePrices c i .stopCost) *ℤ pos (sd q p t i)) (state-least c p t i (x .state t i) (m .state t i l k)))
+    changes-least t i l k = rw (m .started t i l k, m .stopped t i l k)
+        (L.add-mono-l (pos (C.devicePrices c i .startCost) *ℤ pos (su q p t i) +ℤ pos (C.devicePrices c i .stopCost) *ℤ pos (sd q p t i)) (state-least c p t i (x .state t i) (m .state t i l k)))
 
     on-same : (t i : ℕ) → t < intervals q → i < devices q → C.onCost c p our t i ≤ℤ C.onCost c p x t i
     unfolding C.onCost

@@ -268,7 +268,8 @@ module _ (x : Stated) (ps : List ℕ) (p : Plan) (g : Sound x) (rp : readPlan x 
       }
 
 -- what judging a plan that passes reading leaves
-judged-wrote : (x : Stated) (p : Plan) (z : ℤ) (before : List ℕ) → judged x p before .verdict ≡ Accepted z → judged x p before .result ≡ completionBytes x p ++ drop (length (completionBytes x p)) before
+judged-wrote : (x : Stated) (p : Plan) (z : ℤ) (before : List ℕ) → judged x p before .verdict ≡ Accepted z → judged x p before .result
+    ≡ completionBytes x p ++ drop (length (completionBytes x p)) before
 unfolding judged
 judged-wrote x p z before e = ap (λ (v : Verdict). bufferAfter v (completionBytes x p) before) e
 

@@ -400,7 +400,8 @@ module _ (c : Case) (p : Plan) (rq : SystemRange (c .system)) (rp : PlanRange (c
   unfolding ourSurplus C.surplusOf
   surplus-size = omega (
     arith,
-    bound-sub (A -ℤ B -ℤ E -ℤ H -ℤ K -ℤ M) G _ _ (bound-sub (A -ℤ B -ℤ E -ℤ H -ℤ K) M _ _ (bound-sub (A -ℤ B -ℤ E -ℤ H) K _ _ (bound-sub (A -ℤ B -ℤ E) H _ _ (bound-sub (A -ℤ B) E _ _ (bound-sub A B _ _
+    bound-sub (A -ℤ B -ℤ E -ℤ H -ℤ K -ℤ M) G _ _ (bound-sub (A -ℤ B -ℤ E -ℤ H -ℤ K) M _ _
+        (bound-sub (A -ℤ B -ℤ E -ℤ H) K _ _ (bound-sub (A -ℤ B -ℤ E) H _ _ (bound-sub (A -ℤ B) E _ _ (bound-sub A B _ _
         (grid (devices sys) mostDevices mostBlockWorth (C.blockWorth c p our) (rq .devices) block-worth)
         (grid (devices sys) mostDevices mostOnCosts (C.onCost c p our) (rq .devices) on-cost))
         (grid (devices sys) mostDevices mostChanges (C.changeCost c p our) (rq .devices) change-cost))

@@ -1,4 +1,3 @@
--- `abi::kadunfo_inspect` meets its contract. Assumes nothing.
 use borrow.Author.Needs.{needs}
 use Rattle.abi.specs.Steps.{inspects-short, inspects-told}
 use Rattle.abi.proofs.kadunfo_inspect.Statement.{statement}
@@ -20,7 +19,8 @@ same-length : tie.Need-same-length
 same-length c = search needs
 
 returns-2 : tie.Need-returns-2
-returns-2 c = inspects-told _ _ (c .before .before .before .before .before .before .if1 .left) (c .before .before .before .before .before .inspect .ensures) (c .before .before .before .before .tell-case .ensures) (c .before .before .store .ensures)
+returns-2 c = inspects-told _ _ (c .before .before .before .before .before .before .if1 .left) (c .before .before .before .before .before .inspect .ensures)
+    (c .before .before .before .before .tell-case .ensures) (c .before .before .store .ensures)
 
 pub kadunfo-inspect-spec : {M : Type 1} → statement M
 kadunfo-inspect-spec =

@@ -1,4 +1,3 @@
--- `abi::kadunfo_judge` meets its contract. Assumes nothing.
 use borrow.Author.Needs.{needs}
 use Rattle.abi.specs.Steps.{judges-short, judges-told}
 use Rattle.abi.proofs.kadunfo_judge.Statement.{statement}
@@ -23,7 +22,8 @@ same-length-2 : tie.Need-same-length-2
 same-length-2 c = search needs
 
 returns-2 : tie.Need-returns-2
-returns-2 c = judges-told _ _ _ _ _ (c .before .before .before .before .before .before .before .before .before .if1 .left) (c .before .before .before .before .before .before .before .judge .ensures) (c .before .before .before .before .tell .ensures) (c .before .before .store .ensures)
+returns-2 c = judges-told _ _ _ _ _ (c .before .before .before .before .before .before .before .before .before .if1 .left)
+    (c .before .before .before .before .before .before .before .judge .ensures) (c .before .before .before .before .tell .ensures) (c .before .before .store .ensures)
 
 pub kadunfo-judge-spec : {M : Type 1} → statement M
 kadunfo-judge-spec =

@@ -1,4 +1,3 @@
--- `abi::store` meets its contract. Assumes nothing.
 use borrow.Author.Needs.{needs}
 use native.Mathlib.Omega.{arith}
 use lib.ListN.{set}
@@ -16,7 +15,8 @@ slice-write-figures-3 : tie.Need-slice-write-figures-3
 slice-write-figures-3 c = set-in (set (c .args .figures .now) 3 (c .args .t .fourth)) _ _ _ (set-in (c .args .figures .now) _ _ _ (omega (arith, c .pre)))
 
 slice-write-figures-4 : tie.Need-slice-write-figures-4
-slice-write-figures-4 c = set-in (set (set (c .args .figures .now) 3 (c .args .t .fourth)) 2 (c .args .t .third)) _ _ _ (set-in (set (c .args .figures .now) 3 (c .args .t .fourth)) _ _ _ (set-in (c .args .figures .now) _ _ _ (omega (arith, c .pre))))
+slice-write-figures-4 c = set-in (set (set (c .args .figures .now) 3 (c .args .t .fourth)) 2 (c .args .t .third)) _ _ _
+    (set-in (set (c .args .figures .now) 3 (c .args .t .fourth)) _ _ _ (set-in (c .args .figures .now) _ _ _ (omega (arith, c .pre))))
 
 same-length : tie.Need-same-length
 same-length c = search needs

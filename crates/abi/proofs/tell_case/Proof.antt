@@ -1,4 +1,3 @@
--- `abi::tell_case` meets its contract. Assumes nothing.
 use borrow.Author.Needs.{needs}
 use mathlib.Core.Path.{sym, ap}
 use Rattle.abi.specs.Steps.{told-fault}

@@ -20,7 +20,8 @@ enum-known-f : tie.Need-enum-known-f
 enum-known-f c = search needs
 
 put-framing-requires : tie.Need-put-framing-requires
-put-framing-requires c κs = c .before .before .before .before .before .before .before .before .before .before .before .before .before .before .before .before .before .before .before .before .before .before .before .pre .1
+put-framing-requires c κs = let earlier : _ = c .before .before .before .before .before .before .before .before .before .before .before .before in
+    let entry : _ = earlier .before .before .before .before .before .before .before .before .before .before .before in entry .pre .1
 
 enum-told-2 : tie.Need-enum-told-2
 enum-told-2 c = search needs
@@ -29,13 +30,15 @@ enum-known-ending : tie.Need-enum-known-ending
 enum-known-ending c = search needs
 
 put-answer-requires : tie.Need-put-answer-requires
-put-answer-requires c κs = c .before .before .before .before .before .before .before .before .before .before .before .before .before .before .before .before .before .before .before .before .before .before .before .before .before .pre .1
+put-answer-requires c κs = let earlier : _ = c .before .before .before .before .before .before .before .before .before .before .before .before in
+    let earlier-2 : _ = earlier .before .before .before .before .before .before .before .before .before .before .before .before in let entry : _ = earlier-2 .before in entry .pre .1
 
 enum-told-3 : tie.Need-enum-told-3
 enum-told-3 c = search needs
 
 put-case-requires : tie.Need-put-case-requires
-put-case-requires c κs = c .before .before .before .before .before .before .before .before .before .before .before .before .before .before .before .before .before .before .before .before .before .before .before .before .pre .1
+put-case-requires c κs = let earlier : _ = c .before .before .before .before .before .before .before .before .before .before .before .before in
+    let entry : _ = earlier .before .before .before .before .before .before .before .before .before .before .before .before in entry .pre .1
 
 same-length : tie.Need-same-length
 same-length c = search needs
@@ -74,7 +77,8 @@ same-length-11 : tie.Need-same-length-11
 same-length-11 c = search needs
 
 returns-2 : tie.Need-returns-2
-returns-2 c = case-framing _ _ _ _ _ _ _ (c .before .before .before .before .before .before .before .frame-at .ensures .is) _ _ (c .before .before .before .before .before .f .given .1) (c .before .before .put-framing .ensures)
+returns-2 c = case-framing _ _ _ _ _ _ _ (c .before .before .before .before .before .before .before .frame-at .ensures .is) _ _
+    (c .before .before .before .before .before .f .given .1) (c .before .before .put-framing .ensures)
 
 same-length-12 : tie.Need-same-length-12
 same-length-12 c = search needs
@@ -95,7 +99,12 @@ same-length-17 : tie.Need-same-length-17
 same-length-17 c = search needs
 
 returns-3 : tie.Need-returns-3
-returns-3 c = case-fails _ _ _ _ _ _ _ (c .before .before .before .before .before .before .before .before .before .frame-at .ensures .is) _ _ (c .before .before .before .before .before .before .before .enum-told2 .given .1) (c .before .before .before .before .before .before .before .before .before .before .before .before .before .before .before .before .before .before .before .before .before .before .before .before .message-at .ensures) (c .before .before .before .before .before .before .before .before .before .before .before .before .before .before .before .before .before .before .read-case .ensures) (c .before .before .before .before .before .ending .given .1) (c .before .before .put-answer .ensures)
+returns-3 c = let earlier : _ = c .before .before .before .before .before .before .before .before .before .before .before .before in
+    let reading : _ = earlier .before .before .before .before .before .before in
+    let at-message-at : _ = reading .before .before .before .before .before .before in
+    case-fails _ _ _ _ _ _ _ (c .before .before .before .before .before .before .before .before .before .frame-at .ensures .is) _ _
+    (c .before .before .before .before .before .before .before .enum-told2 .given .1) (at-message-at .message-at .ensures) (reading .read-case .ensures)
+    (c .before .before .before .before .before .ending .given .1) (c .before .before .put-answer .ensures)
 
 same-length-18 : tie.Need-same-length-18
 same-length-18 c = search needs
@@ -116,7 +125,14 @@ same-length-23 : tie.Need-same-length-23
 same-length-23 c = search needs
 
 returns-4 : tie.Need-returns-4
-returns-4 c = case-passes _ _ _ _ _ _ _ (c .before .before .before .before .before .before .before .before .frame-at .ensures .is) _ _ (c .before .before .before .before .before .before .enum-told2 .given .1) (c .before .before .before .before .before .before .before .before .before .before .before .before .before .before .before .before .before .before .before .before .before .before .before .message-at .ensures) (c .before .before .before .before .before .before .before .before .before .before .before .before .before .before .before .before .before .read-case .ensures) (c .before .before .before .before .enum-told3 .given .1) (c .before .before .put-case .ensures)
+returns-4 c = let earlier : _ = c .before .before .before .before .before .before .before .before .before .before .before .before in
+    let reading : _ = earlier .before .before .before .before .before in let at-message-at : _ = reading .before .before .before .before .before .before in
+    case-passes _ _ _ _ _ _ _ (c .before .before .before .before .before .before .before .before .frame-at .ensures .is) _ _
+    (c .before .before .before .before .before .before .enum-told2 .given .1) (at-message-at .message-at .ensures) (reading .read-case .ensures)
+    (c .before .before .before .before .enum-told3 .given .1) (c .before .before .put-case .ensures)
 
 pub answer-case-spec : {M : Type 1} → statement M
-answer-case-spec = tie.close (tie.spec message-at-requires read-case-requires frame-at-requires enum-told enum-known-f put-framing-requires enum-told-2 enum-known-ending put-answer-requires enum-told-3 put-case-requires same-length same-length-2 same-length-3 same-length-4 same-length-5 returns same-length-6 same-length-7 same-length-8 same-length-9 same-length-10 same-length-11 returns-2 same-length-12 same-length-13 same-length-14 same-length-15 same-length-16 same-length-17 returns-3 same-length-18 same-length-19 same-length-20 same-length-21 same-length-22 same-length-23 returns-4)
+answer-case-spec = tie.close (tie.spec message-at-requires read-case-requires frame-at-requires enum-told enum-known-f put-framing-requires enum-told-2
+    enum-known-ending put-answer-requires enum-told-3 put-case-requires same-length same-length-2 same-length-3 same-length-4 same-length-5 returns same-length-6
+    same-length-7 same-length-8 same-length-9 same-length-10 same-length-11 returns-2 same-length-12 same-length-13 same-length-14 same-length-15 same-length-16
+    same-length-17 returns-3 same-length-18 same-length-19 same-length-20 same-length-21 same-length-22 same-length-23 returns-4)

@@ -1,4 +1,3 @@
--- `answers::frame_bytes` meets its contract. Assumes nothing.
 use Rattle.answers.specs.Steps.{cut-bytes, head-bytes, all-bytes}
 use borrow.Author.Needs.{needs}
 use Rattle.answers.proofs.frame_bytes.Statement.{statement}

@@ -17,7 +17,8 @@ work-kept : {halves : List ℕ} {devices settings later : List (List ℕ)} {star
 work-kept w a b c = record { settings-full = a ∙ w .settings-full; starts-full = b ∙ w .starts-full; powers-full = c ∙ w .powers-full }
 
 abbrev Inv-loop : tie.InvT-loop
-Inv-loop front halves zones minima devices cells settings₀ starts₀ powers₀ frame₀ left result₀ rest₀ index₀ settings starts powers frame result rest index = (index + rest ≤ 2 ^ 61) × (length frame ≡ frameRoom) × (length result ≡ resultRoom) × Work halves devices settings starts powers
+Inv-loop front halves zones minima devices cells settings₀ starts₀ powers₀ frame₀ left result₀ rest₀ index₀ settings starts powers frame result rest index =
+    (index + rest ≤ 2 ^ 61) × (length frame ≡ frameRoom) × (length result ≡ resultRoom) × Work halves devices settings starts powers
 
 abbrev μ-loop : tie.MeasureT-loop
 μ-loop front halves zones minima devices cells settings₀ starts₀ powers₀ frame₀ left result₀ rest₀ index₀ settings starts powers frame result rest index = rest
@@ -32,16 +33,43 @@ slice-aggregate-next : tie.Need-slice-aggregate-next Inv-loop μ-loop
 slice-aggregate-next c = search needs
 
 next-requires : tie.Need-next-requires Inv-loop μ-loop
-next-requires c κs = ((c .before .before .before .before .before .before .before .before .before .before .before .before .pre .0 .0, c .before .before .before .before .before .before .loop .inv .3), (c .before .before .before .before .before .before .before .before .before .before .before .before .pre .0 .2, c .before .before .before .before .before .before .before .before .before .before .before .before .pre .0 .3, c .before .before .before .before .before .before .loop .inv .1, search needs))
+next-requires c κs = (
+  (
+    c .before .before .before .before .before .before .before .before .before .before .before .before .pre .0 .0,
+    c .before .before .before .before .before .before .loop .inv .3,
+  ),
+  (
+    c .before .before .before .before .before .before .before .before .before .before .before .before .pre .0 .2,
+    c .before .before .before .before .before .before .before .before .before .before .before .before .pre .0 .3,
+    c .before .before .before .before .before .before .loop .inv .1,
+    search needs,
+  ),
+)
 
 same-length : tie.Need-same-length Inv-loop μ-loop
-same-length c = omega (arith, c .before .before .before .before .before .before .before .before .before .before .next .kept .1 .1 .1 .1 .1 .1 .0, c .before .before .before .before .before .before .before .before .before .before .before .before .before .before .before .before .before .loop .inv .3 .settings-full, c .before .before .before .before .before .before .before .before .before .before .before .before .before .before .before .before .before .before .before .before .before .before .before .pre .0 .1 .settings-full)
+same-length c = let earlier : _ = c .before .before .before .before .before .before .before .before .before .before .before .before in
+    let turn : _ = earlier .before .before .before .before .before in let entry : _ = turn .before .before .before .before .before .before in
+    omega (
+      arith,
+      c .before .before .before .before .before .before .before .before .before .before .next .kept .1 .1 .1 .1 .1 .1 .0,
+      turn .loop .inv .3 .settings-full,
+      entry .pre .0 .1 .settings-full,
+    )
 
 same-length-2 : tie.Need-same-length-2 Inv-loop μ-loop
-same-length-2 c = omega (arith, c .before .before .before .before .before .before .before .before .before .before .next .kept .1 .1 .1 .1 .1 .1 .1 .0, c .before .before .before .before .before .before .before .before .before .before .before .before .before .before .before .before .before .loop .inv .3 .starts-full, c .before .before .before .before .before .before .before .before .before .before .before .before .before .before .before .before .before .before .before .before .before .before .before .pre .0 .1 .starts-full)
+same-length-2 c = let earlier : _ = c .before .before .before .before .before .before .before .before .before .before .before .before in
+    let turn : _ = earlier .before .before .before .before .before in let entry : _ = turn .before .before .before .before .before .before in
+    omega (arith, c .before .before .before .before .before .before .before .before .before .before .next .kept .1 .1 .1 .1 .1 .1 .1 .0, turn .loop .inv .3 .starts-full, entry .pre .0 .1 .starts-full)
 
 same-length-3 : tie.Need-same-length-3 Inv-loop μ-loop
-same-length-3 c = omega (arith, c .before .before .before .before .before .before .before .before .before .before .next .kept .1 .1 .1 .1 .1 .1 .1 .1 .0, c .before .before .before .before .before .before .before .before .before .before .before .before .before .before .before .before .before .loop .inv .3 .powers-full, c .before .before .before .before .before .before .before .before .before .before .before .before .before .before .before .before .before .before .before .before .before .before .before .pre .0 .1 .powers-full)
+same-length-3 c = let earlier : _ = c .before .before .before .before .before .before .before .before .before .before .before .before in
+    let turn : _ = earlier .before .before .before .before .before in let entry : _ = turn .before .before .before .before .before .before in
+    omega (
+      arith,
+      c .before .before .before .before .before .before .before .before .before .before .next .kept .1 .1 .1 .1 .1 .1 .1 .1 .0,
+      turn .loop .inv .3 .powers-full,
+      entry .pre .0 .1 .powers-full,
+    )
 
 same-length-4 : tie.Need-same-length-4 Inv-loop μ-loop
 same-length-4 c = search needs
@@ -56,7 +84,14 @@ loop-less : tie.Need-loop-less Inv-loop μ-loop
 loop-less c = omega (arith, c .before .before .before .before .before .before .before .before .before .before .next .ensures .1 (not-false _ (c .if1 .left)))
 
 loop-again : tie.Need-loop-again Inv-loop μ-loop
-loop-again c = let k : _ = c .before .before .before .before .before .before .before .before .before .before .next .kept .1 .1 .1 .1 .1 .1 in (omega (arith, c .before .before .before .before .before .before .before .before .before .before .next .ensures .1 (not-false _ (c .if1 .left))), search needs, search needs, work-kept (c .before .before .before .before .before .before .before .before .before .before .before .before .before .before .before .before .before .loop .inv .3) (k .0) (k .1 .0) (k .1 .1 .0))
+loop-again c = let earlier : _ = c .before .before .before .before .before .before .before .before .before .before .before .before in
+    let turn : _ = earlier .before .before .before .before .before in
+    let k : _ = c .before .before .before .before .before .before .before .before .before .before .next .kept .1 .1 .1 .1 .1 .1 in (
+      omega (arith, c .before .before .before .before .before .before .before .before .before .before .next .ensures .1 (not-false _ (c .if1 .left))),
+      search needs,
+      search needs,
+      work-kept (turn .loop .inv .3) (k .0) (k .1 .0) (k .1 .1 .0),
+    )
 
 same-length-5 : tie.Need-same-length-5 Inv-loop μ-loop
 same-length-5 c = omega (arith, c .before .loop .inv .3 .settings-full, c .before .before .before .before .before .before .before .pre .0 .1 .settings-full)
@@ -74,4 +109,5 @@ returns-2 : tie.Need-returns-2 Inv-loop μ-loop
 returns-2 c = search needs
 
 pub run-plans-spec : {M : Type 1} → statement M
-run-plans-spec = tie.close (tie.spec Inv-loop μ-loop result-buffer-requires loop-holds slice-aggregate-next next-requires same-length same-length-2 same-length-3 same-length-4 returns add-index loop-less loop-again same-length-5 same-length-6 same-length-7 same-length-8 returns-2)
+run-plans-spec = tie.close (tie.spec Inv-loop μ-loop result-buffer-requires loop-holds slice-aggregate-next next-requires same-length same-length-2
+    same-length-3 same-length-4 returns add-index loop-less loop-again same-length-5 same-length-6 same-length-7 same-length-8 returns-2)

@@ -34,7 +34,11 @@ window-broken-requires c κs = search needs
 
 returns : tie.Need-returns Inv-loop μ-loop
 unfolding windowsHere
-returns c = let a : _ = c .before .before .before .before .before .before .before .before .args in loop-broken (windowHere (a .t1) (a .settings .now) (a .starts .now) (a .i)) (c .before .before .before .before .loop-test .taken) (c .before .before .before .before .before .loop .inv .1) (c .window-broken .ensures ∙ window-broken (a .t1) (a .settings .now) (a .starts .now) (a .i) (c .before .before .before .before .before .loop .w) (c .before .before .window-kept .ensures) (c .before .if1 .taken)) (c .window-broken .ensures)
+returns c = let a : _ = c .before .before .before .before .before .before .before .before .args in
+    loop-broken (windowHere (a .t1) (a .settings .now) (a .starts .now) (a .i)) (c .before .before .before .before .loop-test .taken)
+    (c .before .before .before .before .before .loop .inv .1) (c .window-broken .ensures
+    ∙ window-broken (a .t1) (a .settings .now) (a .starts .now) (a .i) (c .before .before .before .before .before .loop .w)
+    (c .before .before .window-kept .ensures) (c .before .if1 .taken)) (c .window-broken .ensures)
 
 add-w : tie.Need-add-w Inv-loop μ-loop
 add-w c = search needs
@@ -43,11 +47,18 @@ loop-less : tie.Need-loop-less Inv-loop μ-loop
 loop-less c = search needs
 
 loop-again : tie.Need-loop-again Inv-loop μ-loop
-loop-again c = let a : _ = c .before .before .before .before .before .before .before .args in (search needs, loop-held (windowHere (a .t1) (a .settings .now) (a .starts .now) (a .i)) (c .before .before .before .loop-test .taken) (c .before .before .before .before .loop .inv .1) (window-held (a .t1) (a .settings .now) (a .starts .now) (a .i) (c .before .before .before .before .loop .w) (c .before .window-kept .ensures) (c .if1 .left)) refl)
+loop-again c = let a : _ = c .before .before .before .before .before .before .before .args in (
+  search needs,
+  loop-held (windowHere (a .t1) (a .settings .now) (a .starts .now) (a .i)) (c .before .before .before .loop-test .taken)
+      (c .before .before .before .before .loop .inv .1) (window-held (a .t1) (a .settings .now) (a .starts .now) (a .i) (c .before .before .before .before .loop .w)
+      (c .before .window-kept .ensures) (c .if1 .left)) refl,
+)
 
 returns-2 : tie.Need-returns-2 Inv-loop μ-loop
 unfolding windowsHere
-returns-2 c = let a : _ = c .before .before .before .before .args in loop-done (windowHere (a .t1) (a .settings .now) (a .starts .now) (a .i)) (omega (arith, c .loop-test .left)) (c .before .loop .inv .1)
+returns-2 c = let a : _ = c .before .before .before .before .args in
+    loop-done (windowHere (a .t1) (a .settings .now) (a .starts .now) (a .i)) (omega (arith, c .loop-test .left)) (c .before .loop .inv .1)
 
 pub device-windows-spec : {M : Type 1} → statement M
-device-windows-spec = tie.close (tie.spec Inv-loop μ-loop all-starts-requires loop-holds mul-window element-copy-out-window window-kept-requires window-broken-requires returns add-w loop-less loop-again returns-2)
+device-windows-spec = tie.close (tie.spec Inv-loop μ-loop all-starts-requires loop-holds mul-window element-copy-out-window window-kept-requires
+    window-broken-requires returns add-w loop-less loop-again returns-2)

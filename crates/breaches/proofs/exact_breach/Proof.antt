@@ -16,13 +16,17 @@ enum-told-2 : tie.Need-enum-told-2
 enum-told-2 c = search needs
 
 returns : tie.Need-returns
-returns c = let a : _ = c .before .before .before .before .before .before .args in day-stop (systemIn (a .halves .now) (a .zones .now) (a .minima .now) (a .devices .now) (a .cells .now)) (planIn (length (a .devices .now)) (length (a .halves .now)) (a .settings .now)) (c .before .before .day-rules .ensures) (c .enum-told2 .given .1)
+returns c = let a : _ = c .before .before .before .before .before .before .args in
+    day-stop (systemIn (a .halves .now) (a .zones .now) (a .minima .now) (a .devices .now) (a .cells .now))
+    (planIn (length (a .devices .now)) (length (a .halves .now)) (a .settings .now)) (c .before .before .day-rules .ensures) (c .enum-told2 .given .1)
 
 window-rules-requires : tie.Need-window-rules-requires
 window-rules-requires c κs = search needs
 
 returns-2 : tie.Need-returns-2
-returns-2 c = let a : _ = c .before .before .before .before .before .before .before .args in day-pass (systemIn (a .halves .now) (a .zones .now) (a .minima .now) (a .devices .now) (a .cells .now)) (planIn (length (a .devices .now)) (length (a .halves .now)) (a .settings .now)) (c .before .before .before .day-rules .ensures) (c .before .enum-told .given .1) (c .window-rules .ensures)
+returns-2 c = let a : _ = c .before .before .before .before .before .before .before .args in
+    day-pass (systemIn (a .halves .now) (a .zones .now) (a .minima .now) (a .devices .now) (a .cells .now))
+    (planIn (length (a .devices .now)) (length (a .halves .now)) (a .settings .now)) (c .before .before .before .day-rules .ensures) (c .before .enum-told .given .1) (c .window-rules .ensures)
 
 pub exact-breach-spec : {M : Type 1} → statement M
 exact-breach-spec = tie.close (tie.spec day-rules-requires enum-told enum-told-2 returns window-rules-requires returns-2)

@@ -15,7 +15,8 @@ use Rattle.breaches.proofs.no_breach.Statement.{statement}
 use Rattle.breaches.proofs.no_breach.Tie as tie
 
 abbrev Inv-loop : tie.InvT-loop
-Inv-loop front halves zones minima devices cells settings starts powers i₀ a₀ i a = (i ≤ length devices) × (a ≡ i * length halves) × HoldTo (systemIn halves zones minima devices cells) (planIn (length devices) (length halves) settings) (length halves) i
+Inv-loop front halves zones minima devices cells settings starts powers i₀ a₀ i a = (i ≤ length devices) × (a ≡ i * length halves)
+    × HoldTo (systemIn halves zones minima devices cells) (planIn (length devices) (length halves) settings) (length halves) i
 
 abbrev μ-loop : tie.MeasureT-loop
 μ-loop front halves zones minima devices cells settings starts powers i₀ a₀ i a = length devices - i
@@ -30,7 +31,12 @@ returns : tie.Need-returns Inv-loop μ-loop
 returns c = λ e. never e
 
 add-a : tie.Need-add-a Inv-loop μ-loop
-add-a c = let a : _ = c .before .before .before .before .before .before .before .args in omega (arith, place (c .before .before .before .before .before .before .before .pre) (c .before .before .before .loop .i) (c .before .before .before .loop .a) (c .before .before .loop-test .taken) (c .before .before .before .loop .inv .1))
+add-a c = let a : _ = c .before .before .before .before .before .before .before .args in
+    omega (
+      arith,
+      place (c .before .before .before .before .before .before .before .pre) (c .before .before .before .loop .i) (c .before .before .before .loop .a)
+          (c .before .before .loop-test .taken) (c .before .before .before .loop .inv .1),
+    )
 
 add-i : tie.Need-add-i Inv-loop μ-loop
 add-i c = search needs
@@ -39,10 +45,20 @@ loop-less : tie.Need-loop-less Inv-loop μ-loop
 loop-less c = search needs
 
 loop-again : tie.Need-loop-again Inv-loop μ-loop
-loop-again c = let a : _ = c .before .before .before .before .before .before .before .args in (search needs, omega (arith, c .before .before .before .loop .inv .1, next-part (length (a .halves .now)) (c .before .before .before .loop .i)), hold-next (systemIn (a .halves .now) (a .zones .now) (a .minima .now) (a .devices .now) (a .cells .now)) (planIn (length (a .devices .now)) (length (a .halves .now)) (a .settings .now)) (c .before .before .before .loop .inv .2) (c .before .device-held .ensures (not-false _ (c .if1 .left))))
+loop-again c = let a : _ = c .before .before .before .before .before .before .before .args in (
+  search needs,
+  omega (arith, c .before .before .before .loop .inv .1, next-part (length (a .halves .now)) (c .before .before .before .loop .i)),
+  hold-next (systemIn (a .halves .now) (a .zones .now) (a .minima .now) (a .devices .now) (a .cells .now))
+      (planIn (length (a .devices .now)) (length (a .halves .now)) (a .settings .now)) (c .before .before .before .loop .inv .2) (c .before .device-held .ensures (not-false _ (c .if1 .left))),
+)
 
 returns-2 : tie.Need-returns-2 Inv-loop μ-loop
-returns-2 c = λ e. let a : _ = c .before .before .before .before .before .args in let z : c .before .loop .i ≡ length (a .devices .now) = omega (arith, c .loop-test .left, c .before .loop .inv .0) in none-at-all (systemIn (a .halves .now) (a .zones .now) (a .minima .now) (a .devices .now) (a .cells .now)) (planIn (length (a .devices .now)) (length (a .halves .now)) (a .settings .now)) (intervals-are (a .halves .now) (a .zones .now) (a .minima .now) (a .devices .now) (a .cells .now)) (devices-are (a .halves .now) (a .zones .now) (a .minima .now) (a .devices .now) (a .cells .now)) (rw z at (c .before .loop .inv .2))
+returns-2 c = λ e. let a : _ = c .before .before .before .before .before .args in
+    let z : c .before .loop .i ≡ length (a .devices .now) = omega (arith, c .loop-test .left, c .before .loop .inv .0) in
+    none-at-all (systemIn (a .halves .now) (a .zones .now) (a .minima .now) (a .devices .now) (a .cells .now))
+    (planIn (length (a .devices .now)) (length (a .halves .now)) (a .settings .now))
+    (intervals-are (a .halves .now) (a .zones .now) (a .minima .now) (a .devices .now) (a .cells .now))
+    (devices-are (a .halves .now) (a .zones .now) (a .minima .now) (a .devices .now) (a .cells .now)) (rw z at (c .before .loop .inv .2))
 
 pub no-breach-spec : {M : Type 1} → statement M
 no-breach-spec = tie.close (tie.spec Inv-loop μ-loop loop-holds device-held-requires returns add-a add-i loop-less loop-again returns-2)

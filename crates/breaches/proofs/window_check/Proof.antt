@@ -11,10 +11,12 @@ device-at-requires : tie.Need-device-at-requires
 device-at-requires c κs = search needs
 
 add-e : tie.Need-add-e
-add-e c = let a : _ = c .before .before .before .before .args in omega (arith, place (c .before .before .before .before .pre .0) (a .i) (a .a) (c .before .before .before .before .pre .1) (c .before .before .before .before .pre .2))
+add-e c = let a : _ = c .before .before .before .before .args in
+    omega (arith, place (c .before .before .before .before .pre .0) (a .i) (a .a) (c .before .before .before .before .pre .1) (c .before .before .before .before .pre .2))
 
 mul-device-windows : tie.Need-mul-device-windows
-mul-device-windows c = let a : _ = c .before .before .before .before .args in omega (arith, place (c .before .before .before .before .pre .0) (a .i) (a .a) (c .before .before .before .before .pre .1) (c .before .before .before .before .pre .2))
+mul-device-windows c = let a : _ = c .before .before .before .before .args in
+    omega (arith, place (c .before .before .before .before .pre .0) (a .i) (a .a) (c .before .before .before .before .pre .1) (c .before .before .before .before .pre .2))
 
 sub-device-windows : tie.Need-sub-device-windows
 sub-device-windows c = search needs
@@ -23,13 +25,32 @@ part-device-windows-start : tie.Need-part-device-windows-start
 part-device-windows-start c = search needs
 
 part-device-windows-end : tie.Need-part-device-windows-end
-part-device-windows-end c = let a : _ = c .before .before .before .before .args in omega (arith, place (c .before .before .before .before .pre .0) (a .i) (a .a) (c .before .before .before .before .pre .1) (c .before .before .before .before .pre .2))
+part-device-windows-end c = let a : _ = c .before .before .before .before .args in
+    omega (arith, place (c .before .before .before .before .pre .0) (a .i) (a .a) (c .before .before .before .before .pre .1) (c .before .before .before .before .pre .2))
 
 device-windows-requires : tie.Need-device-windows-requires
-device-windows-requires c κs = let a : _ = c .before .before .before .before .before .args in let r : _ = c .before .before .before .before .before .pre .0 in (few-windows (c .before .before .before .before .before .pre .0) (a .i) (a .a) (c .before .before .before .before .before .pre .1) (c .before .before .before .before .before .pre .2) (c .before .device-at .ensures), omega (arith, r .case-rows .few-devices), omega (arith, own-long (c .before .before .before .before .before .pre .0) (a .i) (a .a) (c .before .before .before .before .before .pre .1) (c .before .before .before .before .before .pre .2), r .case-rows .few-intervals), omega (arith, own-long (c .before .before .before .before .before .pre .0) (a .i) (a .a) (c .before .before .before .before .before .pre .1) (c .before .before .before .before .before .pre .2), r .forced-rows .starts-full))
+device-windows-requires c κs = let a : _ = c .before .before .before .before .before .args in let r : _ = c .before .before .before .before .before .pre .0 in (
+  few-windows (c .before .before .before .before .before .pre .0) (a .i) (a .a) (c .before .before .before .before .before .pre .1)
+      (c .before .before .before .before .before .pre .2) (c .before .device-at .ensures),
+  omega (arith, r .case-rows .few-devices),
+  omega (
+    arith,
+    own-long (c .before .before .before .before .before .pre .0) (a .i) (a .a) (c .before .before .before .before .before .pre .1)
+        (c .before .before .before .before .before .pre .2),
+    r .case-rows .few-intervals,
+  ),
+  omega (
+    arith,
+    own-long (c .before .before .before .before .before .pre .0) (a .i) (a .a) (c .before .before .before .before .before .pre .1)
+        (c .before .before .before .before .before .pre .2),
+    r .forced-rows .starts-full,
+  ),
+)
 
 returns : tie.Need-returns
-returns c = let a : _ = c .before .before .before .before .before .before .args in c .device-windows .ensures ∙ ap first (windows-are (c .before .before .before .before .before .before .pre .0) (a .i) (a .a) (c .before .before .before .before .before .before .pre .1) (c .before .before .before .before .before .before .pre .2) (c .before .before .device-at .ensures))
+returns c = let a : _ = c .before .before .before .before .before .before .args in
+    c .device-windows .ensures ∙ ap first (windows-are (c .before .before .before .before .before .before .pre .0) (a .i) (a .a)
+    (c .before .before .before .before .before .before .pre .1) (c .before .before .before .before .before .before .pre .2) (c .before .before .device-at .ensures))
 
 pub window-check-spec : {M : Type 1} → statement M
 window-check-spec = tie.close (tie.spec device-at-requires add-e mul-device-windows sub-device-windows part-device-windows-start part-device-windows-end device-windows-requires returns)

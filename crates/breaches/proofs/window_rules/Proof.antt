@@ -13,7 +13,8 @@ use Rattle.breaches.proofs.window_rules.Statement.{statement}
 use Rattle.breaches.proofs.window_rules.Tie as tie
 
 abbrev Inv-loop : tie.InvT-loop
-Inv-loop front halves zones minima devices cells settings starts powers i₀ a₀ i a = (i ≤ length devices) × (a ≡ i * length halves) × WindowsLeft (systemIn halves zones minima devices cells) (planIn (length devices) (length halves) settings) i
+Inv-loop front halves zones minima devices cells settings starts powers i₀ a₀ i a = (i ≤ length devices) × (a ≡ i * length halves)
+    × WindowsLeft (systemIn halves zones minima devices cells) (planIn (length devices) (length halves) settings) i
 
 abbrev μ-loop : tie.MeasureT-loop
 μ-loop front halves zones minima devices cells settings starts powers i₀ a₀ i a = length devices - i
@@ -31,10 +32,19 @@ enum-told-2 : tie.Need-enum-told-2 Inv-loop μ-loop
 enum-told-2 c = search needs
 
 returns : tie.Need-returns Inv-loop μ-loop
-returns c = let a : _ = c .before .before .before .before .before .before .before .before .args in windows-broken (systemIn (a .halves .now) (a .zones .now) (a .minima .now) (a .devices .now) (a .cells .now)) (planIn (length (a .devices .now)) (length (a .halves .now)) (a .settings .now)) (devices-are (a .halves .now) (a .zones .now) (a .minima .now) (a .devices .now) (a .cells .now)) (c .before .before .before .loop-test .taken) (c .before .before .before .before .loop .inv .2) (c .before .before .window-check .ensures) (c .enum-told2 .given .1)
+returns c = let a : _ = c .before .before .before .before .before .before .before .before .args in
+    windows-broken (systemIn (a .halves .now) (a .zones .now) (a .minima .now) (a .devices .now) (a .cells .now))
+    (planIn (length (a .devices .now)) (length (a .halves .now)) (a .settings .now))
+    (devices-are (a .halves .now) (a .zones .now) (a .minima .now) (a .devices .now) (a .cells .now)) (c .before .before .before .loop-test .taken)
+    (c .before .before .before .before .loop .inv .2) (c .before .before .window-check .ensures) (c .enum-told2 .given .1)
 
 add-a : tie.Need-add-a Inv-loop μ-loop
-add-a c = let a : _ = c .before .before .before .before .before .before .before .before .args in omega (arith, place (c .before .before .before .before .before .before .before .before .pre) (c .before .before .before .before .loop .i) (c .before .before .before .before .loop .a) (c .before .before .before .loop-test .taken) (c .before .before .before .before .loop .inv .1))
+add-a c = let a : _ = c .before .before .before .before .before .before .before .before .args in
+    omega (
+      arith,
+      place (c .before .before .before .before .before .before .before .before .pre) (c .before .before .before .before .loop .i)
+          (c .before .before .before .before .loop .a) (c .before .before .before .loop-test .taken) (c .before .before .before .before .loop .inv .1),
+    )
 
 add-i : tie.Need-add-i Inv-loop μ-loop
 add-i c = search needs
@@ -43,10 +53,24 @@ loop-less : tie.Need-loop-less Inv-loop μ-loop
 loop-less c = search needs
 
 loop-again : tie.Need-loop-again Inv-loop μ-loop
-loop-again c = let a : _ = c .before .before .before .before .before .before .before .before .args in (search needs, omega (arith, c .before .before .before .before .loop .inv .1, next-part (length (a .halves .now)) (c .before .before .before .before .loop .i)), windows-held (systemIn (a .halves .now) (a .zones .now) (a .minima .now) (a .devices .now) (a .cells .now)) (planIn (length (a .devices .now)) (length (a .halves .now)) (a .settings .now)) (devices-are (a .halves .now) (a .zones .now) (a .minima .now) (a .devices .now) (a .cells .now)) (c .before .before .before .loop-test .taken) (c .before .before .before .before .loop .inv .2) (c .before .before .window-check .ensures) (c .enum-told .given .1))
+loop-again c = let a : _ = c .before .before .before .before .before .before .before .before .args in (
+  search needs,
+  omega (
+    arith,
+    c .before .before .before .before .loop .inv .1,
+    next-part (length (a .halves .now)) (c .before .before .before .before .loop .i),
+  ),
+  windows-held (systemIn (a .halves .now) (a .zones .now) (a .minima .now) (a .devices .now) (a .cells .now))
+      (planIn (length (a .devices .now)) (length (a .halves .now)) (a .settings .now))
+      (devices-are (a .halves .now) (a .zones .now) (a .minima .now) (a .devices .now) (a .cells .now)) (c .before .before .before .loop-test .taken)
+      (c .before .before .before .before .loop .inv .2) (c .before .before .window-check .ensures) (c .enum-told .given .1),
+)
 
 returns-2 : tie.Need-returns-2 Inv-loop μ-loop
-returns-2 c = let a : _ = c .before .before .before .before .before .args in windows-done (systemIn (a .halves .now) (a .zones .now) (a .minima .now) (a .devices .now) (a .cells .now)) (planIn (length (a .devices .now)) (length (a .halves .now)) (a .settings .now)) (devices-are (a .halves .now) (a .zones .now) (a .minima .now) (a .devices .now) (a .cells .now)) (omega (arith, c .loop-test .left)) (c .before .loop .inv .2)
+returns-2 c = let a : _ = c .before .before .before .before .before .args in
+    windows-done (systemIn (a .halves .now) (a .zones .now) (a .minima .now) (a .devices .now) (a .cells .now))
+    (planIn (length (a .devices .now)) (length (a .halves .now)) (a .settings .now))
+    (devices-are (a .halves .now) (a .zones .now) (a .minima .now) (a .devices .now) (a .cells .now)) (omega (arith, c .loop-test .left)) (c .before .loop .inv .2)
 
 pub window-rules-spec : {M : Type 1} → statement M
 window-rules-spec = tie.close (tie.spec Inv-loop μ-loop loop-holds window-check-requires enum-told enum-told-2 returns add-a add-i loop-less loop-again returns-2)

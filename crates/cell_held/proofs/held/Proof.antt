@@ -22,7 +22,9 @@ amounts-held-requires : tie.Need-amounts-held-requires
 amounts-held-requires c κs = search needs
 
 returns-3 : tie.Need-returns-3
-returns-3 c = λ e. let a : _ = c .before .before .before .before .before .args in let h : _ = c .amounts-held .ensures e in tests-hold (a .d) (a .c) (a .s) (a .w) (c .before .before .before .before .state-held .ensures (not-false _ (c .before .before .before .if1 .left))) (c .before .before .ramps-held .ensures (not-false _ (c .before .if2 .left))) (h .0) (h .1) (h .2)
+returns-3 c = λ e. let a : _ = c .before .before .before .before .before .args in let h : _ = c .amounts-held .ensures e in
+    tests-hold (a .d) (a .c) (a .s) (a .w) (c .before .before .before .before .state-held .ensures (not-false _ (c .before .before .before .if1 .left)))
+    (c .before .before .ramps-held .ensures (not-false _ (c .before .if2 .left))) (h .0) (h .1) (h .2)
 
 pub held-spec : {M : Type 1} → statement M
 held-spec = tie.close (tie.spec state-held-requires returns ramps-held-requires returns-2 amounts-held-requires returns-3)

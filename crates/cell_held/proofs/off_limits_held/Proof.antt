@@ -47,11 +47,13 @@ at-most-requires-3 : tie.Need-at-most-requires-3
 at-most-requires-3 c κs = search needs
 
 returns-4 : tie.Need-returns-4
-returns-4 c = λ e. let a : _ = c .before .before .before .before .before .before .before .before .before .before .before .before .before .args in
-    off-limits (a .d) (a .c) (a .s) (a .w) (c .before .before .before .before .before .before .before .before .before .before .before .before .before .pre .1) (omega (arith, c .before .before .before .before .before .before .before .by-side .ensures .0))
+returns-4 c = let earlier : _ = c .before .before .before .before .before .before .before .before .before .before .before .before in
+    let at-args : _ = earlier .before in λ e. let a : _ = at-args .args in
+    off-limits (a .d) (a .c) (a .s) (a .w) (at-args .pre .1) (omega (arith, c .before .before .before .before .before .before .before .by-side .ensures .0))
     (leb-true _ _ (passed (c .before .before .before .before .at-most .ensures) (c .before .before .before .if2 .left)))
     (leb-true _ _ (passed (c .before .before .at-most2 .ensures) (c .before .if3 .left)))
     (leb-true _ _ (passed-last (c .at-most3 .ensures) e))
 
 pub off-limits-held-spec : {M : Type 1} → statement M
-off-limits-held-spec = tie.close (tie.spec add-ups add-ups-2 add-downs add-if1 by-side-requires add-if1-2 add-if1-3 returns at-most-requires returns-2 at-most-requires-2 returns-3 at-most-requires-3 returns-4)
+off-limits-held-spec = tie.close (tie.spec add-ups add-ups-2 add-downs add-if1 by-side-requires add-if1-2 add-if1-3 returns at-most-requires returns-2
+    at-most-requires-2 returns-3 at-most-requires-3 returns-4)

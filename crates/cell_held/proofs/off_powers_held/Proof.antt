@@ -26,7 +26,10 @@ room-kept-requires c κs = search needs
 
 returns-3 : tie.Need-returns-3
 returns-3 c = λ e. let a : _ = c .before .before .before .before .before .before .before .before .before .before .before .args in
-    off-powers (a .d) (a .c) (a .s) (a .w) (c .before .before .before .before .before .before .before .before .before .before .before .pre .1) (c .before .before .before .before .before .before .before .before .before .before .before .pre .2) (omega (arith, c .before .before .before .before .if1 .left)) (omega (arith, c .before .before .before .before .before .before .before .before .by-side .ensures .0, c .before .before .if2 .left)) (passed-last (c .room-kept .ensures) e)
+    off-powers (a .d) (a .c) (a .s) (a .w) (c .before .before .before .before .before .before .before .before .before .before .before .pre .1)
+    (c .before .before .before .before .before .before .before .before .before .before .before .pre .2)
+    (omega (arith, c .before .before .before .before .if1 .left)) (omega
+    (arith, c .before .before .before .before .before .before .before .before .by-side .ensures .0, c .before .before .if2 .left)) (passed-last (c .room-kept .ensures) e)
 
 pub off-powers-held-spec : {M : Type 1} → statement M
 off-powers-held-spec = tie.close (tie.spec add-t10 by-side-requires add-roof returns returns-2 room-kept-requires returns-3)

@@ -53,8 +53,9 @@ at-most-requires-5 : tie.Need-at-most-requires-5
 at-most-requires-5 c κs = search needs
 
 returns-6 : tie.Need-returns-6
-returns-6 c = λ e. let a : _ = c .before .before .before .before .before .before .before .before .before .before .before .before .before .before .before .before .args in
-    on-limits (a .d) (a .c) (a .s) (a .w) (c .before .before .before .before .before .before .before .before .before .before .before .before .before .before .before .before .pre .1) (omega arith)
+returns-6 c = let earlier : _ = c .before .before .before .before .before .before .before .before .before .before .before .before in
+    let at-args : _ = earlier .before .before .before .before in λ e. let a : _ = at-args .args in
+    on-limits (a .d) (a .c) (a .s) (a .w) (at-args .pre .1) (omega arith)
     (leb-true _ _ (passed (c .before .before .before .before .before .before .before .before .at-most .ensures) (c .before .before .before .before .before .before .before .if2 .left)))
     (leb-true _ _ (passed (c .before .before .before .before .before .before .at-most2 .ensures) (c .before .before .before .before .before .if3 .left)))
     (leb-true _ _ (passed (c .before .before .before .before .at-most3 .ensures) (c .before .before .before .if4 .left)))
@@ -62,4 +63,5 @@ returns-6 c = λ e. let a : _ = c .before .before .before .before .before .befor
     (leb-true _ _ (passed-last (c .at-most5 .ensures) e))
 
 pub on-limits-held-spec : {M : Type 1} → statement M
-on-limits-held-spec = tie.close (tie.spec add-two add-ups add-downs add-if1 add-if1-2 returns at-most-requires returns-2 at-most-requires-2 returns-3 at-most-requires-3 returns-4 at-most-requires-4 returns-5 at-most-requires-5 returns-6)
+on-limits-held-spec = tie.close (tie.spec add-two add-ups add-downs add-if1 add-if1-2 returns at-most-requires returns-2 at-most-requires-2 returns-3
+    at-most-requires-3 returns-4 at-most-requires-4 returns-5 at-most-requires-5 returns-6)

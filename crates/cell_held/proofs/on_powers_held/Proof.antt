@@ -37,11 +37,15 @@ returns-3 : tie.Need-returns-3
 returns-3 c = λ e. never e
 
 room-kept-requires : tie.Need-room-kept-requires
-room-kept-requires c κs = let z : _ = c .before .before .before .before .before .before .before .before .before .before .before .before .before .before .before .before .before .before .pre .0 in (z .cap0, z .cap1, z .cap2, z .cap3)
+room-kept-requires c κs = let earlier : _ = c .before .before .before .before .before .before .before .before .before .before .before .before in
+    let entry : _ = earlier .before .before .before .before .before .before in let z : _ = entry .pre .0 in (z .cap0, z .cap1, z .cap2, z .cap3)
 
 returns-4 : tie.Need-returns-4
-returns-4 c = λ e. let a : _ = c .before .before .before .before .before .before .before .before .before .before .before .before .before .before .before .before .before .before .before .args in
-    on-powers (a .d) (a .c) (a .s) (a .w) (c .before .before .before .before .before .before .before .before .before .before .before .before .before .before .before .before .before .before .before .pre .1) (c .before .before .before .before .before .before .before .before .before .before .before .before .before .before .before .before .before .before .before .pre .2) (omega (arith, c .before .before .before .before .before .before .before .before .before .before .before .before .before .before .by-side .ensures .0, c .before .before .before .before .before .before .before .if1 .left)) (omega (arith, c .before .before .before .before .before .before .before .before .before .before .before .before .before .by-side2 .ensures .0, c .before .before .before .before .before .if2 .left)) (omega (arith, c .before .before .if3 .left)) (passed-last (c .room-kept .ensures) e)
+returns-4 c = let earlier : _ = c .before .before .before .before .before .before .before .before .before .before .before .before in
+    let at-by-side2 : _ = earlier .before in let at-by-side : _ = at-by-side2 .before in let at-args : _ = at-by-side .before .before .before .before .before in λ e. let a : _ = at-args .args in
+    on-powers (a .d) (a .c) (a .s) (a .w) (at-args .pre .1) (at-args .pre .2)
+    (omega (arith, at-by-side .by-side .ensures .0, c .before .before .before .before .before .before .before .if1 .left))
+    (omega (arith, at-by-side2 .by-side2 .ensures .0, c .before .before .before .before .before .if2 .left)) (omega (arith, c .before .before .if3 .left)) (passed-last (c .room-kept .ensures) e)
 
 pub on-powers-held-spec : {M : Type 1} → statement M
 on-powers-held-spec = tie.close (tie.spec add-t13 add-t14 add-t13-2 by-side-requires by-side-requires-2 add-roof add-floor returns returns-2 returns-3 room-kept-requires returns-4)

@@ -25,7 +25,8 @@ returns-3 c = λ e. never e
 
 returns-4 : tie.Need-returns-4
 unfolding stateTests
-returns-4 c = λ e. test-holds 1 _ (passed (c .before .before .before .before .before .status-kept .ensures) (c .before .before .before .before .if1 .left)) (test-holds 2 _ (passed (c .before .before .before .initial-kept .ensures) (c .before .before .if2 .left)) (test-holds 3 _ (passed refl (c .if3 .left)) (test-holds 4 _ e no-test)))
+returns-4 c = λ e. test-holds 1 _ (passed (c .before .before .before .before .before .status-kept .ensures) (c .before .before .before .before .if1 .left))
+    (test-holds 2 _ (passed (c .before .before .before .initial-kept .ensures) (c .before .before .if2 .left)) (test-holds 3 _ (passed refl (c .if3 .left)) (test-holds 4 _ e no-test)))
 
 pub state-held-spec : {M : Type 1} → statement M
 state-held-spec = tie.close (tie.spec status-kept-requires returns initial-kept-requires returns-2 returns-3 returns-4)

@@ -1,4 +1,4 @@
--- `cell_reader::read_blocks` meets its contract. The loop's invariant: i of the blocks have been read, and the others have cap 0. Assumes nothing.
+-- The loop's invariant: i of the blocks have been read, and the others have cap 0.
 use Prim.Native.Nat.{_-_}
 use borrow.Author.Needs.{needs}
 use Rattle.cell_reader.proofs.Blocks.{Blocking, no-count, blocking-none, blocking-more, blocking-off, blocking-done}

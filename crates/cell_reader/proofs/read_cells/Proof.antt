@@ -1,4 +1,4 @@
--- `cell_reader::read_cells` meets its contract. The loop's invariant: t of the cells have been read, and stand in the first rows. Assumes nothing.
+-- The loop's invariant: t of the cells have been read, and stand in the first rows.
 use Prim.Native.Nat.{_-_}
 use lib.ListN.{length}
 use borrow.Author.Needs.{needs}

@@ -17,7 +17,8 @@ state-kept-requires : tie.Need-state-kept-requires
 state-kept-requires c κs = search needs
 
 returns : tie.Need-returns
-returns c = let a : _ = c .before .before .before .args in c .state-kept .ensures ∙ ap (λ (least : ℕ). implies (ltb (a .start + a .d .minutes0) least) (eqb (a .on) (a .d .on0))) (c .before .before .initial-minimum .ensures)
+returns c = let a : _ = c .before .before .before .args in c .state-kept .ensures
+    ∙ ap (λ (least : ℕ). implies (ltb (a .start + a .d .minutes0) least) (eqb (a .on) (a .d .on0))) (c .before .before .initial-minimum .ensures)
 
 pub initial-kept-spec : {M : Type 1} → statement M
 initial-kept-spec = tie.close (tie.spec initial-minimum-requires add-state-kept state-kept-requires returns)

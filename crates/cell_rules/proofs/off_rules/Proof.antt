@@ -46,7 +46,15 @@ add-result-4 c = search needs
 
 returns : tie.Need-returns
 unfolding offTests
-returns c = (more-bits 15 _ (more-bits 14 _ (more-bits 13 _ (one-bit 12 (c .before .before .before .before .before .before .bit-unless .ensures .0) (c .before .before .before .before .before .before .before .at-most .ensures)) (c .before .before .before .before .bit-unless2 .ensures .0) (c .before .before .before .before .before .at-most2 .ensures)) (c .before .before .bit-unless3 .ensures .0) (c .before .before .before .at-most3 .ensures)) (c .bit-unless4 .ensures .0) (c .before .none-held .ensures), search needs)
+returns c = (
+  more-bits 15 _ (more-bits 14 _
+      (more-bits 13 _ (one-bit 12 (c .before .before .before .before .before .before .bit-unless .ensures .0)
+      (c .before .before .before .before .before .before .before .at-most .ensures)) (c .before .before .before .before .bit-unless2 .ensures .0)
+      (c .before .before .before .before .before .at-most2 .ensures)) (c .before .before .bit-unless3 .ensures .0) (c .before .before .before .at-most3 .ensures))
+      (c .bit-unless4 .ensures .0) (c .before .none-held .ensures),
+  search needs,
+)
 
 pub off-rules-spec : {M : Type 1} → statement M
-off-rules-spec = tie.close (tie.spec sub-off add-result at-most-requires bit-unless-requires at-most-requires-2 bit-unless-requires-2 add-result-2 at-most-requires-3 bit-unless-requires-3 add-result-3 none-held-requires bit-unless-requires-4 add-result-4 returns)
+off-rules-spec = tie.close (tie.spec sub-off add-result at-most-requires bit-unless-requires at-most-requires-2 bit-unless-requires-2 add-result-2
+    at-most-requires-3 bit-unless-requires-3 add-result-3 none-held-requires bit-unless-requires-4 add-result-4 returns)

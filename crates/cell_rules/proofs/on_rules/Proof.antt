@@ -58,7 +58,16 @@ add-result-4 c = search needs
 
 returns : tie.Need-returns
 unfolding onTests
-returns c = (more-bits 11 _ (more-bits 10 _ (more-bits 9 _ (more-bits 8 _ (one-bit 7 (c .before .before .before .before .before .before .before .before .bit-unless .ensures .0) (c .before .before .before .before .before .before .before .before .before .at-most .ensures)) (c .before .before .before .before .before .before .bit-unless2 .ensures .0) (c .before .before .before .before .before .before .before .at-most2 .ensures)) (c .before .before .before .before .bit-unless3 .ensures .0) (c .before .before .before .before .before .at-most3 .ensures)) (c .before .before .bit-unless4 .ensures .0) (c .before .before .before .at-most4 .ensures)) (c .bit-unless5 .ensures .0) (c .before .at-most5 .ensures), search needs)
+returns c = (
+  more-bits 11 _ (more-bits 10 _
+      (more-bits 9 _ (more-bits 8 _ (one-bit 7 (c .before .before .before .before .before .before .before .before .bit-unless .ensures .0)
+      (c .before .before .before .before .before .before .before .before .before .at-most .ensures))
+      (c .before .before .before .before .before .before .bit-unless2 .ensures .0) (c .before .before .before .before .before .before .before .at-most2 .ensures))
+      (c .before .before .before .before .bit-unless3 .ensures .0) (c .before .before .before .before .before .at-most3 .ensures))
+      (c .before .before .bit-unless4 .ensures .0) (c .before .before .before .at-most4 .ensures)) (c .bit-unless5 .ensures .0) (c .before .at-most5 .ensures),
+  search needs,
+)
 
 pub on-rules-spec : {M : Type 1} → statement M
-on-rules-spec = tie.close (tie.spec add-two add-ups add-downs at-most-requires bit-unless-requires at-most-requires-2 bit-unless-requires-2 add-result at-most-requires-3 bit-unless-requires-3 add-result-2 at-most-requires-4 bit-unless-requires-4 add-result-3 at-most-requires-5 bit-unless-requires-5 add-result-4 returns)
+on-rules-spec = tie.close (tie.spec add-two add-ups add-downs at-most-requires bit-unless-requires at-most-requires-2 bit-unless-requires-2 add-result
+    at-most-requires-3 bit-unless-requires-3 add-result-2 at-most-requires-4 bit-unless-requires-4 add-result-3 at-most-requires-5 bit-unless-requires-5 add-result-4 returns)

@@ -58,7 +58,16 @@ add-result-6 c = search needs
 
 returns : tie.Need-returns
 unfolding powerTests
-returns c = (more-bits 19 _ (more-bits 18 _ (more-bits 17 _ (one-bit 16 (c .before .before .before .bit-unless .ensures .0) (c .before .before .before .before .before .before .before .before .before .roof-kept .ensures)) (c .before .before .bit-unless2 .ensures .0) (c .before .before .before .before .before .before .before .before .floor-kept .ensures)) (c .before .bit-unless3 .ensures .0) (rw (c .before .before .before .before .before .before .before .before .before .before .less .ensures) at (c .before .before .before .before .before .before .roof-kept2 .ensures))) (c .bit-unless4 .ensures .0) (c .before .before .before .before .room-kept .ensures), search needs)
+returns c = (
+  more-bits 19 _ (more-bits 18 _
+      (more-bits 17 _ (one-bit 16 (c .before .before .before .bit-unless .ensures .0)
+      (c .before .before .before .before .before .before .before .before .before .roof-kept .ensures)) (c .before .before .bit-unless2 .ensures .0)
+      (c .before .before .before .before .before .before .before .before .floor-kept .ensures)) (c .before .bit-unless3 .ensures .0)
+      (rw (c .before .before .before .before .before .before .before .before .before .before .less .ensures) at
+      (c .before .before .before .before .before .before .roof-kept2 .ensures))) (c .bit-unless4 .ensures .0) (c .before .before .before .before .room-kept .ensures),
+  search needs,
+)
 
 pub power-rules-spec : {M : Type 1} → statement M
-power-rules-spec = tie.close (tie.spec add-result add-result-2 add-roof-kept add-result-3 less-requires roof-kept-requires floor-kept-requires sub-roof-kept roof-kept-requires-2 room-kept-requires bit-unless-requires bit-unless-requires-2 add-result-4 bit-unless-requires-3 add-result-5 bit-unless-requires-4 add-result-6 returns)
+power-rules-spec = tie.close (tie.spec add-result add-result-2 add-roof-kept add-result-3 less-requires roof-kept-requires floor-kept-requires sub-roof-kept
+    roof-kept-requires-2 room-kept-requires bit-unless-requires bit-unless-requires-2 add-result-4 bit-unless-requires-3 add-result-5 bit-unless-requires-4 add-result-6 returns)

@@ -22,7 +22,11 @@ add-result c = search needs
 
 returns : tie.Need-returns
 unfolding rampTests
-returns c = (more-bits 6 _ (one-bit 5 (c .before .bit-unless .ensures .0) (c .before .before .before .rise-kept .ensures)) (c .bit-unless2 .ensures .0) (c .before .before .fall-kept .ensures), search needs)
+returns c = (
+  more-bits 6 _ (one-bit 5 (c .before .bit-unless .ensures .0) (c .before .before .before .rise-kept .ensures)) (c .bit-unless2 .ensures .0)
+      (c .before .before .fall-kept .ensures),
+  search needs,
+)
 
 pub ramp-rules-spec : {M : Type 1} → statement M
 ramp-rules-spec = tie.close (tie.spec rise-kept-requires fall-kept-requires bit-unless-requires bit-unless-requires-2 add-result returns)

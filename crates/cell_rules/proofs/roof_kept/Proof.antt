@@ -16,7 +16,8 @@ at-most-requires : tie.Need-at-most-requires
 at-most-requires c κs = search needs
 
 returns : tie.Need-returns
-returns c = let a : _ = c .before .before .before .before .args in c .at-most .ensures ∙ ap (λ (held : ℕ). leb (a .power .0 + held) (a .pmax .0 * a .on)) (c .before .before .before .by-side .ensures .0)
+returns c = let a : _ = c .before .before .before .before .args in c .at-most .ensures
+    ∙ ap (λ (held : ℕ). leb (a .power .0 + held) (a .pmax .0 * a .on)) (c .before .before .before .by-side .ensures .0)
 
 pub roof-kept-spec : {M : Type 1} → statement M
 roof-kept-spec = tie.close (tie.spec by-side-requires add-t8 at-most-requires returns)

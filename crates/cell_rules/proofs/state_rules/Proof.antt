@@ -35,7 +35,13 @@ add-result-3 c = search needs
 
 returns : tie.Need-returns
 unfolding stateTests
-returns c = (more-bits 4 _ (more-bits 3 _ (more-bits 2 _ (one-bit 1 (c .before .before .before .bit-unless .ensures .0) (c .before .before .before .before .before .status-kept .ensures)) (c .before .before .bit-unless2 .ensures .0) (c .before .before .before .before .initial-kept .ensures)) (c .before .bit-unless3 .ensures .0) refl) (c .bit-unless4 .ensures .0) refl, search needs)
+returns c = (
+  more-bits 4 _ (more-bits 3 _
+      (more-bits 2 _ (one-bit 1 (c .before .before .before .bit-unless .ensures .0) (c .before .before .before .before .before .status-kept .ensures))
+      (c .before .before .bit-unless2 .ensures .0) (c .before .before .before .before .initial-kept .ensures)) (c .before .bit-unless3 .ensures .0) refl) (c .bit-unless4 .ensures .0) refl,
+  search needs,
+)
 
 pub state-rules-spec : {M : Type 1} → statement M
-state-rules-spec = tie.close (tie.spec status-kept-requires initial-kept-requires bit-unless-requires bit-unless-requires-2 add-result bit-unless-requires-3 add-result-2 bit-unless-requires-4 add-result-3 returns)
+state-rules-spec = tie.close (tie.spec status-kept-requires initial-kept-requires bit-unless-requires bit-unless-requires-2 add-result bit-unless-requires-3
+    add-result-2 bit-unless-requires-4 add-result-3 returns)

@@ -31,25 +31,38 @@ shared-slice-read-back : tie.Need-shared-slice-read-back Inv-loop μ-loop
 shared-slice-read-back c = search needs
 
 sub-back : tie.Need-sub-back Inv-loop μ-loop
-sub-back c = let a : _ = c .before .before .before .before .before .args in omega (arith, c .before .before .before .before .before .pre .2 .up (c .before .before .loop .k - 1) (a .t) (omega arith) (omega arith))
+sub-back c = let a : _ = c .before .before .before .before .before .args in
+    omega (arith, c .before .before .before .before .before .pre .2 .up (c .before .before .loop .k - 1) (a .t) (omega arith) (omega arith))
 
 returns : tie.Need-returns Inv-loop μ-loop
-returns c = let a : _ = c .before .before .before .before .before .before .before .args in let l : _ = c .before .before .before .before .loop in far-rest (a .r) (a .settings .now) (a .starts .now) (a .t) (l .k) (c .before .before .before .loop-test .taken) (l .inv .0) (c .before .before .before .before .before .before .before .pre .2) (c .if1 .taken) (l .inv .1)
+returns c = let a : _ = c .before .before .before .before .before .before .before .args in let l : _ = c .before .before .before .before .loop in
+    far-rest (a .r) (a .settings .now) (a .starts .now) (a .t) (l .k) (c .before .before .before .loop-test .taken) (l .inv .0)
+    (c .before .before .before .before .before .before .before .pre .2) (c .if1 .taken) (l .inv .1)
 
 changes-requires : tie.Need-changes-requires Inv-loop μ-loop
 changes-requires c κs = search needs
 
 returns-2 : tie.Need-returns-2 Inv-loop μ-loop
-returns-2 c = let a : _ = c .before .before .before .before .before .before .before .before .before .args in let l : _ = c .before .before .before .before .before .before .loop in far-broken (a .r) (a .settings .now) (a .starts .now) (a .t) (l .k) (c .before .before .before .before .before .loop-test .taken) (omega (arith, c .before .before .if1 .left)) (c .before .changes .ensures) (c .if2 .taken) (l .inv .1)
+returns-2 c = let a : _ = c .before .before .before .before .before .before .before .before .before .args in
+    let l : _ = c .before .before .before .before .before .before .loop in
+    far-broken (a .r) (a .settings .now) (a .starts .now) (a .t) (l .k) (c .before .before .before .before .before .loop-test .taken)
+    (omega (arith, c .before .before .if1 .left)) (c .before .changes .ensures) (c .if2 .taken) (l .inv .1)
 
 loop-less : tie.Need-loop-less Inv-loop μ-loop
 loop-less c = search needs
 
 loop-again : tie.Need-loop-again Inv-loop μ-loop
-loop-again c = let a : _ = c .before .before .before .before .before .before .before .before .before .args in let l : _ = c .before .before .before .before .before .before .loop in (omega (arith, l .inv .0), far-next (a .r) (a .settings .now) (a .starts .now) (a .t) (l .k) (c .before .before .before .before .before .loop-test .taken) (c .before .changes .ensures) (c .if2 .left) (l .inv .1))
+loop-again c = let a : _ = c .before .before .before .before .before .before .before .before .before .args in
+    let l : _ = c .before .before .before .before .before .before .loop in (
+      omega (arith, l .inv .0),
+      far-next (a .r) (a .settings .now) (a .starts .now) (a .t) (l .k) (c .before .before .before .before .before .loop-test .taken)
+          (c .before .changes .ensures) (c .if2 .left) (l .inv .1),
+    )
 
 returns-3 : tie.Need-returns-3 Inv-loop μ-loop
-returns-3 c = let a : _ = c .before .before .before .before .args in far-none (a .r) (a .settings .now) (a .starts .now) (a .t) (c .before .loop .k) (omega (arith, c .loop-test .left)) (c .before .loop .inv .1)
+returns-3 c = let a : _ = c .before .before .before .before .args in
+    far-none (a .r) (a .settings .now) (a .starts .now) (a .t) (c .before .loop .k) (omega (arith, c .loop-test .left)) (c .before .loop .inv .1)
 
 pub all-far-back-spec : {M : Type 1} → statement M
-all-far-back-spec = tie.close (tie.spec Inv-loop μ-loop mul-start shared-slice-read-start loop-holds sub-e mul-back shared-slice-read-back sub-back returns changes-requires returns-2 loop-less loop-again returns-3)
+all-far-back-spec = tie.close (tie.spec Inv-loop μ-loop mul-start shared-slice-read-start loop-holds sub-e mul-back shared-slice-read-back sub-back returns
+    changes-requires returns-2 loop-less loop-again returns-3)

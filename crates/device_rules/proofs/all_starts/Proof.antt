@@ -21,7 +21,8 @@ started-at-requires : tie.Need-started-at-requires Inv-loop μ-loop
 started-at-requires c κs = search needs
 
 add-sum : tie.Need-add-sum Inv-loop μ-loop
-add-sum c = let a : _ = c .before .before .before .args in omega (arith, started-few (a .on0) (a .settings .now) (c .before .before .loop .t) (c .started-at .ensures), c .before .before .loop .inv .1 .few)
+add-sum c = let a : _ = c .before .before .before .args in
+    omega (arith, started-few (a .on0) (a .settings .now) (c .before .before .loop .t) (c .started-at .ensures), c .before .before .loop .inv .1 .few)
 
 add-t : tie.Need-add-t Inv-loop μ-loop
 add-t c = search needs

@@ -19,11 +19,17 @@ setting-at-requires : tie.Need-setting-at-requires
 setting-at-requires c κs = search needs
 
 failing-rules-requires : tie.Need-failing-rules-requires
-failing-rules-requires c κs = (same-sizes (c .before .cell-at .ensures) (c .setting-at .ensures) (c .before .before .moment-at .ensures) (c .before .before .before .before .before .before .pre .sized), c .before .before .before .before .before .before .pre .small)
+failing-rules-requires c κs = (
+  same-sizes (c .before .cell-at .ensures) (c .setting-at .ensures) (c .before .before .moment-at .ensures)
+      (c .before .before .before .before .before .before .pre .sized),
+  c .before .before .before .before .before .before .pre .small,
+)
 
 returns : tie.Need-returns
 unfolding testsAt
-returns c = c .failing-rules .ensures ∙ ap (λ (l : List (ℕ × Bool)). failingWord l) (same-tests (c .before .before .cell-at .ensures) (c .before .setting-at .ensures) (c .before .before .before .moment-at .ensures) (c .before .before .before .before .before .before .before .args .d))
+returns c = c .failing-rules .ensures ∙ ap (λ (l : List (ℕ × Bool)). failingWord l)
+    (same-tests (c .before .before .cell-at .ensures) (c .before .setting-at .ensures) (c .before .before .before .moment-at .ensures)
+    (c .before .before .before .before .before .before .before .args .d))
 
 pub failing-at-spec : {M : Type 1} → statement M
 failing-at-spec = tie.close (tie.spec moment-at-requires cell-at-requires setting-at-requires failing-rules-requires returns)

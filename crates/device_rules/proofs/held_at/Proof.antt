@@ -19,11 +19,16 @@ setting-at-requires : tie.Need-setting-at-requires
 setting-at-requires c κs = search needs
 
 held-requires : tie.Need-held-requires
-held-requires c κs = (same-sizes (c .before .cell-at .ensures) (c .setting-at .ensures) (c .before .before .moment-at .ensures) (c .before .before .before .before .before .before .pre .sized), c .before .before .before .before .before .before .pre .small)
+held-requires c κs = (
+  same-sizes (c .before .cell-at .ensures) (c .setting-at .ensures) (c .before .before .moment-at .ensures)
+      (c .before .before .before .before .before .before .pre .sized),
+  c .before .before .before .before .before .before .pre .small,
+)
 
 returns : tie.Need-returns
 unfolding testsAt
-returns c = λ e. subst (λ (l : List (ℕ × Bool)). failing l ≡ []) (same-tests (c .before .before .cell-at .ensures) (c .before .setting-at .ensures) (c .before .before .before .moment-at .ensures) (c .before .before .before .before .before .before .before .args .d)) (c .held .ensures e)
+returns c = λ e. subst (λ (l : List (ℕ × Bool)). failing l ≡ []) (same-tests (c .before .before .cell-at .ensures) (c .before .setting-at .ensures)
+    (c .before .before .before .moment-at .ensures) (c .before .before .before .before .before .before .before .args .d)) (c .held .ensures e)
 
 pub held-at-spec : {M : Type 1} → statement M
 held-at-spec = tie.close (tie.spec moment-at-requires cell-at-requires setting-at-requires held-requires returns)

@@ -43,7 +43,14 @@ shared-slice-read-t25 c = search needs
 
 returns : tie.Need-returns
 unfolding momentAt
-returns c = rw (c .before .before .before .before .before .rest-kept .ensures, c .before .before .before .before .rest-kept2 .ensures, c .before .before .before .before .before .before .before .started-at .ensures, c .before .before .before .before .before .before .stopped-at .ensures, c .before .before .before .previous-power .ensures) refl
+returns c = rw (
+  c .before .before .before .before .before .rest-kept .ensures,
+  c .before .before .before .before .rest-kept2 .ensures,
+  c .before .before .before .before .before .before .before .started-at .ensures,
+  c .before .before .before .before .before .before .stopped-at .ensures,
+  c .before .before .before .previous-power .ensures,
+) refl
 
 pub moment-at-spec : {M : Type 1} → statement M
-moment-at-spec = tie.close (tie.spec started-at-requires stopped-at-requires rest-kept-requires rest-kept-requires-2 previous-power-requires mul-t16 shared-slice-read-t18 mul-t19 shared-slice-read-t21 mul-t22 mul-t23 shared-slice-read-t25 returns)
+moment-at-spec = tie.close (tie.spec started-at-requires stopped-at-requires rest-kept-requires rest-kept-requires-2 previous-power-requires mul-t16
+    shared-slice-read-t18 mul-t19 shared-slice-read-t21 mul-t22 mul-t23 shared-slice-read-t25 returns)

@@ -10,7 +10,9 @@ use Rattle.device_rules.proofs.window_kept.Statement.{statement}
 use Rattle.device_rules.proofs.window_kept.Tie as tie
 
 returns : tie.Need-returns
-returns c = let a : _ = c .before .before .before .args in sym (le-leb (startsAt (a .w) (a .on0) (a .settings .now) (a .starts .now)) (a .w .most) (omega (arith, some-starts (a .w) (a .on0) (a .settings .now) (a .starts .now), c .before .before .before .pre .0, c .if1 .taken)))
+returns c = let a : _ = c .before .before .before .args in
+    sym (le-leb (startsAt (a .w) (a .on0) (a .settings .now) (a .starts .now)) (a .w .most)
+    (omega (arith, some-starts (a .w) (a .on0) (a .settings .now) (a .starts .now), c .before .before .before .pre .0, c .if1 .taken)))
 
 starts-in-requires : tie.Need-starts-in-requires
 starts-in-requires c κs = search needs

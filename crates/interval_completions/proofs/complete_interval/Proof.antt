@@ -6,7 +6,8 @@ use lib.ListN.{length}
 use Rattle.records.specs.Ranged.{half-small}
 use Rattle.records.specs.Views.{mostDevices}
 use Rattle.slacks.specs.Sides.{powered}
-use Rattle.money.specs.Bounds.{cellMost, zonesMost, zoneMost, mismatchCostMost, intervalMost}
+use Rattle.model.specs.Editions.{mostZones}
+use Rattle.money.specs.Bounds.{cellMost, zoneMost, mismatchCostMost, intervalMost}
 use Rattle.money.specs.Entries.{spare-after, spare-less, spare-room}
 use Rattle.completion_writer.specs.Whole.{zones-room, mismatch-room}
 use Rattle.interval_completions.specs.Steps.{mismatch-fits, interval-of, interval-done}
@@ -40,7 +41,7 @@ complete-zones-requires c κs =
       (
         v .pushes .ready,
         zones-room (start .args .front .edition) d (length (start .args .zones .now)) (v .pushes) (start .pre .1 .1),
-        spare-after intervalMost (d * cellMost) (zonesMost * zoneMost) (start .pre .1 .2) (v .entered) (omega (arith, start .pre .0 .0 .ready .case-rows .few-devices)),
+        spare-after intervalMost (d * cellMost) (mostZones * zoneMost) (start .pre .1 .2) (v .entered) (omega (arith, start .pre .0 .0 .ready .case-rows .few-devices)),
       ),
     )
 
@@ -59,9 +60,9 @@ mismatch-money-requires c κs =
     let known : _ = start .pre .0 .0 .ready .case-rows in
     let d : _ = length (start .args .devices .now) in
     let z : _ = length (start .args .zones .now) in
-    let s : _ = spare-after intervalMost (d * cellMost) (zonesMost * zoneMost + mismatchCostMost) (start .pre .1 .2) (at-complete-devices .complete-devices .ensures .entered)
+    let s : _ = spare-after intervalMost (d * cellMost) (mostZones * zoneMost + mismatchCostMost) (start .pre .1 .2) (at-complete-devices .complete-devices .ensures .entered)
     (omega (arith, known .few-devices)) in (
-      spare-room 0 (spare-after (zonesMost * zoneMost + mismatchCostMost) (z * zoneMost) 0 s (at-complete-zones .complete-zones .ensures .entered) (omega (arith, known .few-zones))),
+      spare-room 0 (spare-after (mostZones * zoneMost + mismatchCostMost) (z * zoneMost) 0 s (at-complete-zones .complete-zones .ensures .entered) (omega (arith, known .few-zones))),
       interval-of (start .pre .0 .0) (start .args .t) (start .pre .0 .1) (at-mismatch .mismatch .ensures) refl,
     )
 

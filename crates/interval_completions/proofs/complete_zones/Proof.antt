@@ -6,7 +6,8 @@ use lib.ListN.{length}
 use Rattle.pen.specs.Runs.{room-at}
 use Rattle.records.specs.declared.Front.{Front}
 use Rattle.slacks.specs.Sums.{zoned}
-use Rattle.money.specs.Bounds.{zonesMost, zoneMost}
+use Rattle.model.specs.Editions.{mostZones}
+use Rattle.money.specs.Bounds.{zoneMost}
 use Rattle.money.specs.Entries.{spare-after, spare-room}
 use Rattle.money.specs.Unbroken.{Unbroken}
 use Rattle.completion_writer.specs.Size.{zoneWidth}
@@ -61,7 +62,7 @@ zone-money-requires c κs =
     let turn : _ = at-loop-test .before in
     let start : _ = turn .before .before .before .before .before .before .before in
     let sofar : _ = turn .loop .inv .2 (start .args .front) (start .pre .0 .0) in (
-      spare-room 0 (spare-after (zonesMost * zoneMost) (turn .loop .z * zoneMost) 0 (start .pre .1 .2) (sofar .entered)
+      spare-room 0 (spare-after (mostZones * zoneMost) (turn .loop .z * zoneMost) 0 (start .pre .1 .2) (sofar .entered)
           (omega (arith, at-loop-test .loop-test .taken, start .pre .0 .0 .ready .case-rows .few-zones))),
       zone-of (start .pre .0 .0) (start .args .t) (start .pre .0 .1) (turn .loop .z) (turn .loop .k) (at-loop-test .loop-test .taken) (turn .loop .inv .1) (at-zone-at .zone-at .ensures)
           (at-minima-at .minima-at .ensures) (at-shortfalls .shortfalls .ensures) (start .pre .0 .2),

@@ -1,4 +1,3 @@
--- `lines::put_accepted` meets its contract. Assumes nothing.
 use mathlib.Core.Path.{ap, _∙_}
 use mir.Syntax.{w64}
 use mir.ValLaws.{toZ-ofZ}
@@ -37,7 +36,9 @@ same-length c = search needs
 returns : tie.Need-returns
 returns c =
     let e = c .before .before .before .before .before .before .before .before in
-    writes-as (accepted-from-zero (e .args .index) _ (e .args .surplus) (from-zero _ (e .fits .surplus) (c .before .before .before .before .before .before .twos .ensures ∙ ap (toTwos 64) (toZ-ofZ w64 (e .args .surplus) (e .fits .surplus))) (c .before .before .before .before .before .if1 .taken))) (c .before .before .put-surplus .ensures) (omega arith)
+    writes-as (accepted-from-zero (e .args .index) _ (e .args .surplus)
+    (from-zero _ (e .fits .surplus) (c .before .before .before .before .before .before .twos .ensures
+    ∙ ap (toTwos 64) (toZ-ofZ w64 (e .args .surplus) (e .fits .surplus))) (c .before .before .before .before .before .if1 .taken))) (c .before .before .put-surplus .ensures) (omega arith)
 
 same-length-2 : tie.Need-same-length-2
 same-length-2 c = search needs
@@ -45,7 +46,9 @@ same-length-2 c = search needs
 returns-2 : tie.Need-returns-2
 returns-2 c =
     let e = c .before .before .before .before .before .before .before .before in
-    writes-as (accepted-below-zero (e .args .index) _ (e .args .surplus) (below-zero _ (e .fits .surplus) (c .before .before .before .before .before .before .twos .ensures ∙ ap (toTwos 64) (toZ-ofZ w64 (e .args .surplus) (e .fits .surplus))) (c .before .before .before .before .before .if1 .left))) (c .before .before .put-surplus2 .ensures) (omega arith)
+    writes-as (accepted-below-zero (e .args .index) _ (e .args .surplus)
+    (below-zero _ (e .fits .surplus) (c .before .before .before .before .before .before .twos .ensures
+    ∙ ap (toTwos 64) (toZ-ofZ w64 (e .args .surplus) (e .fits .surplus))) (c .before .before .before .before .before .if1 .left))) (c .before .before .put-surplus2 .ensures) (omega arith)
 
 pub put-accepted-spec : {M : Type 1} → statement M
 put-accepted-spec =

@@ -1,4 +1,3 @@
--- `lines::put_broken` meets its contract. Assumes nothing.
 use native.Mathlib.Omega.{arith}
 use Rattle.lines.specs.Writes.{writes}
 use borrow.Author.Needs.{needs}

@@ -1,4 +1,4 @@
--- `lines::put_bytes` meets its contract: i bytes are copied. Assumes nothing.
+-- I bytes are copied.
 use mathlib.Core.Path.{_≡_}
 use Prim.Native.Nat.{_+_, _-_, _≤_, _<_}
 use native.Mathlib.Numerals.{add-one}

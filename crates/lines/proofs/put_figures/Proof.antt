@@ -1,4 +1,3 @@
--- `lines::put_figures` meets its contract. Assumes nothing.
 use mathlib.Core.Path.{_≡_, ap}
 use lib.Seq.{take-all}
 use Rattle.lines.specs.Spelling.{one-more, none-of}

@@ -1,4 +1,3 @@
--- `lines::put_framing` meets its contract. Assumes nothing.
 use native.Mathlib.Omega.{arith}
 use Rattle.lines.specs.Writes.{writes-as}
 use Rattle.lines.specs.Spelling.{framing-is}
@@ -22,7 +21,8 @@ same-length : tie.Need-same-length
 same-length c = search needs
 
 returns : tie.Need-returns
-returns c = writes-as (framing-is (c .before .before .before .before .before .before .before .before .args .f) (c .before .before .before .before .before .before .number-of .ensures)) (c .before .before .put-word .ensures) (omega arith)
+returns c = writes-as (framing-is (c .before .before .before .before .before .before .before .before .args .f)
+    (c .before .before .before .before .before .before .number-of .ensures)) (c .before .before .put-word .ensures) (omega arith)
 
 pub put-framing-spec : {M : Type 1} → statement M
 put-framing-spec =

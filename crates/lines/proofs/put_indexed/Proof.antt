@@ -1,4 +1,3 @@
--- `lines::put_indexed` meets its contract. Assumes nothing.
 use native.Mathlib.Omega.{arith}
 use Rattle.lines.specs.Writes.{behind}
 use borrow.Author.Needs.{needs}

@@ -1,4 +1,3 @@
--- `lines::put_number` meets its contract. Assumes nothing.
 use mathlib.Core.Path.{_∙_}
 use native.Mathlib.Omega.{arith}
 use Rattle.lines.specs.Spelling.{twenty, spells}

@@ -1,4 +1,3 @@
--- `lines::put_refused` meets its contract. Assumes nothing.
 use native.Mathlib.Omega.{arith}
 use Rattle.lines.specs.Writes.{writes-as}
 use Rattle.lines.specs.Spelling.{refused-is}
@@ -25,7 +24,9 @@ same-length : tie.Need-same-length
 same-length c = search needs
 
 returns : tie.Need-returns
-returns c = let e = c .before .before .before .before .before .before .before .before .before .args in writes-as (refused-is (e .index) (e .s) (e .f) (c .before .before .before .before .before .before .before .number-of .ensures) (c .before .before .before .before .before .before .returned-by .ensures)) (c .before .before .put-indexed .ensures) (omega arith)
+returns c = let e = c .before .before .before .before .before .before .before .before .before .args in
+    writes-as (refused-is (e .index) (e .s) (e .f) (c .before .before .before .before .before .before .before .number-of .ensures)
+    (c .before .before .before .before .before .before .returned-by .ensures)) (c .before .before .put-indexed .ensures) (omega arith)
 
 pub put-refused-spec : {M : Type 1} → statement M
 put-refused-spec =

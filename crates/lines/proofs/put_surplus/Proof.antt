@@ -1,4 +1,3 @@
--- `lines::put_surplus` meets its contract. Assumes nothing.
 use native.Mathlib.Omega.{arith}
 use lib.ListN.{length-append}
 use Rattle.lines.specs.Writes.{behind}
@@ -26,10 +25,14 @@ same-length c = search needs
 
 returns : tie.Need-returns
 returns c =
-    let p = c .before .before .before .before .before .before .before .before .before .before .before .before .before .before .before .put-number in
-    let q = c .before .before .before .before .before .before .before .before .before .before .before .put-bytes in
-    let r = c .before .before .before .before .before .before .before .put-number2 in
-    behind (behind (behind (p .ensures) (q .ensures) (omega (arith, p .ensures .short))) (r .ensures) (simp length-append (omega (arith, p .ensures .short, q .ensures .short)))) (c .before .before .put-bytes2 .ensures) (simp length-append (omega (arith, p .ensures .short, q .ensures .short, r .ensures .short)))
+    let ending : _ = c .before .before .before .before .before .before .before in
+    let behind : _ = ending .before .before .before .before in
+    let p = behind .before .before .before .before .put-number in
+    let q = behind .put-bytes in
+    let r = ending .put-number2 in
+    behind (behind (behind (p .ensures) (q .ensures) (omega (arith, p .ensures .short))) (r .ensures)
+    (simp length-append (omega (arith, p .ensures .short, q .ensures .short)))) (c .before .before .put-bytes2 .ensures)
+    (simp length-append (omega (arith, p .ensures .short, q .ensures .short, r .ensures .short)))
 
 pub put-surplus-spec : {M : Type 1} → statement M
 put-surplus-spec =

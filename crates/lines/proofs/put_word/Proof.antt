@@ -1,4 +1,3 @@
--- `lines::put_word` meets its contract. Assumes nothing.
 use native.Mathlib.Omega.{arith}
 use lib.ListN.{length-append}
 use Rattle.lines.specs.Writes.{behind}

@@ -15,10 +15,17 @@ due-requires c κs = search needs
 
 spend-requires : tie.Need-spend-requires
 spend-requires c κs = let a : _ = c .before .before .args in
-    omega (arith, c .before .before .pre .0 .debit, on-cost (a .rate) (a .on) (a .minutes) (c .before .before .pre .1) (c .before .before .pre .3) (c .before .cost-over .ensures) (c .due .ensures .0) (c .due .ensures .1) .1)
+    omega (
+      arith,
+      c .before .before .pre .0 .debit,
+      on-cost (a .rate) (a .on) (a .minutes) (c .before .before .pre .1) (c .before .before .pre .3)
+          (c .before .cost-over .ensures) (c .due .ensures .0) (c .due .ensures .1) .1,
+    )
 
 returns : tie.Need-returns
-returns c = let a : _ = c .before .before .before .args in let e : _ = on-cost (a .rate) (a .on) (a .minutes) (c .before .before .before .pre .1) (c .before .before .before .pre .3) (c .before .before .cost-over .ensures) (c .before .due .ensures .0) (c .before .due .ensures .1) in
+returns c = let a : _ = c .before .before .before .args in
+    let e : _ = on-cost (a .rate) (a .on) (a .minutes) (c .before .before .before .pre .1) (c .before .before .before .pre .3)
+    (c .before .before .cost-over .ensures) (c .before .due .ensures .0) (c .before .due .ensures .1) in
     spent-as onMost (c .spend .ensures) (e .0) (e .1)
 
 pub on-money-spec : {M : Type 1} → statement M

@@ -1,4 +1,4 @@
--- `pen::store` meets its contract. The loop's invariant: what is left to store gives the whole. Assumes nothing.
+-- The loop's invariant: what is left to store gives the whole.
 use Prim.Native.Nat.{_-_, _≤_}
 use mathlib.Core.Path.{_≡_, refl, _∙_, sym}
 use borrow.Author.Needs.{needs}

@@ -14,13 +14,19 @@ returns : tie.Need-returns
 returns c = decides-short _ _ _ _ _ _ _ (c .before .before .before .before .before .before .pre) _ (c .before .completion-bytes .ensures) (c .if1 .taken)
 
 complete-requires : tie.Need-complete-requires
-complete-requires c κs = (c .before .before .before .before .before .before .before .pre .unbroken, c .before .before .before .before .before .before .before .pre .countable, omega (arith, c .before .before .completion-bytes .ensures, c .before .if1 .left))
+complete-requires c κs = (
+  c .before .before .before .before .before .before .before .pre .unbroken,
+  c .before .before .before .before .before .before .before .pre .countable,
+  omega (arith, c .before .before .completion-bytes .ensures, c .before .if1 .left),
+)
 
 same-length : tie.Need-same-length
 same-length c = search needs
 
 returns-2 : tie.Need-returns-2
-returns-2 c = let e = toZ-ofZ w64 (c .before .before .complete .result) (record { sfits = c .before .before .complete .ok }) in decides-accepted _ _ _ _ _ _ _ (c .before .before .before .before .before .before .before .before .before .before .pre) _ (omega (arith, c .before .before .before .before .before .completion-bytes .ensures, c .before .before .before .before .if1 .left)) (rw e (c .before .before .complete .ensures))
+returns-2 c = let e = toZ-ofZ w64 (c .before .before .complete .result) (record { sfits = c .before .before .complete .ok }) in
+    decides-accepted _ _ _ _ _ _ _ (c .before .before .before .before .before .before .before .before .before .before .pre) _
+    (omega (arith, c .before .before .before .before .before .completion-bytes .ensures, c .before .before .before .before .if1 .left)) (rw e (c .before .before .complete .ensures))
 
 pub complete-spec : {M : Type 1} → statement M
 complete-spec = tie.close (tie.spec completion-bytes-requires returns complete-requires same-length returns-2)

@@ -47,10 +47,12 @@ blank-setting-requires : tie.Need-blank-setting-requires
 blank-setting-requires c κs = search needs
 
 mul-k : tie.Need-mul-k
-mul-k c = let d = decoded-first _ _ _ _ _ _ _ _ _ (c .before .before .before .before .before .before .before .before .before .before .read-case .ensures) (c .before .enum-told .given .1) in omega (arith, few-cells d)
+mul-k c = let d = decoded-first _ _ _ _ _ _ _ _ _ (c .before .before .before .before .before .before .before .before .before .before .read-case .ensures)
+    (c .before .enum-told .given .1) in omega (arith, few-cells d)
 
 mul-j : tie.Need-mul-j
-mul-j c = let d = decoded-first _ _ _ _ _ _ _ _ _ (c .before .before .before .before .before .before .before .before .before .before .read-case .ensures) (c .before .enum-told .given .1) in omega (arith, few-minima d)
+mul-j c = let d = decoded-first _ _ _ _ _ _ _ _ _ (c .before .before .before .before .before .before .before .before .before .before .read-case .ensures)
+    (c .before .enum-told .given .1) in omega (arith, few-minima d)
 
 add-e : tie.Need-add-e
 add-e c = omega (arith, c .before .before .before .before .before .before .before .before .before .before .read-case .ensures .counted (c .before .enum-told .given .1) .intervals)
@@ -59,52 +61,82 @@ array-share-prefix-halves : tie.Need-array-share-prefix-halves
 array-share-prefix-halves c = omega (arith, c .before .before .before .before .before .before .before .before .before .before .read-case .ensures .counted (c .before .enum-told .given .1) .intervals)
 
 slice-aggregate-judge-plan : tie.Need-slice-aggregate-judge-plan
-slice-aggregate-judge-plan c = sym (c .before .before .before .before .before .before .before .before .before .before .before .read-case .ensures .long (c .before .before .enum-told .given .1) .halves-long)
+slice-aggregate-judge-plan c = sym (c .before .before .before .before .before .before .before .before .before .before .before .read-case .ensures .long
+    (c .before .before .enum-told .given .1) .halves-long)
 
 array-share-prefix-zones : tie.Need-array-share-prefix-zones
-array-share-prefix-zones c = omega (arith, c .before .before .before .before .before .before .before .before .before .before .before .read-case .ensures .counted (c .before .before .enum-told .given .1) .zones)
+array-share-prefix-zones c = omega (
+  arith,
+  c .before .before .before .before .before .before .before .before .before .before .before .read-case .ensures .counted (c .before .before .enum-told .given .1) .zones,
+)
 
 slice-aggregate-judge-plan-2 : tie.Need-slice-aggregate-judge-plan-2
-slice-aggregate-judge-plan-2 c = sym (c .before .before .before .before .before .before .before .before .before .before .before .before .read-case .ensures .long (c .before .before .before .enum-told .given .1) .zones-long)
+slice-aggregate-judge-plan-2 c = let reading : _ = c .before .before .before .before .before .before .before .before .before .before .before .before in
+    sym (reading .read-case .ensures .long (c .before .before .before .enum-told .given .1) .zones-long)
 
 array-share-prefix-minima : tie.Need-array-share-prefix-minima
-array-share-prefix-minima c = let d = decoded-first _ _ _ _ _ _ _ _ _ (c .before .before .before .before .before .before .before .before .before .before .before .before .read-case .ensures) (c .before .before .before .enum-told .given .1) in omega (arith, few-minima d)
+array-share-prefix-minima c = let d = decoded-first _ _ _ _ _ _ _ _ _
+    (c .before .before .before .before .before .before .before .before .before .before .before .before .read-case .ensures)
+    (c .before .before .before .enum-told .given .1) in omega (arith, few-minima d)
 
 slice-aggregate-judge-plan-3 : tie.Need-slice-aggregate-judge-plan-3
-slice-aggregate-judge-plan-3 c = sym (c .before .before .before .before .before .before .before .before .before .before .before .before .before .read-case .ensures .long (c .before .before .before .before .enum-told .given .1) .minima-long)
+slice-aggregate-judge-plan-3 c = let earlier : _ = c .before .before .before .before .before .before .before .before .before .before .before .before in
+    let reading : _ = earlier .before in sym (reading .read-case .ensures .long (c .before .before .before .before .enum-told .given .1) .minima-long)
 
 array-share-prefix-devices : tie.Need-array-share-prefix-devices
-array-share-prefix-devices c = omega (arith, c .before .before .before .before .before .before .before .before .before .before .before .before .before .read-case .ensures .counted (c .before .before .before .before .enum-told .given .1) .devices)
+array-share-prefix-devices c = let earlier : _ = c .before .before .before .before .before .before .before .before .before .before .before .before in
+    let reading : _ = earlier .before in omega (arith, reading .read-case .ensures .counted (c .before .before .before .before .enum-told .given .1) .devices)
 
 slice-aggregate-judge-plan-4 : tie.Need-slice-aggregate-judge-plan-4
-slice-aggregate-judge-plan-4 c = sym (c .before .before .before .before .before .before .before .before .before .before .before .before .before .before .read-case .ensures .long (c .before .before .before .before .before .enum-told .given .1) .devices-long)
+slice-aggregate-judge-plan-4 c = let earlier : _ = c .before .before .before .before .before .before .before .before .before .before .before .before in
+    let reading : _ = earlier .before .before in sym (reading .read-case .ensures .long (c .before .before .before .before .before .enum-told .given .1) .devices-long)
 
 array-share-prefix-cells : tie.Need-array-share-prefix-cells
-array-share-prefix-cells c = let d = decoded-first _ _ _ _ _ _ _ _ _ (c .before .before .before .before .before .before .before .before .before .before .before .before .before .before .read-case .ensures) (c .before .before .before .before .before .enum-told .given .1) in omega (arith, few-cells d)
+array-share-prefix-cells c = let earlier : _ = c .before .before .before .before .before .before .before .before .before .before .before .before in
+    let reading : _ = earlier .before .before in
+    let d = decoded-first _ _ _ _ _ _ _ _ _ (reading .read-case .ensures) (c .before .before .before .before .before .enum-told .given .1) in omega (arith, few-cells d)
 
 slice-aggregate-judge-plan-5 : tie.Need-slice-aggregate-judge-plan-5
-slice-aggregate-judge-plan-5 c = sym (c .before .before .before .before .before .before .before .before .before .before .before .before .before .before .before .read-case .ensures .long (c .before .before .before .before .before .before .enum-told .given .1) .cells-long)
+slice-aggregate-judge-plan-5 c = let earlier : _ = c .before .before .before .before .before .before .before .before .before .before .before .before in
+    let reading : _ = earlier .before .before .before in sym (reading .read-case .ensures .long (c .before .before .before .before .before .before .enum-told .given .1) .cells-long)
 
 array-borrow-prefix-settings : tie.Need-array-borrow-prefix-settings
-array-borrow-prefix-settings c = let d = decoded-first _ _ _ _ _ _ _ _ _ (c .before .before .before .before .before .before .before .before .before .before .before .before .before .before .before .read-case .ensures) (c .before .before .before .before .before .before .enum-told .given .1) in omega (arith, few-cells d)
+array-borrow-prefix-settings c = let earlier : _ = c .before .before .before .before .before .before .before .before .before .before .before .before in
+    let reading : _ = earlier .before .before .before in
+    let d = decoded-first _ _ _ _ _ _ _ _ _ (reading .read-case .ensures) (c .before .before .before .before .before .before .enum-told .given .1) in omega (arith, few-cells d)
 
 slice-aggregate-judge-plan-6 : tie.Need-slice-aggregate-judge-plan-6
-slice-aggregate-judge-plan-6 c = let d = decoded-first _ _ _ _ _ _ _ _ _ (c .before .before .before .before .before .before .before .before .before .before .before .before .before .before .before .before .read-case .ensures) (c .before .before .before .before .before .before .before .enum-told .given .1) in taken _ 768 _ (omega (arith, few-cells d))
+slice-aggregate-judge-plan-6 c = let earlier : _ = c .before .before .before .before .before .before .before .before .before .before .before .before in
+    let reading : _ = earlier .before .before .before .before in
+    let d = decoded-first _ _ _ _ _ _ _ _ _ (reading .read-case .ensures) (c .before .before .before .before .before .before .before .enum-told .given .1) in taken _ 768 _ (omega (arith, few-cells d))
 
 array-borrow-prefix-starts : tie.Need-array-borrow-prefix-starts
-array-borrow-prefix-starts c = omega (arith, c .before .before .before .before .before .before .before .before .before .before .before .before .before .before .before .before .read-case .ensures .counted (c .before .before .before .before .before .before .before .enum-told .given .1) .intervals)
+array-borrow-prefix-starts c = let earlier : _ = c .before .before .before .before .before .before .before .before .before .before .before .before in
+    let reading : _ = earlier .before .before .before .before in
+    omega (arith, reading .read-case .ensures .counted (c .before .before .before .before .before .before .before .enum-told .given .1) .intervals)
 
 slice-aggregate-judge-plan-7 : tie.Need-slice-aggregate-judge-plan-7
-slice-aggregate-judge-plan-7 c = taken _ 49 _ (omega (arith, c .before .before .before .before .before .before .before .before .before .before .before .before .before .before .before .before .before .read-case .ensures .counted (c .before .before .before .before .before .before .before .before .enum-told .given .1) .intervals))
+slice-aggregate-judge-plan-7 c = let earlier : _ = c .before .before .before .before .before .before .before .before .before .before .before .before in
+    let reading : _ = earlier .before .before .before .before .before in
+    taken _ 49 _ (omega (arith, reading .read-case .ensures .counted (c .before .before .before .before .before .before .before .before .enum-told .given .1) .intervals))
 
 array-borrow-prefix-powers : tie.Need-array-borrow-prefix-powers
-array-borrow-prefix-powers c = let d = decoded-first _ _ _ _ _ _ _ _ _ (c .before .before .before .before .before .before .before .before .before .before .before .before .before .before .before .before .before .read-case .ensures) (c .before .before .before .before .before .before .before .before .enum-told .given .1) in omega (arith, few-cells d)
+array-borrow-prefix-powers c = let earlier : _ = c .before .before .before .before .before .before .before .before .before .before .before .before in
+    let reading : _ = earlier .before .before .before .before .before in
+    let d = decoded-first _ _ _ _ _ _ _ _ _ (reading .read-case .ensures) (c .before .before .before .before .before .before .before .before .enum-told .given .1) in omega (arith, few-cells d)
 
 slice-aggregate-judge-plan-8 : tie.Need-slice-aggregate-judge-plan-8
-slice-aggregate-judge-plan-8 c = let d = decoded-first _ _ _ _ _ _ _ _ _ (c .before .before .before .before .before .before .before .before .before .before .before .before .before .before .before .before .before .before .read-case .ensures) (c .before .before .before .before .before .before .before .before .before .enum-told .given .1) in taken _ 768 _ (omega (arith, few-cells d))
+slice-aggregate-judge-plan-8 c = let earlier : _ = c .before .before .before .before .before .before .before .before .before .before .before .before in
+    let reading : _ = earlier .before .before .before .before .before .before in
+    let d = decoded-first _ _ _ _ _ _ _ _ _ (reading .read-case .ensures)
+    (c .before .before .before .before .before .before .before .before .before .enum-told .given .1) in taken _ 768 _ (omega (arith, few-cells d))
 
 judge-plan-requires : tie.Need-judge-plan-requires
-judge-plan-requires c κs = let d = decoded-first _ _ _ _ _ _ _ _ _ (c .before .before .before .before .before .before .before .before .before .before .before .before .before .before .before .before .before .before .before .read-case .ensures) (c .before .before .before .before .before .before .before .before .before .before .enum-told .given .1) in let k = few-cells d in (d .decoded, work d (taken _ 768 _ (omega arith)) (taken _ 49 _ (omega (arith, d .few-intervals))) (taken _ 768 _ (omega arith)))
+judge-plan-requires c κs = let earlier : _ = c .before .before .before .before .before .before .before .before .before .before .before .before in
+    let reading : _ = earlier .before .before .before .before .before .before .before in
+    let d = decoded-first _ _ _ _ _ _ _ _ _ (reading .read-case .ensures)
+    (c .before .before .before .before .before .before .before .before .before .before .enum-told .given .1) in let k = few-cells d in
+    (d .decoded, work d (taken _ 768 _ (omega arith)) (taken _ 49 _ (omega (arith, d .few-intervals))) (taken _ 768 _ (omega arith)))
 
 returns : tie.Need-returns
 returns c = case-fails _ _ _ _ _ _ _ _ _ (c .before .before .before .before .before .before .before .before .before .before .read-case .ensures) _ _ (c .before .ending .given .1)
@@ -113,7 +145,15 @@ same-length : tie.Need-same-length
 same-length c = search needs
 
 returns-2 : tie.Need-returns-2
-returns-2 c = case-passes _ _ _ _ _ _ _ _ _ (c .before .before .before .before .before .before .before .before .before .before .before .before .before .before .before .before .before .before .before .before .before .before .before .before .before .read-case .ensures) _ (c .before .before .before .before .before .before .before .before .before .before .before .before .before .before .before .before .enum-told .given .1) (c .before .before .before .before .before .judge-plan .ensures .verdict) (c .before .before .before .before .before .judge-plan .ensures .result)
+returns-2 c = let earlier : _ = c .before .before .before .before .before .before .before .before .before .before .before .before in
+    let telling : _ = earlier .before .before .before .before in let reading : _ = telling .before .before .before .before .before .before .before .before .before
+    in case-passes _ _ _ _ _ _ _ _ _ (reading .read-case .ensures) _ (telling .enum-told .given .1)
+    (c .before .before .before .before .before .judge-plan .ensures .verdict) (c .before .before .before .before .before .judge-plan .ensures .result)
 
 pub judge-spec : {M : Type 1} → statement M
-judge-spec = tie.close (tie.spec blank-zone-requires blank-minima-requires blank-device-requires blank-cell-requires slice-aggregate-read-case slice-aggregate-read-case-2 slice-aggregate-read-case-3 slice-aggregate-read-case-4 slice-aggregate-read-case-5 read-case-requires enum-known-ending enum-told blank-setting-requires mul-k mul-j add-e array-share-prefix-halves slice-aggregate-judge-plan array-share-prefix-zones slice-aggregate-judge-plan-2 array-share-prefix-minima slice-aggregate-judge-plan-3 array-share-prefix-devices slice-aggregate-judge-plan-4 array-share-prefix-cells slice-aggregate-judge-plan-5 array-borrow-prefix-settings slice-aggregate-judge-plan-6 array-borrow-prefix-starts slice-aggregate-judge-plan-7 array-borrow-prefix-powers slice-aggregate-judge-plan-8 judge-plan-requires returns same-length returns-2)
+judge-spec = tie.close (tie.spec blank-zone-requires blank-minima-requires blank-device-requires blank-cell-requires slice-aggregate-read-case
+    slice-aggregate-read-case-2 slice-aggregate-read-case-3 slice-aggregate-read-case-4 slice-aggregate-read-case-5 read-case-requires enum-known-ending enum-told
+    blank-setting-requires mul-k mul-j add-e array-share-prefix-halves slice-aggregate-judge-plan array-share-prefix-zones slice-aggregate-judge-plan-2
+    array-share-prefix-minima slice-aggregate-judge-plan-3 array-share-prefix-devices slice-aggregate-judge-plan-4 array-share-prefix-cells
+    slice-aggregate-judge-plan-5 array-borrow-prefix-settings slice-aggregate-judge-plan-6 array-borrow-prefix-starts slice-aggregate-judge-plan-7
+    array-borrow-prefix-powers slice-aggregate-judge-plan-8 judge-plan-requires returns same-length returns-2)

@@ -14,13 +14,16 @@ enum-told : tie.Need-enum-told
 enum-told c = search needs
 
 judge-settings-requires : tie.Need-judge-settings-requires
-judge-settings-requires c κs = planned-of (c .before .before .before .before .before .before .before .before .before .before .before .before .before .before .pre .0) _ _ _ (c .before .before .before .before .before .before .before .read-plan .ensures) (c .before .before .before .before .before .before .before .before .before .before .before .before .before .before .pre .1) (c .before .before .before .before .enum-told .given .1)
+judge-settings-requires c κs = let earlier : _ = c .before .before .before .before .before .before .before .before .before .before .before .before in
+    let entry : _ = earlier .before .before in
+    planned-of (entry .pre .0) _ _ _ (c .before .before .before .before .before .before .before .read-plan .ensures) (entry .pre .1) (c .before .before .before .before .enum-told .given .1)
 
 same-length : tie.Need-same-length
 same-length c = search needs
 
 returns : tie.Need-returns
-returns c = plan-fails (c .before .before .before .before .before .before .before .before .before .before .before .pre .0) _ _ _ (c .before .before .before .before .read-plan .ensures) _ (c .before .f .given .1)
+returns c = plan-fails (c .before .before .before .before .before .before .before .before .before .before .before .pre .0) _ _ _
+    (c .before .before .before .before .read-plan .ensures) _ (c .before .f .given .1)
 
 same-length-2 : tie.Need-same-length-2
 same-length-2 c = search needs
@@ -35,7 +38,10 @@ same-length-5 : tie.Need-same-length-5
 same-length-5 c = search needs
 
 returns-2 : tie.Need-returns-2
-returns-2 c = plan-passes (c .before .before .before .before .before .before .before .before .before .before .before .before .before .before .before .before .before .before .before .before .before .pre .0) _ _ _ (c .before .before .before .before .before .before .before .before .before .before .before .before .before .before .read-plan .ensures) (c .before .before .before .before .before .before .before .before .before .before .before .enum-told .given .1) (c .before .before .before .before .before .before .judge-settings .ensures)
+returns-2 c = let earlier : _ = c .before .before .before .before .before .before .before .before .before .before .before .before in
+    let reading : _ = earlier .before .before in let entry : _ = reading .before .before .before .before .before .before .before in
+    plan-passes (entry .pre .0) _ _ _ (reading .read-plan .ensures)
+    (c .before .before .before .before .before .before .before .before .before .before .before .enum-told .given .1) (c .before .before .before .before .before .before .judge-settings .ensures)
 
 pub judge-plan-spec : {M : Type 1} → statement M
 judge-plan-spec = tie.close (tie.spec read-plan-requires enum-known-f enum-told judge-settings-requires same-length returns same-length-2 same-length-3 same-length-4 same-length-5 returns-2)

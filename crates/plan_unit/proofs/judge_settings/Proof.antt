@@ -8,7 +8,8 @@ force-requires : tie.Need-force-requires
 force-requires c κs = search needs
 
 first-breach-requires : tie.Need-first-breach-requires
-first-breach-requires c κs = ready-of _ _ _ _ _ _ _ (c .before .before .before .before .before .before .before .before .before .before .before .before .before .pre) (c .before .before .before .before .before .before .force .ensures)
+first-breach-requires c κs = let earlier : _ = c .before .before .before .before .before .before .before .before .before .before .before .before in
+    let entry : _ = earlier .before in ready-of _ _ _ _ _ _ _ (entry .pre) (c .before .before .before .before .before .before .force .ensures)
 
 enum-known-first : tie.Need-enum-known-first
 enum-known-first c = search needs
@@ -17,7 +18,11 @@ enum-told : tie.Need-enum-told
 enum-told c = search needs
 
 complete-requires : tie.Need-complete-requires
-complete-requires c κs = kept-of _ _ _ _ _ _ _ (c .before .before .before .before .before .before .before .before .before .before .before .before .before .before .before .before .before .before .before .pre .decoded) (ready-of _ _ _ _ _ _ _ (c .before .before .before .before .before .before .before .before .before .before .before .before .before .before .before .before .before .before .before .pre) (c .before .before .before .before .before .before .before .before .before .before .before .before .force .ensures)) (c .before .before .before .before .before .first-breach .ensures) (c .before .before .before .enum-told .given .1)
+complete-requires c κs = let earlier : _ = c .before .before .before .before .before .before .before .before .before .before .before .before in
+    let entry : _ = earlier .before .before .before .before .before .before .before in
+    kept-of _ _ _ _ _ _ _ (entry .pre .decoded) (ready-of _ _ _ _ _ _ _ (entry .pre)
+    (c .before .before .before .before .before .before .before .before .before .before .before .before .force .ensures))
+    (c .before .before .before .before .before .first-breach .ensures) (c .before .before .before .enum-told .given .1)
 
 same-length : tie.Need-same-length
 same-length c = search needs
@@ -41,4 +46,5 @@ returns-2 : tie.Need-returns-2
 returns-2 c = search needs
 
 pub judge-settings-spec : {M : Type 1} → statement M
-judge-settings-spec = tie.close (tie.spec force-requires first-breach-requires enum-known-first enum-told complete-requires same-length same-length-2 returns same-length-3 same-length-4 same-length-5 returns-2)
+judge-settings-spec = tie.close (tie.spec force-requires first-breach-requires enum-known-first enum-told complete-requires same-length same-length-2 returns
+    same-length-3 same-length-4 same-length-5 returns-2)

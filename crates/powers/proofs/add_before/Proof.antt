@@ -35,13 +35,19 @@ sub-minutes : tie.Need-sub-minutes Inv-loop μ-loop
 sub-minutes c = omega (arith, before-minutes (c .before .before .before .before .before .before .pre) (c .before .before .loop .inv .0) (search needs) (c .before .before .loop .inv .1))
 
 left-after-requires : tie.Need-left-after-requires Inv-loop μ-loop
-left-after-requires c κs = (c .before .before .before .before .before .before .pre .power-small, c .before .before .before .before .before .before .pre .ramp-small, omega (arith, c .before .before .before .before .before .before .pre .clock .early (c .before .before .before .before .before .before .args .e + 1)))
+left-after-requires c κs = (
+  c .before .before .before .before .before .before .pre .power-small,
+  c .before .before .before .before .before .before .pre .ramp-small,
+  omega
+      (arith, c .before .before .before .before .before .before .pre .clock .early (c .before .before .before .before .before .before .args .e + 1)),
+)
 
 same-length : tie.Need-same-length Inv-loop μ-loop
 same-length c = c .before .before .before .before .loop .inv .1 .long
 
 returns : tie.Need-returns Inv-loop μ-loop
-returns c = before-stop (c .before .before .before .before .before .before .before .before .pre) (c .before .before .before .before .loop .inv .0) (search needs) (c .before .before .before .before .loop .inv .1) (c .before .left-after .ensures .0) (c .if1 .taken)
+returns c = before-stop (c .before .before .before .before .before .before .before .before .pre) (c .before .before .before .before .loop .inv .0)
+    (search needs) (c .before .before .before .before .loop .inv .1) (c .before .left-after .ensures .0) (c .if1 .taken)
 
 sub-t : tie.Need-sub-t Inv-loop μ-loop
 sub-t c = search needs
@@ -53,7 +59,12 @@ slice-read-row : tie.Need-slice-read-row Inv-loop μ-loop
 slice-read-row c = omega (arith, c .before .before .before .before .before .loop .inv .1 .long, c .before .before .before .before .before .before .before .before .before .pre .interval)
 
 add-row : tie.Need-add-row Inv-loop μ-loop
-add-row c = omega (arith, before-kept (c .before .before .before .before .before .before .before .before .before .pre) (c .before .before .before .before .before .loop .inv .0) (search needs) (c .before .before .before .before .before .loop .inv .1), c .before .before .left-after .ensures .1)
+add-row c = omega (
+  arith,
+  before-kept (c .before .before .before .before .before .before .before .before .before .pre)
+      (c .before .before .before .before .before .loop .inv .0) (search needs) (c .before .before .before .before .before .loop .inv .1),
+  c .before .before .left-after .ensures .1,
+)
 
 slice-write-row : tie.Need-slice-write-row Inv-loop μ-loop
 slice-write-row c = omega (arith, c .before .before .before .before .before .loop .inv .1 .long, c .before .before .before .before .before .before .before .before .before .pre .interval)
@@ -62,7 +73,11 @@ loop-less : tie.Need-loop-less Inv-loop μ-loop
 loop-less c = search needs
 
 loop-again : tie.Need-loop-again Inv-loop μ-loop
-loop-again c = (search needs, before-next (c .before .before .before .before .before .before .before .before .before .pre) (c .before .before .before .before .before .loop .inv .0) (search needs) (c .before .before .before .before .before .loop .inv .1) (c .before .before .left-after .ensures .0) refl)
+loop-again c = (
+  search needs,
+  before-next (c .before .before .before .before .before .before .before .before .before .pre)
+      (c .before .before .before .before .before .loop .inv .0) (search needs) (c .before .before .before .before .before .loop .inv .1) (c .before .before .left-after .ensures .0) refl,
+)
 
 same-length-2 : tie.Need-same-length-2 Inv-loop μ-loop
 same-length-2 c = c .before .loop .inv .1 .long
@@ -71,4 +86,5 @@ returns-2 : tie.Need-returns-2 Inv-loop μ-loop
 returns-2 c = let z : c .before .loop .t ≡ 0 = omega arith in rw (← z) (c .before .loop .inv .1)
 
 pub add-before-spec : {M : Type 1} → statement M
-add-before-spec = tie.close (tie.spec Inv-loop μ-loop add-next mul-until shared-slice-read-until loop-holds mul-minutes shared-slice-read-minutes sub-minutes left-after-requires same-length returns sub-t mul-row slice-read-row add-row slice-write-row loop-less loop-again same-length-2 returns-2)
+add-before-spec = tie.close (tie.spec Inv-loop μ-loop add-next mul-until shared-slice-read-until loop-holds mul-minutes shared-slice-read-minutes sub-minutes
+    left-after-requires same-length returns sub-t mul-row slice-read-row add-row slice-write-row loop-less loop-again same-length-2 returns-2)

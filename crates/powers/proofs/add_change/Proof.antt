@@ -23,7 +23,8 @@ same-length c = c .before .before .add-before .ensures .long
 returns : tie.Need-returns
 returns c =
     let a : _ = c .before .before .before .before .before .before .before .before .args in
-    started-adds (a .r) (a .cells .now) (a .starts .now) (a .before) (a .on) (a .e) (c .before .before .before .before .before .if1 .taken) (c .before .before .before .before .pmin-at .ensures) (c .before .before .add-before .ensures)
+    started-adds (a .r) (a .cells .now) (a .starts .now) (a .before) (a .on) (a .e) (c .before .before .before .before .before .if1 .taken)
+    (c .before .before .before .before .pmin-at .ensures) (c .before .before .add-before .ensures)
 
 same-length-2 : tie.Need-same-length-2
 same-length-2 c = c .before .before .add-after .ensures .long
@@ -31,7 +32,8 @@ same-length-2 c = c .before .before .add-after .ensures .long
 returns-2 : tie.Need-returns-2
 returns-2 c =
     let a : _ = c .before .before .before .before .before .before .before .before .before .args in
-    stopped-adds (a .r) (a .cells .now) (a .starts .now) (a .before) (a .on) (a .e) (c .before .before .before .before .before .if2 .taken) (c .before .before .before .before .leaves-at .ensures) (c .before .before .before .before .before .before .before .before .before .pre .3) (c .before .before .add-after .ensures)
+    stopped-adds (a .r) (a .cells .now) (a .starts .now) (a .before) (a .on) (a .e) (c .before .before .before .before .before .if2 .taken)
+    (c .before .before .before .before .leaves-at .ensures) (c .before .before .before .before .before .before .before .before .before .pre .3) (c .before .before .add-after .ensures)
 
 returns-3 : tie.Need-returns-3
 returns-3 c =

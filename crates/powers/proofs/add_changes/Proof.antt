@@ -25,8 +25,13 @@ add-change-requires : tie.Need-add-change-requires Inv-loop μ-loop
 add-change-requires c κs =
     let s : _ = c .before .before .before .before .before .before in
     let a : _ = s .args in
-    let h : _ = c .before .before .before .loop in
-    (s .pre .0, search needs, s .pre .2, omega (arith, h .inv .2 .long, s .pre .3 .long, s .pre .1 .same), grown-low (a .r) (a .cells .now) (a .settings .now) (a .starts .now) (s .pre .0) (s .pre .1) (s .pre .3) (search needs) (h .inv .2))
+    let h : _ = c .before .before .before .loop in (
+      s .pre .0,
+      search needs,
+      s .pre .2,
+      omega (arith, h .inv .2 .long, s .pre .3 .long, s .pre .1 .same),
+      grown-low (a .r) (a .cells .now) (a .settings .now) (a .starts .now) (s .pre .0) (s .pre .1) (s .pre .3) (search needs) (h .inv .2),
+    )
 
 add-e : tie.Need-add-e Inv-loop μ-loop
 add-e c = search needs
@@ -38,8 +43,12 @@ loop-again : tie.Need-loop-again Inv-loop μ-loop
 loop-again c =
     let s : _ = c .before .before .before .before .before .before .before .before .before in
     let a : _ = s .args in
-    let h : _ = c .before .before .before .before .before .before .loop in
-    (search needs, before-next (a .r .on0) (a .settings .now) (h .e) (c .before .before .before .before .on-at .ensures), grown-more (a .r) (a .cells .now) (a .settings .now) (a .starts .now) (s .pre .0) (s .pre .1) (s .pre .3) (h .inv .1) (c .before .before .before .before .on-at .ensures) (h .inv .2) (c .before .before .add-change .ensures))
+    let h : _ = c .before .before .before .before .before .before .loop in (
+      search needs,
+      before-next (a .r .on0) (a .settings .now) (h .e) (c .before .before .before .before .on-at .ensures),
+      grown-more (a .r) (a .cells .now) (a .settings .now) (a .starts .now) (s .pre .0) (s .pre .1) (s .pre .3) (h .inv .1)
+          (c .before .before .before .before .on-at .ensures) (h .inv .2) (c .before .before .add-change .ensures),
+    )
 
 same-length : tie.Need-same-length Inv-loop μ-loop
 same-length c = c .before .loop .inv .2 .long

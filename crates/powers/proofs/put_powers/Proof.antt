@@ -23,10 +23,12 @@ ramping-at-requires : tie.Need-ramping-at-requires Inv-loop μ-loop
 ramping-at-requires c κs = search needs
 
 add-e : tie.Need-add-e Inv-loop μ-loop
-add-e c = let p : _ = c .before .before .before .before .before .before .pre in let h : _ = c .before .before .loop in omega (arith, room (p .0 .0 .rows) (p .0 .1) (h .i) (h .a) (search needs) (h .inv .1))
+add-e c = let p : _ = c .before .before .before .before .before .before .pre in let h : _ = c .before .before .loop in
+    omega (arith, room (p .0 .0 .rows) (p .0 .1) (h .i) (h .a) (search needs) (h .inv .1))
 
 mul-device-powers : tie.Need-mul-device-powers Inv-loop μ-loop
-mul-device-powers c = let p : _ = c .before .before .before .before .before .before .pre in let h : _ = c .before .before .loop in omega (arith, room (p .0 .0 .rows) (p .0 .1) (h .i) (h .a) (search needs) (h .inv .1))
+mul-device-powers c = let p : _ = c .before .before .before .before .before .before .pre in let h : _ = c .before .before .loop in
+    omega (arith, room (p .0 .0 .rows) (p .0 .1) (h .i) (h .a) (search needs) (h .inv .1))
 
 sub-device-powers : tie.Need-sub-device-powers Inv-loop μ-loop
 sub-device-powers c = search needs
@@ -35,10 +37,12 @@ part-device-powers-start : tie.Need-part-device-powers-start Inv-loop μ-loop
 part-device-powers-start c = search needs
 
 part-device-powers-end : tie.Need-part-device-powers-end Inv-loop μ-loop
-part-device-powers-end c = let p : _ = c .before .before .before .before .before .before .pre in let h : _ = c .before .before .loop in omega (arith, room (p .0 .0 .rows) (p .0 .1) (h .i) (h .a) (search needs) (h .inv .1))
+part-device-powers-end c = let p : _ = c .before .before .before .before .before .before .pre in let h : _ = c .before .before .loop in
+    omega (arith, room (p .0 .0 .rows) (p .0 .1) (h .i) (h .a) (search needs) (h .inv .1))
 
 mul-device-powers-2 : tie.Need-mul-device-powers-2 Inv-loop μ-loop
-mul-device-powers-2 c = let p : _ = c .before .before .before .before .before .before .before .pre in let h : _ = c .before .before .before .loop in omega (arith, room (p .0 .0 .rows) (p .0 .1) (h .i) (h .a) (search needs) (h .inv .1))
+mul-device-powers-2 c = let p : _ = c .before .before .before .before .before .before .before .pre in let h : _ = c .before .before .before .loop in
+    omega (arith, room (p .0 .0 .rows) (p .0 .1) (h .i) (h .a) (search needs) (h .inv .1))
 
 sub-device-powers-2 : tie.Need-sub-device-powers-2 Inv-loop μ-loop
 sub-device-powers-2 c = search needs
@@ -47,10 +51,12 @@ part-device-powers-start-2 : tie.Need-part-device-powers-start-2 Inv-loop μ-loo
 part-device-powers-start-2 c = search needs
 
 part-device-powers-end-2 : tie.Need-part-device-powers-end-2 Inv-loop μ-loop
-part-device-powers-end-2 c = let p : _ = c .before .before .before .before .before .before .before .pre in let h : _ = c .before .before .before .loop in omega (arith, room (p .0 .0 .rows) (p .0 .1) (h .i) (h .a) (search needs) (h .inv .1))
+part-device-powers-end-2 c = let p : _ = c .before .before .before .before .before .before .before .pre in let h : _ = c .before .before .before .loop in
+    omega (arith, room (p .0 .0 .rows) (p .0 .1) (h .i) (h .a) (search needs) (h .inv .1))
 
 mul-device-powers-3 : tie.Need-mul-device-powers-3 Inv-loop μ-loop
-mul-device-powers-3 c = let p : _ = c .before .before .before .before .before .before .before .before .pre in let h : _ = c .before .before .before .before .loop in omega (arith, room (p .0 .0 .rows) (p .0 .1) (h .i) (h .a) (search needs) (h .inv .1))
+mul-device-powers-3 c = let p : _ = c .before .before .before .before .before .before .before .before .pre in
+    let h : _ = c .before .before .before .before .loop in omega (arith, room (p .0 .0 .rows) (p .0 .1) (h .i) (h .a) (search needs) (h .inv .1))
 
 sub-device-powers-3 : tie.Need-sub-device-powers-3 Inv-loop μ-loop
 sub-device-powers-3 c = search needs
@@ -59,7 +65,8 @@ part-device-powers-start-3 : tie.Need-part-device-powers-start-3 Inv-loop μ-loo
 part-device-powers-start-3 c = search needs
 
 part-device-powers-end-3 : tie.Need-part-device-powers-end-3 Inv-loop μ-loop
-part-device-powers-end-3 c = let p : _ = c .before .before .before .before .before .before .before .before .pre in let h : _ = c .before .before .before .before .loop in omega (arith, room (p .0 .0 .rows) (p .0 .1) (h .i) (h .a) (search needs) (h .inv .1), h .inv .2 .long, p .0 .0 .rows .cells-full)
+part-device-powers-end-3 c = let p : _ = c .before .before .before .before .before .before .before .before .pre in
+    let h : _ = c .before .before .before .before .loop in omega (arith, room (p .0 .0 .rows) (p .0 .1) (h .i) (h .a) (search needs) (h .inv .1), h .inv .2 .long, p .0 .0 .rows .cells-full)
 
 device-powers-requires : tie.Need-device-powers-requires Inv-loop μ-loop
 device-powers-requires c κs =
@@ -90,7 +97,8 @@ loop-again c =
     let h : _ = c .before .before .before .before .before .before .before .before .loop in (
       search needs,
       omega (arith, h .inv .1, next-part (length (a .halves .now)) (h .i)),
-      forced-step (a .halves .now) (a .devices .now) (a .cells .now) (a .settings .now) (p .0 .0) (p .0 .1) (h .i) (h .a) (search needs) (h .inv .1) (c .before .before .before .before .before .before .ramping-at .ensures) (a .starts .now) (h .powers) _ (p .0 .2) (h .inv .2) (c .before .before .device-powers .ensures),
+      forced-step (a .halves .now) (a .devices .now) (a .cells .now) (a .settings .now) (p .0 .0) (p .0 .1) (h .i) (h .a) (search needs) (h .inv .1)
+          (c .before .before .before .before .before .before .ramping-at .ensures) (a .starts .now) (h .powers) _ (p .0 .2) (h .inv .2) (c .before .before .device-powers .ensures),
     )
 
 same-length : tie.Need-same-length Inv-loop μ-loop
@@ -100,7 +108,10 @@ returns : tie.Need-returns Inv-loop μ-loop
 returns c =
     let s : _ = c .before .before .before .before .before in
     let a : _ = s .args in
-    forced-all (a .halves .now) (a .devices .now) (a .cells .now) (a .settings .now) (s .pre .0 .0) (s .pre .0 .1) (c .before .loop .i) (c .before .loop .inv .0) (search needs) (c .before .loop .inv .2)
+    forced-all (a .halves .now) (a .devices .now) (a .cells .now) (a .settings .now) (s .pre .0 .0) (s .pre .0 .1) (c .before .loop .i)
+    (c .before .loop .inv .0) (search needs) (c .before .loop .inv .2)
 
 pub put-powers-spec : {M : Type 1} → statement M
-put-powers-spec = tie.close (tie.spec Inv-loop μ-loop loop-holds ramping-at-requires add-e mul-device-powers sub-device-powers part-device-powers-start part-device-powers-end mul-device-powers-2 sub-device-powers-2 part-device-powers-start-2 part-device-powers-end-2 mul-device-powers-3 sub-device-powers-3 part-device-powers-start-3 part-device-powers-end-3 device-powers-requires add-i loop-less loop-again same-length returns)
+put-powers-spec = tie.close (tie.spec Inv-loop μ-loop loop-holds ramping-at-requires add-e mul-device-powers sub-device-powers part-device-powers-start
+    part-device-powers-end mul-device-powers-2 sub-device-powers-2 part-device-powers-start-2 part-device-powers-end-2 mul-device-powers-3 sub-device-powers-3
+    part-device-powers-start-3 part-device-powers-end-3 device-powers-requires add-i loop-less loop-again same-length returns)

@@ -59,4 +59,5 @@ returns : tie.Need-returns Inv-loop μ-loop
 returns c = let e : c .before .loop .t ≡ length (c .before .before .args .halves .now) = omega arith in rw (← e) (c .before .loop .inv .3)
 
 pub start-times-spec : {M : Type 1} → statement M
-start-times-spec = tie.close (tie.spec Inv-loop μ-loop slice-write-starts loop-holds mul-at shared-slice-read-at mul-at-2 add-at add-t mul-starts slice-write-starts-2 loop-less loop-again same-length returns)
+start-times-spec = tie.close (tie.spec Inv-loop μ-loop slice-write-starts loop-holds mul-at shared-slice-read-at mul-at-2 add-at add-t mul-starts
+    slice-write-starts-2 loop-less loop-again same-length returns)

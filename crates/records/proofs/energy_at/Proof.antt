@@ -77,7 +77,10 @@ energy-window-requires : tie.Need-energy-window-requires
 energy-window-requires c κs = search needs
 
 returns : tie.Need-returns
-returns c = c .energy-window .ensures ∙ energy-of (getD (c .before .before .before .before .before .args .devices .now) (c .before .before .before .before .before .args .i) []) (c .before .before .before .before .before .args .k) (c .before .before .before .before .before .pre .1)
+returns c = c .energy-window .ensures ∙ energy-of (getD (c .before .before .before .before .before .args .devices .now)
+    (c .before .before .before .before .before .args .i) []) (c .before .before .before .before .before .args .k) (c .before .before .before .before .before .pre .1)
 
 pub energy-at-spec : {M : Type 1} → statement M
-energy-at-spec = tie.close (tie.spec add-a mul-a add-a-2 mul-energy-window mul-energy-window-2 index-1-energy-window index-2-energy-window add-energy-window mul-energy-window-3 mul-energy-window-4 index-1-energy-window-2 index-2-energy-window-2 add-energy-window-2 mul-energy-window-5 mul-energy-window-6 index-1-energy-window-3 index-2-energy-window-3 add-energy-window-3 mul-energy-window-7 mul-energy-window-8 index-1-energy-window-4 index-2-energy-window-4 energy-window-requires returns)
+energy-at-spec = tie.close (tie.spec add-a mul-a add-a-2 mul-energy-window mul-energy-window-2 index-1-energy-window index-2-energy-window add-energy-window
+    mul-energy-window-3 mul-energy-window-4 index-1-energy-window-2 index-2-energy-window-2 add-energy-window-2 mul-energy-window-5 mul-energy-window-6
+    index-1-energy-window-3 index-2-energy-window-3 add-energy-window-3 mul-energy-window-7 mul-energy-window-8 index-1-energy-window-4 index-2-energy-window-4 energy-window-requires returns)

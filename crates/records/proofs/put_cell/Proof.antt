@@ -1,4 +1,3 @@
--- `records::put_cell` meets its contract. Assumes nothing.
 use mathlib.Core.Path.{refl}
 use borrow.Author.Needs.{needs}
 use Rattle.records.proofs.put_cell.Statement.{statement}

@@ -1,4 +1,3 @@
--- `records::put_setting` meets its contract. Assumes nothing.
 use mathlib.Core.Path.{refl}
 use borrow.Author.Needs.{needs}
 use Rattle.records.proofs.put_setting.Statement.{statement}

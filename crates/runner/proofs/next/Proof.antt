@@ -40,7 +40,8 @@ slice-aggregate-answer-plan : tie.Need-slice-aggregate-answer-plan
 slice-aggregate-answer-plan c = search needs
 
 answer-plan-requires : tie.Need-answer-plan-requires
-answer-plan-requires c κs = ((c .before .before .before .before .before .before .before .before .before .before .before .before .before .before .before .before .before .before .pre .0 .0, c .before .before .before .before .before .before .before .before .before .before .before .before .before .before .before .before .before .before .pre .0 .1), (c .before .before .before .before .before .before .before .before .before .before .before .before .before .before .before .before .before .before .pre .1 .0, c .before .before .before .before .before .before .before .before .before .before .before .before .before .before .before .before .before .before .pre .1 .1, c .before .before .before .before .before .before .before .before .before .before .before .before .before .before .before .before .before .before .pre .1 .3, search needs))
+answer-plan-requires c κs = let earlier : _ = c .before .before .before .before .before .before .before .before .before .before .before .before in
+    let entry : _ = earlier .before .before .before .before .before .before in ((entry .pre .0 .0, entry .pre .0 .1), (entry .pre .1 .0, entry .pre .1 .1, entry .pre .1 .3, search needs))
 
 array-share-prefix-line : tie.Need-array-share-prefix-line
 array-share-prefix-line c = search needs
@@ -70,7 +71,12 @@ same-length-5 : tie.Need-same-length-5
 same-length-5 c = search needs
 
 returns : tie.Need-returns
-returns c = let e = c .before .before .before .before .before .before .before .before .before .before .before .answer-plan .ensures in let t = c .before .before .before .before .before .before .before .before .before .before .before .before .before .before .before .before .before .before .before .before .told .ensures in let r = c .before .before .before .before .before .before .before .before .before .before .before .before .before .before .before .before .before .before .before .before .before .before .before .read-frame .ensures .1 in (omega arith, λ h. ⊎-elim (λ w. progress _ (e .more) (simp length-take (omega arith)) (omega arith) (sym (w .1) ∙ h)) (λ w. never (sym (w .0 .left) ∙ (sym (w .1) ∙ h))) (c .if1 .came))
+returns c = let earlier : _ = c .before .before .before .before .before .before .before .before .before .before .before .before in
+    let at-told : _ = earlier .before .before .before .before .before .before .before .before in let at-read-frame : _ = at-told .before .before .before in
+    let e = c .before .before .before .before .before .before .before .before .before .before .before .answer-plan .ensures in let t = at-told .told .ensures in
+    let r = at-read-frame .read-frame .ensures .1 in
+    (omega arith, λ h. ⊎-elim (λ w. progress _ (e .more) (simp length-take (omega arith)) (omega arith) (sym (w .1) ∙ h)) (λ w. never (sym (w .0 .left) ∙ (sym (w .1) ∙ h))) (c .if1 .came))
 
 pub next-spec : {M : Type 1} → statement M
-next-spec = tie.close (tie.spec read-frame-requires told-requires line-buffer-requires sub-answer-plan part-answer-plan-start part-answer-plan-end slice-aggregate-answer-plan answer-plan-requires array-share-prefix-line slice-aggregate-tell tell-requires sub-rest same-length same-length-2 same-length-3 same-length-4 same-length-5 returns)
+next-spec = tie.close (tie.spec read-frame-requires told-requires line-buffer-requires sub-answer-plan part-answer-plan-start part-answer-plan-end
+    slice-aggregate-answer-plan answer-plan-requires array-share-prefix-line slice-aggregate-tell tell-requires sub-rest same-length same-length-2 same-length-3 same-length-4 same-length-5 returns)

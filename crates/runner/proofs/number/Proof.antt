@@ -1,4 +1,4 @@
--- `runner::number` meets its contract: above 0 a signed number is the unsigned one. Assumes nothing.
+-- Above 0 a signed number is the unsigned one.
 use mathlib.Core.Path.{_≡_}
 use mathlib.Core.Bool.{true, false}
 use Prim.Native.Nat.{ℕ, _<_}

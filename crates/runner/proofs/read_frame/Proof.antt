@@ -1,4 +1,3 @@
--- `runner::read_frame` meets its contract. Assumes nothing.
 use native.Mathlib.Omega.{arith}
 use borrow.Author.Tests.{leb-false}
 use borrow.Author.Needs.{needs}

@@ -42,7 +42,9 @@ tell-requires : tie.Need-tell-requires
 tell-requires c κs = search needs
 
 sub-rest : tie.Need-sub-rest
-sub-rest c = omega (arith, c .before .before .before .before .before .before .before .before .before .before .before .before .before .before .before .before .before .before .before .before .before .before .told .ensures, c .before .before .before .before .before .before .before .before .before .before .before .before .before .before .before .before .before .before .before .before .before .before .before .before .before .read-frame .ensures .1)
+sub-rest c = let earlier : _ = c .before .before .before .before .before .before .before .before .before .before .before .before in
+    let at-told : _ = earlier .before .before .before .before .before .before .before .before .before .before in
+    let at-read-frame : _ = at-told .before .before .before in omega (arith, at-told .told .ensures, at-read-frame .read-frame .ensures .1)
 
 same-length : tie.Need-same-length
 same-length c = search needs
@@ -63,7 +65,13 @@ same-length-6 : tie.Need-same-length-6
 same-length-6 c = search needs
 
 returns : tie.Need-returns
-returns c = let e = c .before .before .before .before .before .before .before .before .before .before .before .before .answer-case .ensures in (omega (arith, c .before .before .before .before .before .before .before .before .before .before .before .before .before .before .before .before .before .before .before .before .before .before .told .ensures, c .before .before .before .before .before .before .before .before .before .before .before .before .before .before .before .before .before .before .before .before .before .before .before .before .before .read-frame .ensures .1), λ h. ⊎-elim (λ w. e .decoded (sym (w .1) ∙ h)) (λ w. never (sym (w .0 .left) ∙ (sym (w .1) ∙ h))) (c .if1 .came))
+returns c = let earlier : _ = c .before .before .before .before .before .before .before .before .before .before .before .before in
+    let at-told : _ = earlier .before .before .before .before .before .before .before .before .before .before in
+    let at-read-frame : _ = at-told .before .before .before in
+    let e = c .before .before .before .before .before .before .before .before .before .before .before .before .answer-case .ensures in
+    (omega (arith, at-told .told .ensures, at-read-frame .read-frame .ensures .1), λ h. ⊎-elim (λ w. e .decoded (sym (w .1) ∙ h)) (λ w. never (sym (w .0 .left) ∙ (sym (w .1) ∙ h))) (c .if1 .came))
 
 pub start-spec : {M : Type 1} → statement M
-start-spec = tie.close (tie.spec read-frame-requires told-requires line-buffer-requires sub-answer-case part-answer-case-start part-answer-case-end slice-aggregate-answer-case answer-case-requires array-share-prefix-line slice-aggregate-tell tell-requires sub-rest same-length same-length-2 same-length-3 same-length-4 same-length-5 same-length-6 returns)
+start-spec = tie.close (tie.spec read-frame-requires told-requires line-buffer-requires sub-answer-case part-answer-case-start part-answer-case-end
+    slice-aggregate-answer-case answer-case-requires array-share-prefix-line slice-aggregate-tell tell-requires sub-rest same-length same-length-2 same-length-3
+    same-length-4 same-length-5 same-length-6 returns)

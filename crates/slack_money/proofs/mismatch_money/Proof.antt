@@ -15,7 +15,12 @@ priced-requires c κs = let a : _ = c .before .args in let w : _ = c .before .pr
 
 spend-requires : tie.Need-spend-requires
 spend-requires c κs = let a : _ = c .before .before .args in let w : _ = c .before .before .pre .1 in
-    omega (arith, c .before .before .pre .0 .debit, energy-cost (a .m .0) (a .minutes) (a .price) (mismatch-power w) (interval-minutes w) (mismatch-price w) (c .before .over .ensures) (c .priced .ensures) .1)
+    omega (
+      arith,
+      c .before .before .pre .0 .debit,
+      energy-cost (a .m .0) (a .minutes) (a .price) (mismatch-power w) (interval-minutes w) (mismatch-price w)
+          (c .before .over .ensures) (c .priced .ensures) .1,
+    )
 
 returns : tie.Need-returns
 returns c = let a : _ = c .before .before .before .args in let w : _ = c .before .before .before .pre .1 in

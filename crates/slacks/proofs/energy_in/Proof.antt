@@ -29,7 +29,8 @@ shared-slice-read-minutes-in-2 : tie.Need-shared-slice-read-minutes-in-2 Inv-loo
 shared-slice-read-minutes-in-2 c = search needs
 
 minutes-in-requires : tie.Need-minutes-in-requires Inv-loop μ-loop
-minutes-in-requires c κs = let r : _ = c .before .before .before .before .before .before .before .pre in (r .early (c .before .before .before .loop .t) (c .before .before .loop-test .taken), r .half (c .before .before .before .loop .t) (c .before .before .loop-test .taken))
+minutes-in-requires c κs = let r : _ = c .before .before .before .before .before .before .before .pre in
+    (r .early (c .before .before .before .loop .t) (c .before .before .loop-test .taken), r .half (c .before .before .before .loop .t) (c .before .before .loop-test .taken))
 
 mul-t8 : tie.Need-mul-t8 Inv-loop μ-loop
 mul-t8 c = search needs
@@ -41,7 +42,9 @@ over-requires : tie.Need-over-requires Inv-loop μ-loop
 over-requires c κs = search needs
 
 plus-requires : tie.Need-plus-requires Inv-loop μ-loop
-plus-requires c κs = spent-room _ _ _ _ (c .before .before .before .before .before .before .before .before .before .before .pre) (c .before .before .before .before .before .before .loop .t) (c .before .before .before .before .before .loop-test .taken) (c .before .before .before .before .before .before .loop .inv .1) (c .before .before .minutes-in .ensures .1) (c .over .ensures)
+plus-requires c κs = spent-room _ _ _ _ (c .before .before .before .before .before .before .before .before .before .before .pre)
+    (c .before .before .before .before .before .before .loop .t) (c .before .before .before .before .before .loop-test .taken)
+    (c .before .before .before .before .before .before .loop .inv .1) (c .before .before .minutes-in .ensures .1) (c .over .ensures)
 
 add-t : tie.Need-add-t Inv-loop μ-loop
 add-t c = search needs
@@ -50,10 +53,17 @@ loop-less : tie.Need-loop-less Inv-loop μ-loop
 loop-less c = search needs
 
 loop-again : tie.Need-loop-again Inv-loop μ-loop
-loop-again c = (search needs, spent-next _ _ _ _ (c .before .before .before .before .before .before .before .before .before .before .before .pre) (c .before .before .before .before .before .before .before .loop .t) (c .before .before .before .before .before .before .loop-test .taken) (c .before .before .before .before .before .before .before .loop .inv .1) (c .before .before .before .minutes-in .ensures .1) (c .before .over .ensures) (c .before .before .before .minutes-in .ensures .0) (c .plus .ensures))
+loop-again c = (
+  search needs,
+  spent-next _ _ _ _ (c .before .before .before .before .before .before .before .before .before .before .before .pre)
+      (c .before .before .before .before .before .before .before .loop .t) (c .before .before .before .before .before .before .loop-test .taken)
+      (c .before .before .before .before .before .before .before .loop .inv .1) (c .before .before .before .minutes-in .ensures .1) (c .before .over .ensures)
+      (c .before .before .before .minutes-in .ensures .0) (c .plus .ensures),
+)
 
 returns : tie.Need-returns Inv-loop μ-loop
 returns c = spent-end _ _ _ _ (c .before .loop .t) _ (c .before .loop .inv .0) (c .loop-test .left) (c .before .loop .inv .1)
 
 pub energy-in-spec : {M : Type 1} → statement M
-energy-in-spec = tie.close (tie.spec Inv-loop μ-loop loop-holds mul-minutes-in shared-slice-read-minutes-in mul-minutes-in-2 shared-slice-read-minutes-in-2 minutes-in-requires mul-t8 shared-slice-read-t14 over-requires plus-requires add-t loop-less loop-again returns)
+energy-in-spec = tie.close (tie.spec Inv-loop μ-loop loop-holds mul-minutes-in shared-slice-read-minutes-in mul-minutes-in-2 shared-slice-read-minutes-in-2
+    minutes-in-requires mul-t8 shared-slice-read-t14 over-requires plus-requires add-t loop-less loop-again returns)

@@ -28,7 +28,8 @@ shared-slice-read-t14 : tie.Need-shared-slice-read-t14 Inv-loop μ-loop
 shared-slice-read-t14 c = let h : _ = c .before .before .before .loop in omega (arith, place (c .before .before .before .before .before .pre) (h .i) (h .k) (search needs) (h .inv .1))
 
 with-side-requires : tie.Need-with-side-requires Inv-loop μ-loop
-with-side-requires c κs = let h : _ = c .before .before .before .loop in omega (arith, place (c .before .before .before .before .before .pre) (h .i) (h .k) (search needs) (h .inv .1), h .inv .2 .small, c .before .before .before .before .before .pre .few-devices)
+with-side-requires c κs = let h : _ = c .before .before .before .loop in
+    omega (arith, place (c .before .before .before .before .before .pre) (h .i) (h .k) (search needs) (h .inv .1), h .inv .2 .small, c .before .before .before .before .before .pre .few-devices)
 
 add-k : tie.Need-add-k Inv-loop μ-loop
 add-k c = let h : _ = c .before .before .before .before .loop in omega (arith, place (c .before .before .before .before .before .before .pre) (h .i) (h .k) (search needs) (h .inv .1))
@@ -44,7 +45,8 @@ loop-again c =
     let h : _ = c .before .before .before .before .loop in (
       search needs,
       omega (arith, h .inv .1, next-part (c .before .before .before .before .before .before .args .m) (h .i)),
-      sides-next _ _ _ _ (h .i) (h .inv .2) (h .inv .1) (c .before .before .side-at .ensures) refl (place (c .before .before .before .before .before .before .pre) (h .i) (h .k) (search needs) (h .inv .1) .power) (c .with-side .ensures),
+      sides-next _ _ _ _ (h .i) (h .inv .2) (h .inv .1) (c .before .before .side-at .ensures) refl
+          (place (c .before .before .before .before .before .before .pre) (h .i) (h .k) (search needs) (h .inv .1) .power) (c .with-side .ensures),
     )
 
 apart-requires : tie.Need-apart-requires Inv-loop μ-loop

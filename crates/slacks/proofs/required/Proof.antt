@@ -24,12 +24,23 @@ share-requires-4 : tie.Need-share-requires-4
 share-requires-4 c κs = search needs
 
 plus-requires-2 : tie.Need-plus-requires-2
-plus-requires-2 c κs = let p : _ = c .before .before .before .before .before .pre in omega (arith, c .before .plus .ensures, c .before .before .before .before .share .ensures, c .before .before .share3 .ensures, c .share4 .ensures, mul-le-mul (p .0 .rgu) (p .1), mul-le-mul (p .0 .scr) (p .2), mul-le-mul (p .0 .nsc) (p .2))
+plus-requires-2 c κs = let p : _ = c .before .before .before .before .before .pre in
+    omega (
+      arith,
+      c .before .plus .ensures,
+      c .before .before .before .before .share .ensures,
+      c .before .before .share3 .ensures,
+      c .share4 .ensures,
+      mul-le-mul (p .0 .rgu) (p .1),
+      mul-le-mul (p .0 .scr) (p .2),
+      mul-le-mul (p .0 .nsc) (p .2),
+    )
 
 returns : tie.Need-returns
 returns c =
     let spinning : _ = c .before .before .plus .ensures ∙ ap₂ (λ (x y : ℕ). x + y) (c .before .before .before .before .before .share .ensures) (c .before .before .before .share3 .ensures) in
-    required-made (c .before .before .before .before .before .share .ensures) (c .before .before .before .before .share2 .ensures) spinning (c .plus2 .ensures ∙ ap₂ (λ (x y : ℕ). x + y) spinning (c .before .share4 .ensures))
+    required-made (c .before .before .before .before .before .share .ensures) (c .before .before .before .before .share2 .ensures) spinning
+    (c .plus2 .ensures ∙ ap₂ (λ (x y : ℕ). x + y) spinning (c .before .share4 .ensures))
 
 pub required-spec : {M : Type 1} → statement M
 required-spec = tie.close (tie.spec share-requires share-requires-2 share-requires-3 plus-requires share-requires-4 plus-requires-2 returns)

@@ -52,10 +52,11 @@ short-of-requires-6 c κs = search needs
 
 returns : tie.Need-returns
 returns c =
-    let a : _ = c .before .before .before .before .before .before .before .before .before .before .before .before .before .before .args in
+    let summed : _ = c .before .before .before .before .before .before .before .before .before .before .before .before in
+    let a : _ = summed .before .before .args in
     let s : _ = a .s in
-    let spinning : _ = c .before .before .before .before .before .before .before .before .before .before .before .before .before .plus .ensures in
-    let standing : _ = c .before .before .before .before .before .before .before .before .before .before .before .before .plus2 .ensures ∙ ap (λ (x : ℕ). x + s .nsc .0) spinning in
+    let spinning : _ = summed .before .plus .ensures in
+    let standing : _ = summed .plus2 .ensures ∙ ap (λ (x : ℕ). x + s .nsc .0) spinning in
     six-made
     (c .before .before .before .before .before .before .before .before .before .before .short-of .ensures)
     (c .before .before .before .before .before .before .before .before .short-of2 .ensures)
@@ -65,4 +66,5 @@ returns c =
     (c .short-of6 .ensures ∙ ap (λ (x : ℕ). x - 1000 * s .rrd .0) (c .before .in-watts2 .ensures))
 
 pub zone-needs-spec : {M : Type 1} → statement M
-zone-needs-spec = tie.close (tie.spec plus-requires plus-requires-2 array-copy-out-short-of short-of-requires array-copy-out-short-of-2 short-of-requires-2 array-copy-out-short-of-3 short-of-requires-3 array-copy-out-short-of-4 short-of-requires-4 in-watts-requires short-of-requires-5 in-watts-requires-2 short-of-requires-6 returns)
+zone-needs-spec = tie.close (tie.spec plus-requires plus-requires-2 array-copy-out-short-of short-of-requires array-copy-out-short-of-2 short-of-requires-2
+    array-copy-out-short-of-3 short-of-requires-3 array-copy-out-short-of-4 short-of-requires-4 in-watts-requires short-of-requires-5 in-watts-requires-2 short-of-requires-6 returns)
