@@ -3,8 +3,6 @@ use energy::KwMin;
 use fields::Figure;
 use fields::Went;
 use grains::Grains;
-use grains::Grains;
-use kilowatts::Kw;
 use kilowatts::Kw;
 use layouts::Place;
 use list_reader::ItemsRead;

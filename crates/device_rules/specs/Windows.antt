@@ -41,7 +41,8 @@ allStarts on0 settings = sumℕ (startedAt on0 settings) (upTo (length settings)
 
 pub some-starts : (w : StartWindow) (on0 : ℕ) (settings : List (List ℕ)) (starts : List ℕ) → startsAt w on0 settings starts ≤ allStarts on0 settings
 unfolding startsAt allStarts
-some-starts w on0 settings starts = sumℕ-mono _ _ (upTo (length settings)) (all (λ t. gate-le _ (startedAt on0 settings t) _ (le-refl _)) (upTo (length settings)))
+some-starts w on0 settings starts = sumℕ-mono (countedStart w on0 settings starts) (startedAt on0 settings) (upTo (length settings))
+    (all (λ t. gate-le (leb (w .from) (getD starts t 0) && ltb (getD starts t 0) (w .until)) (startedAt on0 settings t) _ (le-refl _)) (upTo (length settings)))
 
 -- the starts of the intervals below t
 pub record StartsTo (on0 : ℕ) (settings : List (List ℕ)) (t sum : ℕ) : Type 0 where

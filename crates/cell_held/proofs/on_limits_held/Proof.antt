@@ -54,8 +54,8 @@ at-most-requires-5 c κs = search needs
 
 returns-6 : tie.Need-returns-6
 returns-6 c = let earlier : _ = c .before .before .before .before .before .before .before .before .before .before .before .before in
-    let at-args : _ = earlier .before .before .before .before in λ e. let a : _ = at-args .args in
-    on-limits (a .d) (a .c) (a .s) (a .w) (at-args .pre .1) (omega arith)
+    let entry : _ = earlier .before .before .before .before in λ e. let a : _ = entry .args in
+    on-limits (a .d) (a .c) (a .s) (a .w) (entry .pre .1) (omega (arith, c .before .before .before .before .before .before .before .before .before .if1 .left))
     (leb-true _ _ (passed (c .before .before .before .before .before .before .before .before .at-most .ensures) (c .before .before .before .before .before .before .before .if2 .left)))
     (leb-true _ _ (passed (c .before .before .before .before .before .before .at-most2 .ensures) (c .before .before .before .before .before .if3 .left)))
     (leb-true _ _ (passed (c .before .before .before .before .at-most3 .ensures) (c .before .before .before .if4 .left)))

@@ -26,9 +26,9 @@ same-length c = search needs
 returns : tie.Need-returns
 returns c =
     let ending : _ = c .before .before .before .before .before .before .before in
-    let behind : _ = ending .before .before .before .before in
-    let p = behind .before .before .before .before .put-number in
-    let q = behind .put-bytes in
+    let sign : _ = ending .before .before .before .before in
+    let p = sign .before .before .before .before .put-number in
+    let q = sign .put-bytes in
     let r = ending .put-number2 in
     behind (behind (behind (p .ensures) (q .ensures) (omega (arith, p .ensures .short))) (r .ensures)
     (simp length-append (omega (arith, p .ensures .short, q .ensures .short)))) (c .before .before .put-bytes2 .ensures)

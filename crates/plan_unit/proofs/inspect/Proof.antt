@@ -16,6 +16,12 @@ blank-device-requires c κs = search needs
 blank-cell-requires : tie.Need-blank-cell-requires
 blank-cell-requires c κs = search needs
 
+cast-read-case : tie.Need-cast-read-case
+cast-read-case c = search needs
+
+cast-read-case-2 : tie.Need-cast-read-case-2
+cast-read-case-2 c = search needs
+
 slice-aggregate-read-case : tie.Need-slice-aggregate-read-case
 slice-aggregate-read-case c = search needs
 
@@ -47,5 +53,5 @@ returns-2 : tie.Need-returns-2
 returns-2 c = inspect-passes _ _ _ _ _ _ _ _ _ (c .before .before .before .before .before .before .before .before .read-case .ensures) (c .enum-told .given .1)
 
 pub inspect-spec : {M : Type 1} → statement M
-inspect-spec = tie.close (tie.spec blank-zone-requires blank-minima-requires blank-device-requires blank-cell-requires slice-aggregate-read-case
+inspect-spec = tie.close (tie.spec blank-zone-requires blank-minima-requires blank-device-requires blank-cell-requires cast-read-case cast-read-case-2 slice-aggregate-read-case
     slice-aggregate-read-case-2 slice-aggregate-read-case-3 slice-aggregate-read-case-4 slice-aggregate-read-case-5 read-case-requires enum-known-ending enum-told returns returns-2)

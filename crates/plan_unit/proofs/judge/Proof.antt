@@ -19,6 +19,12 @@ blank-device-requires c κs = search needs
 blank-cell-requires : tie.Need-blank-cell-requires
 blank-cell-requires c κs = search needs
 
+cast-read-case : tie.Need-cast-read-case
+cast-read-case c = search needs
+
+cast-read-case-2 : tie.Need-cast-read-case-2
+cast-read-case-2 c = search needs
+
 slice-aggregate-read-case : tie.Need-slice-aggregate-read-case
 slice-aggregate-read-case c = search needs
 
@@ -92,9 +98,9 @@ slice-aggregate-judge-plan-4 c = let earlier : _ = c .before .before .before .be
     let reading : _ = earlier .before .before in sym (reading .read-case .ensures .long (c .before .before .before .before .before .enum-told .given .1) .devices-long)
 
 array-share-prefix-cells : tie.Need-array-share-prefix-cells
-array-share-prefix-cells c = let earlier : _ = c .before .before .before .before .before .before .before .before .before .before .before .before in
-    let reading : _ = earlier .before .before in
-    let d = decoded-first _ _ _ _ _ _ _ _ _ (reading .read-case .ensures) (c .before .before .before .before .before .enum-told .given .1) in omega (arith, few-cells d)
+array-share-prefix-cells c =
+    let d = let earlier : _ = c .before .before .before .before .before .before .before .before .before .before .before .before in decoded-first _ _ _ _ _ _ _ _ _ (earlier .before .before .read-case .ensures) (c .before .before .before .before .before .enum-told .given .1) in
+    omega (arith, few-cells d)
 
 slice-aggregate-judge-plan-5 : tie.Need-slice-aggregate-judge-plan-5
 slice-aggregate-judge-plan-5 c = let earlier : _ = c .before .before .before .before .before .before .before .before .before .before .before .before in
@@ -151,7 +157,7 @@ returns-2 c = let earlier : _ = c .before .before .before .before .before .befor
     (c .before .before .before .before .before .judge-plan .ensures .verdict) (c .before .before .before .before .before .judge-plan .ensures .result)
 
 pub judge-spec : {M : Type 1} → statement M
-judge-spec = tie.close (tie.spec blank-zone-requires blank-minima-requires blank-device-requires blank-cell-requires slice-aggregate-read-case
+judge-spec = tie.close (tie.spec blank-zone-requires blank-minima-requires blank-device-requires blank-cell-requires cast-read-case cast-read-case-2 slice-aggregate-read-case
     slice-aggregate-read-case-2 slice-aggregate-read-case-3 slice-aggregate-read-case-4 slice-aggregate-read-case-5 read-case-requires enum-known-ending enum-told
     blank-setting-requires mul-k mul-j add-e array-share-prefix-halves slice-aggregate-judge-plan array-share-prefix-zones slice-aggregate-judge-plan-2
     array-share-prefix-minima slice-aggregate-judge-plan-3 array-share-prefix-devices slice-aggregate-judge-plan-4 array-share-prefix-cells
