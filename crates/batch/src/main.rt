@@ -1,4 +1,10 @@
 // The batch program: a batch by standard input, case first; a line for each message. It owns the tables of a case of up to 16 devices and 48 intervals.
+use plan_unit::CELLS;
+use plan_unit::DEVICES;
+use plan_unit::INTERVALS;
+use plan_unit::MINIMA;
+use plan_unit::TIMES;
+use plan_unit::ZONES;
 use records::CellRow;
 use records::DeviceRow;
 use records::Front;
@@ -62,15 +68,15 @@ fn run_plans(
 
 fn main() {
     let mut frame = runner::frame_buffer();
-    let mut halves = [0u32; 48];
+    let mut halves = [0u32; INTERVALS];
     let zone = records::blank_zone();
-    let mut zones = [zone; 4];
+    let mut zones = [zone; ZONES];
     let least = records::blank_minima();
-    let mut minima = [least; 192];
+    let mut minima = [least; MINIMA];
     let device = records::blank_device();
-    let mut devices = [device; 16];
+    let mut devices = [device; DEVICES];
     let cell = records::blank_cell();
-    let mut cells = [cell; 768];
+    let mut cells = [cell; CELLS];
     let started = runner::start(
         &mut frame,
         &mut halves,
@@ -87,9 +93,9 @@ fn main() {
     let z = counts.zones;
     if started.more {
         let setting = records::blank_setting();
-        let mut settings = [setting; 768];
-        let mut starts = [0u32; 49];
-        let mut powers = [0u32; 768];
+        let mut settings = [setting; CELLS];
+        let mut starts = [0u32; TIMES];
+        let mut powers = [0u32; CELLS];
         let k = n * m;
         let j = z * m;
         let e = m + 1;

@@ -42,11 +42,9 @@ slice-aggregate-next : tie.Need-slice-aggregate-next Inv-loop μ-loop
 slice-aggregate-next c = search needs
 
 next-requires : tie.Need-next-requires Inv-loop μ-loop
-next-requires c κs = let earlier : _ = c .before .before .before .before .before .before .before .before .before .before .before .before in
-    let entry : _ = earlier .before in (
-      (entry .pre .0 .0, c .before .before .before .before .before .before .loop .inv .3),
-      (entry .pre .0 .2, entry .pre .0 .3, c .before .before .before .before .before .before .loop .inv .1, search needs),
-    )
+next-requires c κs =
+    let p : _ = (let earlier : _ = c .before .before .before .before .before .before .before .before .before .before .before .before in earlier .before .pre .0) in
+    ((p .0, c .before .before .before .before .before .before .loop .inv .3), (p .2, p .3, c .before .before .before .before .before .before .loop .inv .1, search needs))
 
 slice-aggregate-print-completion : tie.Need-slice-aggregate-print-completion Inv-loop μ-loop
 slice-aggregate-print-completion c = search needs

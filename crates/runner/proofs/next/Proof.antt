@@ -40,8 +40,9 @@ slice-aggregate-answer-plan : tie.Need-slice-aggregate-answer-plan
 slice-aggregate-answer-plan c = search needs
 
 answer-plan-requires : tie.Need-answer-plan-requires
-answer-plan-requires c κs = let earlier : _ = c .before .before .before .before .before .before .before .before .before .before .before .before in
-    let entry : _ = earlier .before .before .before .before .before .before in ((entry .pre .0 .0, entry .pre .0 .1), (entry .pre .1 .0, entry .pre .1 .1, entry .pre .1 .3, search needs))
+answer-plan-requires c κs =
+    let p : _ = (let earlier : _ = c .before .before .before .before .before .before .before .before .before .before .before .before in earlier .before .before .before .before .before .before .pre) in
+    ((p .0 .0, p .0 .1), (p .1 .0, p .1 .1, p .1 .3, search needs))
 
 array-share-prefix-line : tie.Need-array-share-prefix-line
 array-share-prefix-line c = search needs
