@@ -4,7 +4,7 @@
 use crate::batch::join;
 use crate::case::{
     Block, Case, Device, EnergyKind, EnergyWindow, Reserves, Side, StartWindow, StartupState,
-    Status, Terms, Zone, MOST_ITEMS, MOST_ZONES,
+    Status, Terms, Zone, MOST_ITEMS, MOST_STATES, MOST_ZONES,
 };
 use crate::encode::{encode_case, encode_plan};
 use crate::plan::{Plan, Setting};
@@ -65,7 +65,7 @@ fn device(number: usize, intervals: usize) -> Device {
     Device {
         zone_bits: [true; MOST_ZONES],
         initially_on: true,
-        startup_states: vec![state; MOST_ITEMS],
+        startup_states: vec![state; MOST_STATES],
         start_windows: vec![starts; MOST_ITEMS],
         energy_windows: vec![energy; MOST_ITEMS],
         ..Device::plain(side, vec![terms; intervals])

@@ -8,7 +8,9 @@ pub const EDITION: i128 = 1;
 pub const MOST_DEVICES: usize = 16;
 pub const MOST_INTERVALS: usize = 48;
 pub const MOST_ZONES: usize = 4;
-/// States, start windows and energy windows of a device, blocks of an interval.
+/// Startup states of a device: "Three becomes the limit in every edition." (A.4)
+pub const MOST_STATES: usize = 3;
+/// Start windows and energy windows of a device, blocks of an interval.
 pub const MOST_ITEMS: usize = 4;
 
 /// A day to be planned. Power kW, time minutes, energy kW·min, money grains.
@@ -277,7 +279,7 @@ fn read_device(fields: &mut FieldReader, frame: &Frame) -> Result<Device, Fault>
         start_cost: fields.figure(30, 0, 1_000_000_000)?,
         stop_cost: fields.figure(30, 0, 1_000_000_000)?,
         reserve_limits: Reserves::from_order(array(|| fields.power())?),
-        startup_states: list(fields.count(3, 0, MOST_ITEMS)?, || {
+        startup_states: list(fields.count(3, 0, MOST_STATES)?, || {
             read_startup_state(fields)
         })?,
         start_windows: list(fields.count(3, 0, MOST_ITEMS)?, || {

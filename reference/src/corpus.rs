@@ -5,15 +5,15 @@ use std::fs;
 use std::path::Path;
 
 use crate::batch::{append_length, append_message, join, run, LONGEST_MESSAGE};
-use crate::case::{Case, Status, MOST_DEVICES, MOST_INTERVALS, MOST_ZONES};
+use crate::case::{Case, Status, MOST_DEVICES, MOST_INTERVALS, MOST_STATES, MOST_ZONES};
 use crate::census::Census;
 use crate::edges::Edges;
 use crate::encode::{encode_case, encode_plan, Encoded, Field};
 use crate::generate::batches::{random_batch, spoil_framing};
 use crate::generate::breaks::{break_at, plan_breaking};
 use crate::generate::damage::{
-    contradict, cut_at, values_out_of_range, with_fill_bit, with_surplus_bytes, with_value,
-    CONTRADICTIONS,
+    contradict, cut_at, give_states, values_out_of_range, with_fill_bit, with_surplus_bytes,
+    with_value, Contradiction, CONTRADICTIONS, MOST_STATES_SAID,
 };
 use crate::generate::device::Scale;
 use crate::generate::extreme::{very_high_surplus_day, very_low_surplus_day};
@@ -102,7 +102,7 @@ struct Part {
 type Maker = fn(&mut Rng) -> Vec<Vec<u8>>;
 
 /// Every part, made from its own random numbers so that none depends on the others.
-const PARTS: [(&str, Maker); 10] = [
+const PARTS: [(&str, Maker); 11] = [
     ("the paper's example batch and days (a) to (m)", |_| {
         worked_days()
     }),
@@ -124,6 +124,10 @@ const PARTS: [(&str, Maker); 10] = [
         broken_at_the_end,
     ),
     ("random batches of all sizes", random_batches),
+    (
+        "cases with as many startup states as may be, and with more",
+        cases_with_many_states,
+    ),
 ];
 
 fn parts_of(seed: u64) -> Vec<Part> {
@@ -499,6 +503,31 @@ fn random_batches(rng: &mut Rng) -> Vec<Vec<u8>> {
         let plans = [(); 5].map(|_| good_plan(rng, &sample));
         batches.push(batch_of(&sample.case, &plans));
     }
+    batches
+}
+
+/// Cases of up to three states at a device, with a plan, and of four to seven, which are refused
+/// at that device's count whatever contradiction they hold besides.
+fn cases_with_many_states(rng: &mut Rng) -> Vec<Vec<u8>> {
+    let mut batches = Vec::new();
+    for count in 0..=MOST_STATES_SAID {
+        for j in [0, 1] {
+            let mut sample = case_with_every_field(rng);
+            give_states(&mut sample.case, j, count);
+            let plans = [(); 3].map(|_| good_plan(rng, &sample));
+            batches.push(batch_of(&sample.case, &plans));
+            if count > MOST_STATES {
+                while !contradict(rng, &mut sample.case, Contradiction::PminAbovePmax) {}
+                batches.push(batch_of(&sample.case, &plans[..1]));
+            }
+        }
+    }
+    // The largest case that could be stored: four states at each of 16 devices.
+    let mut largest = very_low_surplus_day();
+    for j in 0..MOST_DEVICES {
+        give_states(&mut largest.case, j, MOST_STATES + 1);
+    }
+    batches.push(batch_of(&largest.case, &[largest.plan]));
     batches
 }
 

@@ -3,7 +3,7 @@
 use std::collections::BTreeMap;
 
 use crate::batch::{split, Split};
-use crate::case::{read_case, Case, Device, EnergyKind, Side};
+use crate::case::{read_case, Case, Device, EnergyKind, Side, MOST_STATES};
 use crate::clock::{spans, Span};
 use crate::completion::{Completion, DeviceChoices};
 use crate::forced::{forced, Forced};
@@ -429,6 +429,9 @@ const ACCEPTED_EDGES: &[AcceptedEdge] = &[
     }),
     ("cheapest state is not the first that fits", |day| {
         day.any_spot(|spot| spot.passes_over_first_fitting_state())
+    }),
+    ("third of three states taken", |day| {
+        day.any_spot(|spot| spot.taken_state() == Some(MOST_STATES - 1))
     }),
     ("downtime exactly the longest of the state taken", |day| {
         day.any_spot(|spot| spot.takes_state_at_its_longest_downtime())

@@ -2,7 +2,10 @@
 //! which values it may hold. The generator builds and damages messages with it.
 
 use crate::bits::{BitWriter, HIGHEST_POWER};
-use crate::case::{Case, Device, EnergyKind, Side, Status, Terms, Zone, EDITION, KIND_CASE};
+use crate::case::{
+    Case, Device, EnergyKind, Side, StartupState, Status, Terms, Zone, EDITION, KIND_CASE,
+    MOST_STATES,
+};
 use crate::plan::{Plan, Setting, KIND_PLAN};
 
 /// Which number a wrong value of a field is refused with.
@@ -69,6 +72,18 @@ impl Encoder {
             (low..=high).contains(&value),
             "{name}: {value} is outside {low}..{high}"
         );
+        self.put_as_it_stands(name, class, width, range, value);
+    }
+
+    /// Writes a value of the field's width, in its range or not.
+    fn put_as_it_stands(
+        &mut self,
+        name: &'static str,
+        class: Class,
+        width: usize,
+        (low, high): (i128, i128),
+        value: i128,
+    ) {
         self.fields.push(Field {
             name,
             class,
@@ -120,7 +135,8 @@ const PRODUCTS: [&str; 8] = [
     "rgu", "rgd", "scr", "nsc", "rru_on", "rru_off", "rrd_on", "rrd_off",
 ];
 
-/// The message of a case. Contradictions (number 5) are written as they stand.
+/// The message of a case. Contradictions (number 5) and a device's startup states, also where
+/// they are more than three, are written as they stand.
 pub fn encode_case(case: &Case) -> Encoded {
     let mut message = Encoder::default();
     message.kind("case kind", KIND_CASE);
@@ -197,11 +213,7 @@ fn put_device(message: &mut Encoder, device: &Device) {
     for (name, limit) in LIMITS.into_iter().zip(device.reserve_limits.in_order()) {
         message.power(name, limit);
     }
-    message.count("startup states", 3, (0, 4), device.startup_states.len());
-    for state in &device.startup_states {
-        message.figure("longest downtime", 16, 60_000, state.longest_downtime);
-        message.signed("state cost", 31, 1_000_000_000, state.cost);
-    }
+    put_startup_states(message, &device.startup_states);
     message.count("start windows", 3, (0, 4), device.start_windows.len());
     for window in &device.start_windows {
         message.figure("start window start", 16, 65_535, window.start);
@@ -218,6 +230,17 @@ fn put_device(message: &mut Encoder, device: &Device) {
     }
     for terms in &device.terms {
         put_terms(message, terms);
+    }
+}
+
+/// The states of a device behind their count, in the reading's range or not.
+fn put_startup_states(message: &mut Encoder, states: &[StartupState]) {
+    let taken = (0, MOST_STATES as i128);
+    let count = states.len() as i128;
+    message.put_as_it_stands("startup states", Class::Count, 3, taken, count);
+    for state in states {
+        message.figure("longest downtime", 16, 60_000, state.longest_downtime);
+        message.signed("state cost", 31, 1_000_000_000, state.cost);
     }
 }
 

@@ -1,8 +1,9 @@
-//! An independent reading of paper 01, "Plan unit: judging a day's commitment".
+//! An independent reading of paper 01, "Plan unit: judging a day's commitment", with request A.4 of
+//! paper 02 (three startup states).
 //!
-//! Written from the paper alone, it shares no code and no tables with the product that it is held
+//! Written from the papers alone, it shares no code and no tables with the product that it is held
 //! against. Every figure is an `i128` and arithmetic is checked in every profile, so that nothing
-//! can wrap unseen. Quotations in comments are the paper's.
+//! can wrap unseen. Quotations in comments are the papers'.
 //!
 //! The reading itself:
 //!

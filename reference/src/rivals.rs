@@ -1,6 +1,6 @@
 //! Rivals of our completion: other choices for the same plan.
 
-use crate::case::Case;
+use crate::case::{Case, MOST_STATES};
 use crate::completion::Completion;
 use crate::rng::Rng;
 
@@ -69,6 +69,9 @@ fn add_overrun(rng: &mut Rng, rival: &mut Completion, j: usize) {
     }
 }
 
+/// The highest number that can name a startup state.
+const LAST_STATE: i128 = MOST_STATES as i128;
+
 /// A completion that does not meet every rule: ours with one choice changed so that it must not be
 /// taken for one of "these".
 pub fn random_misfit(rng: &mut Rng, case: &Case, ours: &Completion) -> Completion {
@@ -87,8 +90,8 @@ pub fn random_misfit(rng: &mut Rng, case: &Case, ours: &Completion) -> Completio
             device.blocks[0] += 1 << 40;
             device.blocks[1] -= 1 << 40;
         }
-        4 => device.startup_state = rng.pick(&[-1, 5, 1 << 70]),
-        5 if device.started == 0 => device.startup_state = rng.from_to(1, 4),
+        4 => device.startup_state = rng.pick(&[-1, LAST_STATE + 1, 1 << 70]),
+        5 if device.started == 0 => device.startup_state = rng.from_to(1, LAST_STATE),
         6 if !interval.shortfalls.is_empty() => {
             let z = rng.below(interval.shortfalls.len());
             interval.shortfalls[z][rng.below(6)] -= 1;

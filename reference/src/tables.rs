@@ -398,6 +398,14 @@ fn startup_state_rows() -> Vec<Row> {
         ),
         after_outage(&[(480, 5)], "fitting state costs above 0: none"),
         after_outage(
+            &[(480, -100), (59, -900), (60, -500)],
+            "third of three states is the cheapest that fits",
+        ),
+        after_outage(
+            &[(480, -100), (59, -900), (60, -500), (60, -700)],
+            "four states: refused with 3 at their count",
+        ),
+        after_outage(
             &[(60, -500)],
             "downtime 60 from the last on interval's end fits 60",
         ),

@@ -1,11 +1,13 @@
 //! The busiest day is accepted, with every count at its largest.
 
-use reference::batch::{run, Line};
+use reference::batch::{messages, run, Line};
 use reference::busiest::busiest_batch;
 
 #[test]
 fn busiest_day_is_accepted() {
-    let lines = run(&busiest_batch(2, 16, 48));
+    let batch = busiest_batch(2, 16, 48);
+    assert_eq!(messages(&batch)[0].len(), 29_812);
+    let lines = run(&batch);
     assert!(matches!(
         lines[0],
         Line::Case {

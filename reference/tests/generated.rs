@@ -2,7 +2,7 @@
 //! to, damage that is refused where it was done. Counts can be seen with `--nocapture`.
 
 use reference::batch::{append_message, run};
-use reference::case::read_case;
+use reference::case::{read_case, MOST_STATES};
 use reference::census::Census;
 use reference::clock::spans;
 use reference::compare::numbered_batch;
@@ -14,7 +14,8 @@ use reference::forced::forced;
 use reference::generate::batches::random_plan_message;
 use reference::generate::breaks::plan_breaking;
 use reference::generate::damage::{
-    contradict, values_out_of_range, with_value, Contradiction, CONTRADICTIONS,
+    contradict, give_too_many_states, values_out_of_range, with_value, Contradiction,
+    CONTRADICTIONS,
 };
 use reference::generate::plans::{good_plan, wild_plan};
 use reference::generate::sample::{random_sample, wild_case, Sample};
@@ -216,13 +217,45 @@ fn contradictions_are_refused_at_the_field_the_paper_names() {
                 }
                 Contradiction::ZoneBitAboveCount => "zone bits",
             };
-            let at_fault = |field: &&Field| field.place == fault.bit;
-            let field = message.fields.iter().find(at_fault);
-            assert_eq!(field.map(|field| field.name), Some(name));
+            assert_eq!(name_of_field_at(&message, fault.bit), Some(name));
         }
     }
     println!("contradictions by kind: {made:?}");
     assert!(made.iter().all(|&count| count >= 10), "{made:?}");
+}
+
+fn name_of_field_at(message: &Encoded, bit: usize) -> Option<&'static str> {
+    let field = message.fields.iter().find(|field| field.place == bit);
+    field.map(|field| field.name)
+}
+
+#[test]
+fn cases_have_none_to_three_states() {
+    let mut devices = [0; MOST_STATES + 1];
+    for (_, sample) in samples(60) {
+        for device in &sample.case.devices {
+            devices[device.startup_states.len()] += 1;
+        }
+    }
+    println!("devices by number of states: {devices:?}");
+    assert!(devices.iter().all(|&count| count >= 10), "{devices:?}");
+}
+
+/// "It refuses a count of four with the existing 3 at that field."
+#[test]
+fn too_many_states_are_refused_at_their_count() {
+    for (mut rng, sample) in samples(60) {
+        let mut case = sample.case.clone();
+        give_too_many_states(&mut rng, &mut case);
+        contradict(&mut rng, &mut case, Contradiction::PminAbovePmax);
+        let message = encode_case(&case);
+        let fault = read_case(&message.bytes).expect_err("it has too many states");
+        assert_eq!(fault.number.figure(), 3);
+        assert_eq!(
+            name_of_field_at(&message, fault.bit),
+            Some("startup states")
+        );
+    }
 }
 
 /// Bytes without any sense are refused, never worse.

@@ -10,6 +10,7 @@ use reference::bits::overwrite;
 use reference::case::{read_case, Case};
 use reference::encode::{encode_case, encode_plan};
 use reference::fault::Fault;
+use reference::generate::damage::give_states;
 use reference::plan::read_plan;
 use reference::worked_day::{lettered_days, two_set_day, Day};
 
@@ -80,13 +81,55 @@ fn counts_are_number_3() {
         (13, 6, 63),
         (19, 3, 5),
         (19, 3, 7),
-        (418, 3, 5), // startup states of device 1
+        (418, 3, 4), // startup states of device 1
+        (418, 3, 7),
         (515, 3, 5), // its start windows
         (518, 3, 7), // its energy windows
         (557, 3, 5), // its blocks in interval 1
         (557 + 215, 3, 6),
     ];
     each_is_refused(&case, 3, &counts);
+}
+
+/// "Three becomes the limit in every edition. It refuses a count of four with the existing 3 at
+/// that field." All states are there, each whole. Device 2 has its count 352 bits behind its start
+/// at 951, or 47 bits later for each state of device 1 above two.
+#[test]
+fn three_startup_states_are_taken_and_four_refused_at_their_count() {
+    let with_states = |counts: [usize; 2]| {
+        let mut case = two_set_day().case;
+        for (j, count) in counts.into_iter().enumerate() {
+            give_states(&mut case, j, count);
+        }
+        case
+    };
+    for count in 0..=3 {
+        for counts in [[count, 0], [0, count], [count, count]] {
+            let case = with_states(counts);
+            assert_eq!(read_case(&bytes(&case)), Ok(case), "{counts:?}");
+        }
+    }
+    for count in 4..=7 {
+        assert_eq!(case_fault(&bytes(&with_states([count, 0]))), (3, 418));
+        assert_eq!(case_fault(&bytes(&with_states([count, 5]))), (3, 418));
+        assert_eq!(case_fault(&bytes(&with_states([2, count]))), (3, 1_303));
+        assert_eq!(case_fault(&bytes(&with_states([3, count]))), (3, 1_350));
+    }
+}
+
+/// The count is a field like others: nothing is read behind it, and nothing but numbers 1 to 4 of
+/// earlier fields comes ahead of it. Bit 416 lies in the limit at 401, bit 424 behind the count.
+#[test]
+fn a_count_of_four_states_has_its_place_among_the_faults() {
+    let mut case = two_set_day().case;
+    give_states(&mut case, 0, 4);
+    let four = bytes(&case);
+    assert_eq!(case_fault(&four[..52]), (1, 401));
+    assert_eq!(case_fault(&four[..53]), (3, 418));
+    assert_eq!(case_fault(&with(&four, &[(421, 16, 65_535)])), (3, 418));
+    assert_eq!(case_fault(&with(&four, &[(401, 17, 100_001)])), (4, 401));
+    assert_eq!(case_fault(&with(&four, &[(67, 4, 1)])), (3, 418));
+    assert_eq!(case_fault(&[&four[..], &[0]].concat()), (3, 418));
 }
 
 #[test]

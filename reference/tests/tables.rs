@@ -7,7 +7,7 @@ use reference::tables::{rows, written_rows};
 
 /// What each written row must give, in order. One interval of 10 minutes or more of 60 (10 in the
 /// rows about trajectories), block price 7 unless given, mismatch price 1, overrun price 3.
-const VERDICTS: [&str; 52] = [
+const VERDICTS: [&str; 54] = [
     // Consuming reserves: 90 or 60 kW at 7 − 1 for 10 minutes.
     "accepted 5400",
     "broken 17 1 1 0",
@@ -21,11 +21,13 @@ const VERDICTS: [&str; 52] = [
     "accepted 5000",
     "accepted -500",
     "accepted 700",
-    // States.
+    // States. Four are refused at their count: header 50, three durations of 8, 352 of the device.
     "accepted 500",
     "accepted 500",
     "accepted 0",
     "accepted 0",
+    "accepted 500",
+    "refused case 3 426",
     "accepted 500",
     "accepted 0",
     "accepted 500",
@@ -79,7 +81,7 @@ fn written_rows_give_what_was_worked_out() {
     for (row, verdict) in rows.iter().zip(VERDICTS) {
         let printed = row.printed();
         let expected: Vec<&str> = printed.split(' ').skip(2).collect();
-        let fields = if expected[0] == "accepted" { 2 } else { 5 };
+        let fields = verdict.split(' ').count();
         assert_eq!(expected[..fields].join(" "), verdict, "{}", row.about);
     }
 }

@@ -1,7 +1,7 @@
 -- What stands ahead of a device's intervals, from the parts that the code reads: side and zone bits, single figures, three lists.
 use mathlib.Core.Path.{_≡_, refl, ap, sym, _∙_}
 use mathlib.Core.List.{List, [], _∷_, map, map-map}
-use Prim.Native.Nat.{ℕ, zero, suc}
+use Prim.Native.Nat.{ℕ, zero, suc, _≤_}
 use native.Mathlib.Omega.{arith}
 use lib.IntN.{ℤ}
 use lib.ListN.{length, getD, take}
@@ -28,7 +28,8 @@ use Rattle.list_reader.specs.declared.Listed.the-variants.{States, Starts, Ener
 use Rattle.device_reader.specs.declared.SidesRead.{SidesRead}
 use Rattle.device_reader.specs.declared.FiguresRead.{FiguresRead}
 use Rattle.list_reader.specs.declared.ItemsRead.{ItemsRead}
-use Rattle.list_reader.specs.Items.{itemIn, items, itemsIn, fours, stateFrom, startFrom, energyFrom, ItemsDone, EnergiesMade}
+use Rattle.model.specs.Editions.{mostStates}
+use Rattle.list_reader.specs.Items.{itemIn, items, itemsIn, threes, fours, stateFrom, startFrom, energyFrom, ItemsDone, EnergiesMade}
 use Rattle.device_reader.specs.Parts.{Figures, sides, initialRow, rampRow, costRow, figures, figuresIn, MoneyMade, limitsFrom, deviceWith, deviceFrom, DeviceMade}
 use Rattle.device_reader.specs.Heads.{Ahead, ahead, aheadOf, HeadDone}
 use Rattle.list_reader.specs.Naturals.{item-natural}
@@ -117,6 +118,18 @@ firsts-made {B = B} f (suc n) (x ∷ l) = ap (λ (r : List B). f x ∷ r) (first
 seen : {A B : Type 0} (view : B → A) (f : Item → B) (n : ℕ) (l : List Item) → length l ≡ 4 → map view (take n (fours f l)) ≡ map (λ x. view (f x)) (take n l)
 seen {B = B} view f n l h = ap (λ (r : List B). map view (take n r)) (four-items f l h) ∙ ap (map view) (firsts-made f n l) ∙ map-map view f (take n l)
 
+-- the first three, where no more are counted
+three-items : {B : Type 0} (f : Item → B) (n : ℕ) (l : List Item) → n ≤ mostStates → take n (threes f l) ≡ take n (fours f l)
+three-items f zero l h = refl
+three-items f (suc zero) l h = refl
+three-items f (suc (suc zero)) l h = refl
+three-items f (suc (suc (suc zero))) l h = refl
+three-items f (suc (suc (suc (suc n)))) l h = absurd (omega arith)
+
+seen-three : {A B : Type 0} (view : B → A) (f : Item → B) (n : ℕ) (l : List Item) → n ≤ mostStates → length l ≡ 4
+    → map view (take n (threes f l)) ≡ map (λ x. view (f x)) (take n l)
+seen-three view f n l few h = ap (map view) (three-items f n l few) ∙ seen view f n l h
+
 with-same : (x : ℕ × ℕ) (f : Figures) {a a′ : List ℕ} {b b′ : List ℤ} {c c′ : List M.StartWindow} {d d′ : List M.EnergyWindow}
     → a ≡ a′ → b ≡ b′ → c ≡ c′ → d ≡ d′ → aheadWith x f a b c d ≡ aheadWith x f a′ b′ c′ d′
 with-same x f h i j k = rw (h, i, j, k) refl
@@ -125,13 +138,13 @@ with-same x f h i j k = rw (h, i, j, k) refl
 abbrev pub partsIn : SidesRead → FiguresRead → ItemsRead → ItemsRead → ItemsRead → Parts
 partsIn x f a b c = ((x .side, x .zonebits), (figuresIn f, (itemsIn States a, (itemsIn Starts b, itemsIn Energies c))))
 
-device-seen : (x : SidesRead) (f : FiguresRead) (a b c : ItemsRead) → length (a .items) ≡ 4 → length (b .items) ≡ 4 → length (c .items) ≡ 4
+device-seen : (x : SidesRead) (f : FiguresRead) (a b c : ItemsRead) → a .count ≤ mostStates → length (a .items) ≡ 4 → length (b .items) ≡ 4 → length (c .items) ≡ 4
     → aheadOf (deviceFrom x f a b c) ≡ aheadFrom (partsIn x f a b c)
-device-seen x f a b c h i j =
+device-seen x f a b c few h i j =
     let l = take (a .count) (a .items) in
     with-same (x .side, x .zonebits) (figuresIn f)
-    (seen (λ s. s .longest) stateFrom (a .count) (a .items) h ∙ sym (map-map (λ (s : ℕ × ℤ). s .0) (itemIn States) l))
-    (seen (λ s. less costOffset (s .cost)) stateFrom (a .count) (a .items) h ∙ sym (map-map (λ (s : ℕ × ℤ). s .1) (itemIn States) l))
+    (seen-three (λ s. s .longest) stateFrom (a .count) (a .items) few h ∙ sym (map-map (λ (s : ℕ × ℤ). s .0) (itemIn States) l))
+    (seen-three (λ s. less costOffset (s .cost)) stateFrom (a .count) (a .items) few h ∙ sym (map-map (λ (s : ℕ × ℤ). s .1) (itemIn States) l))
     (seen startIn startFrom (b .count) (b .items) i)
     (seen energyIn energyFrom (c .count) (c .items) j)
 
@@ -139,7 +152,7 @@ device-seen x f a b c h i j =
 
 pub device-made : (x : SidesRead) (f : FiguresRead) (a b c : ItemsRead) {g h : Grains} {limits : List Kw} {states : List State} {starts : List StartWindow} {energies : List EnergyWindow}
     → MoneyMade (getD (f .costs) 1 0) g → MoneyMade (getD (f .costs) 2 0) h → limits ≡ limitsFrom (f .limits)
-    → states ≡ fours stateFrom (a .items) → starts ≡ fours startFrom (b .items) → EnergiesMade (c .items) energies
+    → states ≡ threes stateFrom (a .items) → starts ≡ fours startFrom (b .items) → EnergiesMade (c .items) energies
     → DeviceMade x f a b c (deviceWith x f g h limits (a .count) states (b .count) starts (c .count) energies)
 device-made x f a b c m n l s t e = record {
   is = rw (m .is, n .is, l, s, t, e .is) refl;
@@ -161,7 +174,7 @@ module _ (e zones last : ℕ) (s : List ℕ) (p : Place) where
       (h : ItemsDone States e last s q₁ a) (i : ItemsDone Starts e last s q₂ b) (j : ItemsDone Energies e last s q₃ c) where
     pub head-done : {d : Device} → told (c .went) (partsIn x f a b c) ≡ got (parts e zones last) s p → DeviceMade x f a b c d → HeadDone e s p zones last (c .went) d
     head-done {d} t m = let k = m .is in record {
-      is = ap (λ (d : Device). told (c .went) (aheadOf d)) k ∙ ap (λ (v : Ahead). told (c .went) v) (device-seen x f a b c (h .long) (i .long) (j .long))
+      is = ap (λ (d : Device). told (c .went) (aheadOf d)) k ∙ ap (λ (v : Ahead). told (c .went) v) (device-seen x f a b c (h .few) (h .long) (i .long) (j .long))
           ∙ mapped (parts-natural e last zones) aheadFrom s p (c .went) (partsIn x f a b c) (ahead-is e zones last s p) t;
       counted = λ q o. rw k (record { few-states = h .few; few-starts = i .few; few-energies = j .few });
       small = λ q o. record {

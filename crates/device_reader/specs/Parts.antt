@@ -20,7 +20,7 @@ use Rattle.field_rows.specs.Each.{row}
 use Rattle.device_reader.specs.declared.SidesRead.{SidesRead}
 use Rattle.device_reader.specs.declared.FiguresRead.{FiguresRead}
 use Rattle.list_reader.specs.declared.ItemsRead.{ItemsRead}
-use Rattle.list_reader.specs.Items.{fours, stateFrom, startFrom, energyFrom}
+use Rattle.list_reader.specs.Items.{threes, fours, stateFrom, startFrom, energyFrom}
 
 -- "side 1; zone bits 4, zone 1 first"
 abbrev pub sides : ℕ → Layout (ℕ × ℕ)
@@ -90,7 +90,7 @@ deviceWith x f startcost stopcost limits nstates states nstarts starts nenergies
 abbrev pub deviceFrom : SidesRead → FiguresRead → ItemsRead → ItemsRead → ItemsRead → Device
 deviceFrom x f a b c =
     deviceWith x f (grains (getD (f .costs) 1 0)) (grains (getD (f .costs) 2 0)) (limitsFrom (f .limits))
-    (a .count) (fours stateFrom (a .items)) (b .count) (fours startFrom (b .items)) (c .count) (fours energyFrom (c .items))
+    (a .count) (threes stateFrom (a .items)) (b .count) (fours startFrom (b .items)) (c .count) (fours energyFrom (c .items))
 
 pub record DeviceMade (x : SidesRead) (f : FiguresRead) (a b c : ItemsRead) (d : Device) : Type 0 where
   pub is : d ≡ deviceFrom x f a b c

@@ -7,6 +7,7 @@ use lib.ListN.{length, set, length-set}
 use Rattle.layouts.specs.declared.Fault.{Fault}
 use Rattle.layouts.specs.declared.Place.{Place}
 use Rattle.layouts.specs.Layout.{Field, nat, countOf}
+use Rattle.model.specs.Editions.{mostWindows}
 use Rattle.fields.specs.declared.Figure.{Figure}
 use Rattle.fields.specs.declared.Figure.the-variants as F
 use Rattle.fields.specs.declared.Went.{Went}
@@ -17,39 +18,51 @@ use Rattle.fields.proofs.Steps.{figure-on, figure-off}
 use Rattle.list_reader.specs.declared.Item.{Item}
 use Rattle.list_reader.specs.declared.ItemsRead.{ItemsRead}
 use Rattle.list_reader.specs.declared.Listed.{Listed}
+use Rattle.list_reader.specs.declared.Listed.the-variants.{States, Starts, Energies}
 use Rattle.list_reader.specs.Items.{mostItems, item, itemIn, items, itemsIn, ItemsNone, ItemsDone}
 use Rattle.list_reader.specs.Naturals.{item-natural}
 
-abbrev count : Field
-count = countOf 3 0 mostItems
+abbrev count : Listed → Field
+count k = countOf 3 0 (mostItems k)
+
+-- the array has room for every list
+most-fits : (k : Listed) → mostItems k ≤ mostWindows
+most-fits States = omega arith
+most-fits Starts = omega arith
+most-fits Energies = omega arith
 
 module _ (k : Listed) (e last : ℕ) (s : List ℕ) where
   -- i of n have been read from start on, and p is next
   pub record Filling (n : ℕ) (start : Place) (i : ℕ) (items : List Item) (p : Place) : Type 0 where
-    pub few : n ≤ mostItems
-    pub long : length items ≡ 4
+    pub few : n ≤ mostItems k
+    pub fits : n ≤ mostWindows
+    pub long : length items ≡ mostWindows
     pub storing : Storing (item k e last) (itemIn k) s n start i items p
+
+  -- a count up to the list's own limit
+  limited : (c : Figure) (o : Place) {most : ℕ} → most ≡ mostItems k → figured c ≡ got (nat (countOf 3 0 most)) s o → figured c ≡ got (nat (count k)) s o
+  limited c o e h = rw e at h
 
   -- refused, at the count or behind it
   refused : (o : Place) {w : Went} {r : ItemsRead} {f : Fault} → ItemsNone w r → w ≡ W.Off f → got (items k e last) s o ≡ bad f → ItemsDone k e last s o r
   refused o {r = r} n t h = record { is = told-off (itemsIn k r) (n .same ∙ t) h; few = omega (arith, n .none); long = n .long }
 
-  module _ (o : Place) {c : Figure} (h : figured c ≡ got (nat count) s o) where
+  module _ (o : Place) {c : Figure} {most : ℕ} (limit : most ≡ mostItems k) (read : figured c ≡ got (nat (countOf 3 0 most)) s o) where
     pub fill-no-count : {w : Went} {r : ItemsRead} {f : Fault} → ItemsNone w r → c ≡ F.Bad f → w ≡ placed c → ItemsDone k e last s o r
-    fill-no-count n t d = refused o n (placed-off d t) (counted-off count (item k e last) s o (figure-off h t))
+    fill-no-count n t d = refused o n (placed-off d t) (counted-off (count k) (item k e last) s o (figure-off (limited c o limit read) t))
 
     module _ {n : ℕ} {start : Place} (t : c ≡ F.Good n start) where
-      pub fill-none : (l : List Item) → length l ≡ 4 → Filling n start 0 l start
-      fill-none l long = let few = nat-within count s o (figure-on h t) .1 in record { few = few; long = long; storing = storing-none (omega arith) }
+      pub fill-none : (l : List Item) → length l ≡ mostWindows → Filling n start 0 l start
+      fill-none l long = let few : n ≤ mostItems k = nat-within (count k) s o (figure-on (limited c o limit read) t) .1 in record { few = few; fits = omega (arith, few, most-fits k); long = long; storing = storing-none (omega (arith, few, most-fits k)) }
 
       module _ {i : ℕ} {l : List Item} {p : Place} (u : Filling n start i l p) where
         pub fill-off : {w : Went} {r : ItemsRead} (v : Item) {f : Fault} → ItemsNone w r → i < n → told w (itemIn k v) ≡ got (item k e last) s p → w ≡ W.Off f → ItemsDone k e last s o r
         fill-off v m b g d = refused o m d
-            (counted-on count (item k e last) s o (figure-on h t) ∙ storing-off (u .storing) (item-natural k e last) b (went-bad (itemIn k v) g d))
+            (counted-on (count k) (item k e last) s o (figure-on (limited c o limit read) t) ∙ storing-off (u .storing) (item-natural k e last) b (went-bad (itemIn k v) g d))
 
         pub fill-done : n ≤ i → ItemsDone k e last s o (record { went = W.On p; count = n; items = l })
         fill-done b = record {
-          is = sym (counted-on count (item k e last) s o (figure-on h t) ∙ storing-done (u .storing) b);
+          is = sym (counted-on (count k) (item k e last) s o (figure-on (limited c o limit read) t) ∙ storing-done (u .storing) b);
           few = u .few;
           long = u .long;
         }
@@ -58,6 +71,7 @@ module _ (k : Listed) (e last : ℕ) (s : List ℕ) where
     pub fill-more : {w : Went} (v : Item) {q : Place} → i < n → told w (itemIn k v) ≡ got (item k e last) s p → w ≡ W.On q → Filling n start (i + 1) (set l i v) q
     fill-more v b g d = record {
       few = u .few;
+      fits = u .fits;
       long = simp length-set (u .long);
       storing = storing-more (u .storing) (item-natural k e last) b (went-good (itemIn k v) g d);
     }

@@ -7,7 +7,7 @@ use lib.IntN.{ℤ}
 use Rattle.layouts.specs.declared.Place.{Place}
 use Rattle.layouts.specs.Layout.{Layout, int, _▸_, counted, countOf}
 use Rattle.model.specs.Case as M
-use Rattle.model.specs.Editions.{mostStates}
+use Rattle.model.specs.Editions.{mostStates, mostWindows}
 use Rattle.model.specs.Messages.{minutes, energyWindow}
 use Rattle.model.specs.ByEdition.{startWindow}
 use Rattle.records.specs.declared.State.{State}
@@ -22,9 +22,11 @@ use Rattle.list_reader.specs.declared.ItemsRead.{ItemsRead}
 use Rattle.list_reader.specs.declared.Listed.{Listed}
 use Rattle.list_reader.specs.declared.Listed.the-variants.{States, Starts, Energies}
 
--- "startup states 3 (0..4)"; "start windows 3 (0..4)"; "energy windows 3 (0..4)"
-abbrev pub mostItems : ℕ
-mostItems = mostStates
+-- "startup states 3 (0..3)"; "start windows 3 (0..4)"; "energy windows 3 (0..4)"
+abbrev pub mostItems : Listed → ℕ
+mostItems States = mostStates
+mostItems Starts = mostWindows
+mostItems Energies = mostWindows
 
 -- a startup state: its longest downtime and its cost
 abbrev pub state : Layout (ℕ × ℤ)
@@ -59,7 +61,7 @@ itemIn Energies x = energyItem x
 pub record ItemsNone (w : Went) (r : ItemsRead) : Type 0 where
   pub same : r .went ≡ w
   pub none : r .count ≡ 0
-  pub long : length (r .items) ≡ 4
+  pub long : length (r .items) ≡ mostWindows
 
 -- what was read of a list
 abbrev pub itemsIn : (k : Listed) → ItemsRead → List (Content k)
@@ -67,12 +69,12 @@ itemsIn k r = map (itemIn k) (take (r .count) (r .items))
 
 -- a count and that many
 abbrev pub items : (k : Listed) → ℕ → ℕ → Layout (List (Content k))
-items k e last = counted (countOf 3 0 mostItems) (item k e last)
+items k e last = counted (countOf 3 0 (mostItems k)) (item k e last)
 
 pub record ItemsDone (k : Listed) (e last : ℕ) (s : List ℕ) (p : Place) (r : ItemsRead) : Type 0 where
   pub is : told (r .went) (itemsIn k r) ≡ got (items k e last) s p
-  pub few : r .count ≤ mostItems
-  pub long : length (r .items) ≡ 4
+  pub few : r .count ≤ mostItems k
+  pub long : length (r .items) ≡ mostWindows
 
 -- ---- as the records that a device holds
 
@@ -88,7 +90,10 @@ energyFrom x = windowOf (x .0) (x .1) (x .2) (x .3)
 abbrev pub noItem : Item
 noItem = record { 0 = 0; 1 = 0; 2 = 0; 3 = 0 }
 
--- four of them
+-- three of them, and four
+abbrev pub threes : {B : Type 0} → (Item → B) → List Item → List B
+threes f l = f (getD l 0 noItem) ∷ f (getD l 1 noItem) ∷ f (getD l 2 noItem) ∷ []
+
 abbrev pub fours : {B : Type 0} → (Item → B) → List Item → List B
 fours f l = f (getD l 0 noItem) ∷ f (getD l 1 noItem) ∷ f (getD l 2 noItem) ∷ f (getD l 3 noItem) ∷ []
 

@@ -13,7 +13,7 @@ ghost use Rattle.layouts.specs.Layout.{noted};
 ghost use Rattle.model.specs.Messages.{windowEnds, energyWindow};
 ghost use Rattle.model.specs.ByEdition.{startWindow};
 ghost use Rattle.fields.specs.Got.{got, told};
-ghost use Rattle.list_reader.specs.Items.{state, item, stateItem, startItem, energyItem, itemIn, ItemsNone, ItemsDone, stateFrom, startFrom, fours, EnergyMade, EnergiesMade};
+ghost use Rattle.list_reader.specs.Items.{mostItems, threes, state, item, stateItem, startItem, energyItem, itemIn, ItemsNone, ItemsDone, stateFrom, startFrom, fours, EnergyMade, EnergiesMade};
 
 // "longest downtime 16 (0..60,000)"
 const MOST_MINUTES: u32 = 60000;
@@ -29,8 +29,10 @@ const ANY_16: u32 = 65535;
 // "energy 32 (0..4·10^9)"
 const MOST_ENERGY: u32 = 4000000000;
 
-// "startup states 3 (0..4)"; "start windows 3 (0..4)"; "energy windows 3 (0..4)"
-const MOST_ITEMS: u32 = 4;
+// "startup states 3 (0..3)"; "start windows 3 (0..4)"; "energy windows 3 (0..4)"
+const MOST_STATES: u32 = 3;
+
+const MOST_WINDOWS: u32 = 4;
 
 // ---- one of a list
 
@@ -183,12 +185,23 @@ pub fn no_items(went: Went) -> ItemsRead
     }
 }
 
+// How many a list may hold.
+fn most_items(listed: Listed) -> u32
+    ensures { λ r. ⌜ r ≡ mostItems listed ⌝ }
+{
+    match listed {
+        Listed::States => MOST_STATES,
+        Listed::Starts => MOST_WINDOWS,
+        Listed::Energies => MOST_WINDOWS,
+    }
+}
+
 // A count and that many.
 pub fn read_items(s: &[u8], p: Place, listed: Listed, edition: u32, last: u32) -> ItemsRead
     ensures { λ r. ⌜ ItemsDone listed edition last (now (s .entry)) p r ⌝ }
 {
     let mut items = [Item(0, 0, 0, 0); 4];
-    let count = fields::read_count(s, p, 3, 0, MOST_ITEMS);
+    let count = fields::read_count(s, p, 3, 0, most_items(listed));
     let Figure::Good(n, start) = count else {
         return no_items(fields::place_of(count));
     };
@@ -221,15 +234,14 @@ fn state_of(x: Item) -> State
     }
 }
 
-pub fn states_of(list: ItemsRead) -> [State; 4]
-    ensures { λ r. ⌜ r ≡ fours stateFrom (list .items) ⌝ }
+pub fn states_of(list: ItemsRead) -> [State; 3]
+    ensures { λ r. ⌜ r ≡ threes stateFrom (list .items) ⌝ }
 {
     let l = list.items;
     let a = state_of(l[0]);
     let b = state_of(l[1]);
     let c = state_of(l[2]);
-    let d = state_of(l[3]);
-    [a, b, c, d]
+    [a, b, c]
 }
 
 fn start_of(x: Item) -> StartWindow

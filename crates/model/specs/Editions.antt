@@ -52,9 +52,9 @@ host = record { devices = mostDevices; intervals = mostIntervals }
 abbrev pub mostZones : ℕ
 mostZones = 4
 
--- "startup states 3 (0..4)"
+-- "startup states 3 (0..3)": "Three becomes the limit in every edition"
 abbrev pub mostStates : ℕ
-mostStates = 4
+mostStates = 3
 
 -- "start windows 3 (0..4)"; "energy windows 3 (0..4)"
 abbrev pub mostWindows : ℕ

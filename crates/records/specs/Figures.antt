@@ -72,10 +72,10 @@ abbrev pub statesFrom : ℕ
 statesFrom = 22
 
 abbrev pub startsFrom : ℕ
-startsFrom = 31
+startsFrom = 29
 
 abbrev pub energiesFrom : ℕ
-energiesFrom = 44
+energiesFrom = 42
 
 abbrev pub stateOf : List ℕ → ℕ → State
 stateOf r k = let a = statesFrom + 1 + 2 * k in record { longest = at r a; cost = at r (a + 1) }
@@ -90,7 +90,7 @@ abbrev pub energyOf : List ℕ → ℕ → EnergyWindow
 energyOf r k = let a = energiesFrom + 1 + 4 * k in windowOf (at r a) (at r (a + 1)) (at r (a + 2)) (at r (a + 3))
 
 abbrev pub statesOf : List ℕ → List State
-statesOf r = stateOf r 0 ∷ stateOf r 1 ∷ stateOf r 2 ∷ stateOf r 3 ∷ []
+statesOf r = stateOf r 0 ∷ stateOf r 1 ∷ stateOf r 2 ∷ []
 
 abbrev pub startsOf : List ℕ → List StartWindow
 startsOf r = startOf r 0 ∷ startOf r 1 ∷ startOf r 2 ∷ startOf r 3 ∷ []
@@ -162,8 +162,7 @@ noEnergy = record { kind = 0; from = 0; until = 0; energy = kwMin 0 }
 -- a device's lists, their figures in turn
 abbrev pub stateFigures : List State → List ℕ
 stateFigures l =
-    getD l 0 noState .longest ∷ getD l 0 noState .cost ∷ getD l 1 noState .longest ∷ getD l 1 noState .cost ∷ getD l 2 noState .longest ∷ getD l 2 noState .cost
-    ∷ getD l 3 noState .longest ∷ getD l 3 noState .cost ∷ []
+    getD l 0 noState .longest ∷ getD l 0 noState .cost ∷ getD l 1 noState .longest ∷ getD l 1 noState .cost ∷ getD l 2 noState .longest ∷ getD l 2 noState .cost ∷ []
 
 abbrev pub startFigures : List StartWindow → List ℕ
 startFigures l =
@@ -197,7 +196,7 @@ deviceRowWith d startcost stopcost nstates nstarts nenergies states starts energ
     d .side ∷ d .zonebits ∷ d .on0 ∷ d .power0 .0 ∷ d .minutes0 ∷ d .minup ∷ d .mindown
     ∷ at (d .ramps) 0 ∷ at (d .ramps) 1 ∷ at (d .ramps) 2 ∷ at (d .ramps) 3 ∷ d .oncost ∷ startcost ∷ stopcost
     ∷ kwAt (d .limits) 0 ∷ kwAt (d .limits) 1 ∷ kwAt (d .limits) 2 ∷ kwAt (d .limits) 3 ∷ kwAt (d .limits) 4 ∷ kwAt (d .limits) 5 ∷ kwAt (d .limits) 6 ∷ kwAt (d .limits) 7
-    ∷ nstates ∷ at states 0 ∷ at states 1 ∷ at states 2 ∷ at states 3 ∷ at states 4 ∷ at states 5 ∷ at states 6 ∷ at states 7
+    ∷ nstates ∷ at states 0 ∷ at states 1 ∷ at states 2 ∷ at states 3 ∷ at states 4 ∷ at states 5
     ∷ nstarts ∷ at starts 0 ∷ at starts 1 ∷ at starts 2 ∷ at starts 3 ∷ at starts 4 ∷ at starts 5 ∷ at starts 6 ∷ at starts 7 ∷ at starts 8 ∷ at starts 9 ∷ at starts 10 ∷ at starts 11
     ∷ nenergies ∷ at energies 0 ∷ at energies 1 ∷ at energies 2 ∷ at energies 3 ∷ at energies 4 ∷ at energies 5 ∷ at energies 6 ∷ at energies 7 ∷ at energies 8
     ∷ at energies 9 ∷ at energies 10 ∷ at energies 11 ∷ at energies 12 ∷ at energies 13 ∷ at energies 14 ∷ at energies 15 ∷ []
@@ -272,8 +271,7 @@ pub state-of : (r : List ℕ) (k : ℕ) → k < mostStates → stateOf r k ≡ g
 state-of r zero h = refl
 state-of r (suc zero) h = refl
 state-of r (suc (suc zero)) h = refl
-state-of r (suc (suc (suc zero))) h = refl
-state-of r (suc (suc (suc (suc k)))) h = absurd (omega arith)
+state-of r (suc (suc (suc k))) h = absurd (omega arith)
 
 pub energy-of : (r : List ℕ) (k : ℕ) → k < mostWindows → energyOf r k ≡ getD (energiesOf r) k noEnergy
 energy-of r zero h = refl

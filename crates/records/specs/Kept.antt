@@ -7,6 +7,7 @@ use Rattle.numbers.specs.Rows.{tabbed}
 use Rattle.kilowatts.specs.declared.Kw.{Kw}
 use Rattle.kilowatts.specs.Power.{kw}
 use Rattle.records.specs.declared.State.{State}
+use Rattle.model.specs.Editions.{mostStates, mostWindows}
 use Rattle.records.specs.declared.StartWindow.{StartWindow}
 use Rattle.records.specs.declared.EnergyWindow.{EnergyWindow}
 use Rattle.records.specs.declared.Device.{Device}
@@ -16,9 +17,9 @@ use Rattle.records.specs.Figures.{deviceOf, deviceRow, noState, noStart,
 pub record DeviceLong (d : Device) : Type 0 where
   pub ramps : length (d .ramps) ≡ 4
   pub limits : length (d .limits) ≡ 8
-  pub states : length (d .states) ≡ 4
-  pub starts : length (d .starts) ≡ 4
-  pub energies : length (d .energies) ≡ 4
+  pub states : length (d .states) ≡ mostStates
+  pub starts : length (d .starts) ≡ mostWindows
+  pub energies : length (d .energies) ≡ mostWindows
 
 -- the same device with these arrays
 abbrev with : Device → List ℕ → List Kw → List State → List StartWindow → List EnergyWindow → Device
@@ -51,6 +52,6 @@ pub device-kept : (d : Device) → DeviceLong d → deviceOf (deviceRow d) ≡ d
 device-kept d h = with-same d
     (tabbed 0 4 (d .ramps) (h .ramps))
     (tabbed (kw 0) 8 (d .limits) (h .limits))
-    (tabbed noState 4 (d .states) (h .states))
-    (tabbed noStart 4 (d .starts) (h .starts))
-    (tabbed noEnergy 4 (d .energies) (h .energies))
+    (tabbed noState mostStates (d .states) (h .states))
+    (tabbed noStart mostWindows (d .starts) (h .starts))
+    (tabbed noEnergy mostWindows (d .energies) (h .energies))

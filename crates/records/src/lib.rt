@@ -54,14 +54,14 @@ pub type CellRow = [u32; 20];
 pub type SettingRow = [u32; 10];
 
 // A device ahead of its intervals: its head, ramps, costs, limits; then counted states, start windows and energy windows.
-pub type DeviceRow = [u32; 61];
+pub type DeviceRow = [u32; 59];
 
 // Where its lists begin, each with its count.
 const STATES: usize = 22;
 
-const STARTS: usize = 31;
+const STARTS: usize = 29;
 
-const ENERGIES: usize = 44;
+const ENERGIES: usize = 42;
 
 // A zone ahead of its intervals: four shares, six prices.
 pub type ZoneRow = [u32; 10];
@@ -79,7 +79,7 @@ pub fn blank_setting() -> SettingRow {
 }
 
 pub fn blank_device() -> DeviceRow {
-    [0u32; 61]
+    [0u32; 59]
 }
 
 pub fn blank_zone() -> ZoneRow {
@@ -168,7 +168,7 @@ pub struct Device {
     pub stopcost: Grains,
     pub limits: [Kw; 8],
     pub nstates: usize,
-    pub states: [State; 4],
+    pub states: [State; 3],
     pub nstarts: usize,
     pub starts: [StartWindow; 4],
     pub nenergies: usize,
@@ -275,14 +275,13 @@ fn state_in(r: DeviceRow, k: usize) -> State
     }
 }
 
-fn states_in(r: DeviceRow) -> [State; 4]
+fn states_in(r: DeviceRow) -> [State; 3]
     ensures { λ l. ⌜ l ≡ statesOf r ⌝ }
 {
     let a = state_in(r, 0);
     let b = state_in(r, 1);
     let c = state_in(r, 2);
-    let d = state_in(r, 3);
-    [a, b, c, d]
+    [a, b, c]
 }
 
 // Start window k.
@@ -360,7 +359,7 @@ fn device_with(
     stopcost: Grains,
     limits: [Kw; 8],
     nstates: usize,
-    states: [State; 4],
+    states: [State; 3],
     nstarts: usize,
     starts: [StartWindow; 4],
     nenergies: usize,
@@ -701,13 +700,12 @@ fn narrow(x: u64) -> u32
     x as u32
 }
 
-fn state_figures(l: [State; 4]) -> [u32; 8]
+fn state_figures(l: [State; 3]) -> [u32; 6]
     ensures { λ r. ⌜ r ≡ stateFigures l ⌝ }
 {
     let s0 = l[0];
     let s1 = l[1];
     let s2 = l[2];
-    let s3 = l[3];
     [
         s0.longest,
         s0.cost,
@@ -715,8 +713,6 @@ fn state_figures(l: [State; 4]) -> [u32; 8]
         s1.cost,
         s2.longest,
         s2.cost,
-        s3.longest,
-        s3.cost,
     ]
 }
 
@@ -822,8 +818,6 @@ fn device_row(d: Device) -> DeviceRow
         states[3],
         states[4],
         states[5],
-        states[6],
-        states[7],
         nstarts,
         starts[0],
         starts[1],

@@ -5,7 +5,7 @@ use crate::encode::{encode_case, encode_plan};
 use crate::generate::breaks::{
     nudged_plan, plan_breaking, plan_broken_severally, recommitted_plan,
 };
-use crate::generate::damage::{contradict, damaged, CONTRADICTIONS};
+use crate::generate::damage::{contradict, damaged, give_too_many_states, CONTRADICTIONS};
 use crate::generate::plans::{good_plan, wild_plan};
 use crate::generate::sample::{random_sample, wild_case, Sample};
 use crate::generate::shape::Size;
@@ -14,8 +14,8 @@ use crate::rng::Rng;
 /// A batch of one case and about `plans` plans.
 pub fn random_batch(rng: &mut Rng, size: Size, plans: usize) -> Vec<u8> {
     match rng.below(40) {
-        0 => refused_case_batch(rng, size),
-        1 => wild_batch(rng, size, plans),
+        0 | 1 => refused_case_batch(rng, size),
+        2 => wild_batch(rng, size, plans),
         _ => {
             let sample = random_sample(rng, size);
             let mut batch = Vec::new();
@@ -73,9 +73,13 @@ pub fn refused_case_batch(rng: &mut Rng, size: Size) -> Vec<u8> {
             contradict(rng, &mut sample.case, contradiction);
         }
     }
+    let is_overfull = rng.chance(20);
+    if is_overfull {
+        give_too_many_states(rng, &mut sample.case);
+    }
     let message = encode_case(&sample.case);
     let mut batch = Vec::new();
-    let bytes = if contradicts && rng.chance(70) {
+    let bytes = if (contradicts || is_overfull) && rng.chance(70) {
         message.bytes
     } else {
         damaged(rng, &message)

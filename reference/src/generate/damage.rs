@@ -1,7 +1,7 @@
 //! Messages damaged in every way that numbers 1 to 6 name.
 
 use crate::bits::{overwrite, HIGHEST_POWER};
-use crate::case::{Case, Terms};
+use crate::case::{Case, StartupState, Terms, MOST_STATES};
 use crate::encode::{Class, Encoded, Field};
 use crate::rng::Rng;
 
@@ -129,6 +129,29 @@ pub fn contradict(rng: &mut Rng, case: &mut Case, contradiction: Contradiction) 
             .map(|member| *member = true)
             .is_some(),
     }
+}
+
+/// The most startup states that their count's three bits can say.
+pub const MOST_STATES_SAID: usize = 7;
+
+/// Gives the device at `j` so many startup states, each whole: what it has, and more like it.
+///
+/// "Three becomes the limit in every edition. It refuses a count of four with the existing 3 at
+/// that field."
+pub fn give_states(case: &mut Case, j: usize, count: usize) {
+    let another = StartupState {
+        longest_downtime: 600,
+        cost: -100,
+    };
+    case.devices[j].startup_states.resize(count, another);
+}
+
+/// Gives a device drawn by chance more startup states than three, mostly four.
+pub fn give_too_many_states(rng: &mut Rng, case: &mut Case) {
+    let j = rng.below(case.devices.len());
+    let least = MOST_STATES + 1;
+    let count = rng.pick(&[least, least, MOST_STATES_SAID]);
+    give_states(case, j, count);
 }
 
 /// The latest minute that a window can say.

@@ -4,7 +4,7 @@
 
 use crate::case::{
     Block, Device, EnergyKind, EnergyWindow, Ramps, Reserves, Side, StartWindow, StartupState,
-    Status, Terms, MOST_ZONES,
+    Status, Terms, MOST_ITEMS, MOST_STATES, MOST_ZONES,
 };
 use crate::clock::Span;
 use crate::forced::{commit, Commitment};
@@ -46,13 +46,13 @@ pub fn random_device(rng: &mut Rng, shape: &Shape, spans: &[Span], scale: Scale)
     }
     set_minima(rng, spans, &commitment, &mut device);
     set_statuses(rng, &commitment, &mut device);
-    device.startup_states = (0..shape.items(rng))
+    device.startup_states = (0..shape.items(rng, MOST_STATES))
         .map(|_| random_state(rng, spans, &commitment, &device, scale))
         .collect();
-    device.start_windows = (0..shape.items(rng))
+    device.start_windows = (0..shape.items(rng, MOST_ITEMS))
         .map(|_| random_start_window(rng, spans, &commitment))
         .collect();
-    device.energy_windows = (0..shape.items(rng))
+    device.energy_windows = (0..shape.items(rng, MOST_ITEMS))
         .map(|_| random_energy_window(rng, spans, &device, scale))
         .collect();
     Built {
@@ -134,7 +134,7 @@ fn set_powers(rng: &mut Rng, shape: &Shape, device: &mut Device, scale: Scale) {
     };
     let pmin = rng.pick(&[0, highest / 5, highest / 2, highest * 3 / 4, highest]);
     let varies = rng.chance(40);
-    let block_count = shape.items(rng).max(1);
+    let block_count = shape.items(rng, MOST_ITEMS).max(1);
     let gives_every_block = rng.chance(70);
     for terms in &mut device.terms {
         (terms.pmin, terms.pmax) = (pmin, highest);

@@ -2,7 +2,8 @@
 
 use crate::case::{
     Block, Case, Device, EnergyKind, EnergyWindow, Ramps, Reserves, Side, StartWindow,
-    StartupState, Status, Terms, Zone, MOST_DEVICES, MOST_INTERVALS, MOST_ITEMS, MOST_ZONES,
+    StartupState, Status, Terms, Zone, MOST_DEVICES, MOST_INTERVALS, MOST_ITEMS, MOST_STATES,
+    MOST_ZONES,
 };
 use crate::plan::{Plan, Setting};
 use crate::worked_day::Day;
@@ -100,7 +101,7 @@ fn device(side: Side, price: i128, state_cost: i128) -> Device {
         start_cost: 0,
         stop_cost: 0,
         reserve_limits: Reserves::from_order([HIGHEST_POWER; 8]),
-        startup_states: vec![state; MOST_ITEMS],
+        startup_states: vec![state; MOST_STATES],
         start_windows: vec![window; MOST_ITEMS],
         energy_windows: Vec::new(),
         terms: vec![terms; MOST_INTERVALS],

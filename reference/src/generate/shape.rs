@@ -1,6 +1,6 @@
 //! How large a generated case is.
 
-use crate::case::{MOST_DEVICES, MOST_INTERVALS, MOST_ITEMS, MOST_ZONES};
+use crate::case::{MOST_DEVICES, MOST_INTERVALS, MOST_ZONES};
 use crate::rng::Rng;
 
 #[derive(Clone, Copy, PartialEq, Eq, Debug)]
@@ -10,7 +10,8 @@ pub enum Size {
     Small,
     Medium,
     Large,
-    /// Every count at its greatest: 16 devices, 48 intervals, 4 zones, 4 of every item.
+    /// Every count at its greatest: 16 devices, 48 intervals, 4 zones, 3 states, 4 of every other
+    /// item.
     Full,
 }
 
@@ -56,8 +57,8 @@ impl Shape {
         }
     }
 
-    /// How many states, windows or blocks to give.
-    pub fn items(&self, rng: &mut Rng) -> usize {
+    /// How many states, windows or blocks to give, of which there may be `most`.
+    pub fn items(&self, rng: &mut Rng, most: usize) -> usize {
         match self.size {
             Size::Tiny => {
                 if rng.chance(60) {
@@ -66,8 +67,8 @@ impl Shape {
                     1 + rng.below(2)
                 }
             }
-            Size::Full => MOST_ITEMS,
-            _ => rng.below(MOST_ITEMS + 1),
+            Size::Full => most,
+            _ => rng.below(most + 1),
         }
     }
 }

@@ -11,6 +11,9 @@ Inv-loop s listed edition last items₀ n q₀ i₀ items q i = Filling listed e
 abbrev μ-loop : tie.MeasureT-loop
 μ-loop s listed edition last items₀ n q₀ i₀ items q i = n - i
 
+most-items-requires : tie.Need-most-items-requires Inv-loop μ-loop
+most-items-requires c κs = search needs
+
 read-count-requires : tie.Need-read-count-requires Inv-loop μ-loop
 read-count-requires c κs = search needs
 
@@ -65,8 +68,8 @@ loop-less c = search needs
 loop-again : tie.Need-loop-again Inv-loop μ-loop
 loop-again c = search fill-more
 
-cast-t23 : tie.Need-cast-t23 Inv-loop μ-loop
-cast-t23 c = search needs
+cast-t24 : tie.Need-cast-t24 Inv-loop μ-loop
+cast-t24 c = search needs
 
 returns-3 : tie.Need-returns-3 Inv-loop μ-loop
 returns-3 c = search fill-done
@@ -77,6 +80,7 @@ read-items-spec =
     (tie.spec
     Inv-loop
     μ-loop
+    most-items-requires
     read-count-requires
     enum-known-count
     enum-told
@@ -95,5 +99,5 @@ read-items-spec =
     add-i
     loop-less
     loop-again
-    cast-t23
+    cast-t24
     returns-3)

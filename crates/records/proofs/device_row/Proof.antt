@@ -165,15 +165,9 @@ array-read-t153 c = search needs
 array-read-t156 : tie.Need-array-read-t156
 array-read-t156 c = search needs
 
-array-read-t159 : tie.Need-array-read-t159
-array-read-t159 c = search needs
-
-array-read-t162 : tie.Need-array-read-t162
-array-read-t162 c = search needs
-
 returns : tie.Need-returns
 returns c = let earlier : _ = c .before .before .before .before .before .before .before .before .before .before .before .before in
-    let at-args : _ = earlier .before in device-row-is (at-args .args .d)
+    let entry : _ = earlier .before in device-row-is (entry .args .d)
     (c .before .before .before .before .before .before .before .before .before .before .narrow .ensures)
     (c .before .before .before .before .before .before .before .before .before .narrow2 .ensures)
     (c .before .before .before .before .before .before .before .before .narrow3 .ensures)
@@ -187,4 +181,4 @@ device-row-spec = tie.close (tie.spec narrow-requires narrow-requires-2 narrow-r
     array-read-t63 array-read-t66 array-read-t69 array-read-t72 array-read-t75 array-read-t78 array-read-t81 array-read-t84 array-read-t87 array-read-t90
     array-read-t93 array-read-t96 array-read-t99 array-read-t102 array-read-t105 array-read-t108 array-read-t111 array-read-t114 array-read-t117 array-read-t120
     array-read-t123 array-read-t126 array-read-t129 array-read-t132 array-read-t135 array-read-t138 array-read-t141 array-read-t144 array-read-t147
-    array-read-t150 array-read-t153 array-read-t156 array-read-t159 array-read-t162 returns)
+    array-read-t150 array-read-t153 array-read-t156 returns)
