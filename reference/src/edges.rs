@@ -3,11 +3,12 @@
 use std::collections::BTreeMap;
 
 use crate::batch::{split, Split};
-use crate::case::{read_case, Case, Device, EnergyKind, Side, MOST_STATES};
+use crate::case::{read_case, Case, Device, EnergyKind, EnergyWindow, Side, MOST_STATES};
 use crate::clock::{spans, Span};
 use crate::completion::{Completion, DeviceChoices};
+use crate::energy::EnergyRule;
 use crate::forced::{forced, Forced};
-use crate::ours::{complete, downtime};
+use crate::ours::{complete, complete_by, downtime};
 use crate::plan::{read_plan, Plan};
 use crate::rules::{first_broken, most_fall, most_rise};
 
@@ -154,6 +155,12 @@ impl<'a> Day<'a> {
                     .any(|(window, &overrun)| window.kind == kind && overrun > 0)
             })
     }
+
+    fn overruns_are_not_those_by_midpoint(&self) -> bool {
+        let rule = EnergyRule::ByMidpoint;
+        let by_midpoint = complete_by(rule, self.case, self.spans, self.plan, self.forced);
+        by_midpoint.completion.overruns != self.completion.overruns
+    }
 }
 
 impl Unit<'_> {
@@ -163,6 +170,18 @@ impl Unit<'_> {
 
     fn stops(&self) -> usize {
         count(&self.forced.commitment.stopped)
+    }
+
+    /// Whether several intervals with power share minutes with one energy window.
+    fn has_energy_window_over_several(&self) -> bool {
+        let shares = |window: &EnergyWindow, t: usize| {
+            let minutes = EnergyRule::ByMinute.minutes(&self.day.spans[t], window);
+            minutes > 0 && self.forced.power[t] > 0
+        };
+        self.device.energy_windows.iter().any(|window| {
+            let sharing = (0..self.day.spans.len()).filter(|&t| shares(window, t));
+            sharing.count() > 1
+        })
     }
 }
 
@@ -291,12 +310,9 @@ impl Spot<'_> {
                 .any(|window| at(window.start, window.end, self.span().start))
     }
 
-    fn has_power_at_window(&self, at: impl Fn(i128, i128, i128) -> bool) -> bool {
+    fn has_power_at_window(&self, lies: impl Fn(&EnergyWindow, &Span) -> bool) -> bool {
         let windows = &self.unit.device.energy_windows;
-        self.unit.forced.power[self.t] > 0
-            && windows
-                .iter()
-                .any(|window| at(window.start, window.end, self.span().midpoint()))
+        self.unit.forced.power[self.t] > 0 && windows.iter().any(|window| lies(window, self.span()))
     }
 
     fn switches_first_and_just_late_enough(&self) -> bool {
@@ -470,11 +486,69 @@ const ACCEPTED_EDGES: &[AcceptedEdge] = &[
     ("start at a start window's end", |day| {
         day.any_spot(|spot| spot.starts_at_window(|start, end, at| start < at && at == end))
     }),
-    ("midpoint at an energy window's end", |day| {
-        day.any_spot(|spot| spot.has_power_at_window(|start, end, at| start < at && at == end))
+    (
+        "energy window begins inside an interval with power",
+        |day| {
+            day.any_spot(|spot| {
+                spot.has_power_at_window(|window, span| {
+                    span.start < window.start && window.start < span.end && span.end <= window.end
+                })
+            })
+        },
+    ),
+    ("energy window ends inside an interval with power", |day| {
+        day.any_spot(|spot| {
+            spot.has_power_at_window(|window, span| {
+                window.start <= span.start && span.start < window.end && window.end < span.end
+            })
+        })
     }),
-    ("midpoint at an energy window's start", |day| {
-        day.any_spot(|spot| spot.has_power_at_window(|start, end, at| start == at && at < end))
+    ("energy window within one interval with power", |day| {
+        day.any_spot(|spot| {
+            spot.has_power_at_window(|window, span| {
+                span.start < window.start && window.start < window.end && window.end < span.end
+            })
+        })
+    }),
+    ("energy window is one interval with power", |day| {
+        day.any_spot(|spot| {
+            spot.has_power_at_window(|window, span| {
+                (window.start, window.end) == (span.start, span.end)
+            })
+        })
+    }),
+    ("energy window over several intervals with power", |day| {
+        day.any_unit(|unit| unit.has_energy_window_over_several())
+    }),
+    ("empty energy window inside an interval with power", |day| {
+        day.any_spot(|spot| {
+            spot.has_power_at_window(|window, span| {
+                window.start == window.end && span.start < window.start && window.end < span.end
+            })
+        })
+    }),
+    (
+        "energy window ends where an interval with power begins",
+        |day| {
+            day.any_spot(|spot| {
+                spot.has_power_at_window(|window, span| {
+                    window.start < window.end && window.end == span.start
+                })
+            })
+        },
+    ),
+    (
+        "energy window begins where an interval with power ends",
+        |day| {
+            day.any_spot(|spot| {
+                spot.has_power_at_window(|window, span| {
+                    window.start < window.end && window.start == span.end
+                })
+            })
+        },
+    ),
+    ("overruns other than by the midpoint rule", |day| {
+        day.overruns_are_not_those_by_midpoint()
     }),
     ("overrun of a maximum", |day| {
         day.any_overrun(EnergyKind::Maximum)

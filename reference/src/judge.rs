@@ -3,9 +3,10 @@
 use crate::case::{read_case, Case};
 use crate::clock::spans;
 use crate::completion::completion_bytes;
+use crate::energy::EnergyRule;
 use crate::fault::Fault;
 use crate::forced::forced;
-use crate::ours::complete;
+use crate::ours::complete_by;
 use crate::plan::{read_plan, Plan};
 use crate::rules::{first_broken, Place};
 
@@ -62,14 +63,20 @@ pub fn judge_for(case: &Case, plan_message: &[u8], buffer: &mut [u8]) -> Verdict
     }
 }
 
-/// The first broken rule of a plan, or its surplus and completion message.
+/// The first broken rule of a plan, or its surplus and completion message, with energy by the
+/// minute.
 pub fn find(case: &Case, plan: &Plan) -> Finding {
+    find_by(EnergyRule::ByMinute, case, plan)
+}
+
+/// The same with energy by either rule.
+pub fn find_by(energy_rule: EnergyRule, case: &Case, plan: &Plan) -> Finding {
     let spans = spans(&case.durations);
     let forced = forced(case, &spans, plan);
     match first_broken(case, &spans, plan, &forced) {
         Some(place) => Finding::Broken(place),
         None => {
-            let ours = complete(case, &spans, plan, &forced);
+            let ours = complete_by(energy_rule, case, &spans, plan, &forced);
             Finding::Accepted {
                 surplus: ours.surplus,
                 message: completion_bytes(case, &ours.completion, ours.surplus),

@@ -1,5 +1,5 @@
-//! An independent reading of paper 01, "Plan unit: judging a day's commitment", with request A.4 of
-//! paper 02 (three startup states).
+//! An independent reading of paper 01, "Plan unit: judging a day's commitment", with requests A.4
+//! (three startup states) and A.3 (energy by the minute) of paper 02.
 //!
 //! Written from the papers alone, it shares no code and no tables with the product that it is held
 //! against. Every figure is an `i128` and arithmetic is checked in every profile, so that nothing
@@ -9,6 +9,7 @@
 //!
 //! - [`fault`], [`bits`], [`case`], [`plan`]: messages and every refusal of them.
 //! - [`clock`], [`forced`], [`rules`]: times, forced figures, the first broken rule.
+//! - [`energy`]: which minutes count in an energy window, by A.3 or by the formulation's midpoint.
 //! - [`completion`], [`ours`]: the completion message, our completion and its surplus.
 //! - [`judge`], [`batch`]: the judgement, the splitter, the batch program's lines.
 //! - [`meets`]: what it is for any completion to meet every rule, and its surplus, stated again
@@ -38,6 +39,7 @@ pub mod corpus;
 pub mod crc;
 pub mod edges;
 pub mod encode;
+pub mod energy;
 pub mod fault;
 pub mod forced;
 pub mod generate;

@@ -3,16 +3,30 @@
 //! Nothing here is shared with the path that judges a plan and builds our completion: the times,
 //! the forced figures, the rules, the needs and the surplus are written again from the paper, as
 //! plain statements, with intervals, devices and zones counted from 1 as the paper counts them and
-//! u as a number. What is read from the case and the plan is all the two have in common.
+//! u as a number. What is read from the case and the plan, and the name of the energy rule, is all
+//! that the two have in common.
 
-use crate::case::{Case, Device, EnergyKind, Reserves, Side, Status, Terms};
+use crate::case::{Case, Device, EnergyKind, EnergyWindow, Reserves, Side, Status, Terms};
 use crate::completion::{Completion, DeviceChoices};
+use crate::energy::EnergyRule;
 use crate::plan::{Plan, Setting};
 
-/// Whether a completion of a plan for a case "meets every rule".
+/// Whether a completion of a plan for a case "meets every rule", with energy by the minute.
 pub fn meets(case: &Case, plan: &Plan, completion: &Completion) -> bool {
+    meets_by(EnergyRule::ByMinute, case, plan, completion)
+}
+
+/// The same with energy by either rule.
+pub fn meets_by(
+    energy_rule: EnergyRule,
+    case: &Case,
+    plan: &Plan,
+    completion: &Completion,
+) -> bool {
     let day = Day { case, plan };
-    day.keeps_every_rule() && day.choices_are_these(completion)
+    day.keeps_every_rule()
+        && day.choices_are_these(completion)
+        && day.overruns_suffice(energy_rule, completion)
 }
 
 /// Whether "every numbered rule holds of the plan".
@@ -252,9 +266,6 @@ impl Day<'_> {
                         .all(|z| self.shortfalls_suffice(z, t, &choices.shortfalls[z - 1]))
                     && self.mismatch_suffices(t, choices.mismatch)
             })
-            && self
-                .devices()
-                .all(|j| self.overruns_suffice(j, &completion.overruns[j - 1]))
     }
 
     /// "one for each field of the completion message".
@@ -357,20 +368,44 @@ impl Day<'_> {
         mismatch >= difference && mismatch >= -difference
     }
 
-    fn overruns_suffice(&self, j: usize, overruns: &[i128]) -> bool {
-        let windows = &self.device(j).energy_windows;
-        windows.iter().zip(overruns).all(|(window, &overrun)| {
-            let energy: i128 = self
-                .intervals()
-                .filter(|&t| 2 * window.start < self.m2(t) && self.m2(t) <= 2 * window.end)
-                .map(|t| self.d(t) * self.p(j, t))
-                .sum();
-            overrun >= 0
-                && match window.kind {
-                    EnergyKind::Maximum => energy <= window.energy + overrun,
-                    EnergyKind::Minimum => energy >= window.energy - overrun,
-                }
+    fn overruns_suffice(&self, energy_rule: EnergyRule, completion: &Completion) -> bool {
+        self.devices().all(|j| {
+            let windows = &self.device(j).energy_windows;
+            let overruns = &completion.overruns[j - 1];
+            windows.iter().zip(overruns).all(|(window, &overrun)| {
+                let energy = self.energy_in(energy_rule, j, window);
+                overrun >= 0
+                    && match window.kind {
+                        EnergyKind::Maximum => energy <= window.energy + overrun,
+                        EnergyKind::Minimum => energy >= window.energy - overrun,
+                    }
+            })
         })
+    }
+
+    fn energy_in(&self, energy_rule: EnergyRule, j: usize, window: &EnergyWindow) -> i128 {
+        self.intervals()
+            .map(|t| {
+                let minutes = match energy_rule {
+                    EnergyRule::ByMinute => self.minutes_in(t, window),
+                    EnergyRule::ByMidpoint => self.d(t) * i128::from(self.m_is_in(t, window)),
+                };
+                minutes * self.p(j, t)
+            })
+            .sum()
+    }
+
+    /// "the minutes an interval shares with an energy window", counted one by one, each by its end.
+    fn minutes_in(&self, t: usize, window: &EnergyWindow) -> i128 {
+        let minutes = self.s(t) + 1..=self.e(t);
+        minutes
+            .filter(|&minute| window.start < minute && minute <= window.end)
+            .count() as i128
+    }
+
+    /// "window start < M ≤ window end".
+    fn m_is_in(&self, t: usize, window: &EnergyWindow) -> bool {
+        2 * window.start < self.m2(t) && self.m2(t) <= 2 * window.end
     }
 }
 

@@ -10,6 +10,7 @@ use crate::case::{
 };
 use crate::clock::Span;
 use crate::completion::{Completion, DeviceChoices, IntervalChoices};
+use crate::energy::EnergyRule;
 use crate::forced::{Commitment, Forced};
 use crate::plan::{Plan, Setting};
 
@@ -19,9 +20,21 @@ pub struct Ours {
     pub surplus: i128,
 }
 
-/// Completes a plan that keeps every rule.
+/// Completes a plan that keeps every rule, with energy by the minute.
 pub fn complete(case: &Case, spans: &[Span], plan: &Plan, forced: &[Forced]) -> Ours {
+    complete_by(EnergyRule::ByMinute, case, spans, plan, forced)
+}
+
+/// Completes a plan that keeps every rule, with energy by either rule.
+pub fn complete_by(
+    energy_rule: EnergyRule,
+    case: &Case,
+    spans: &[Span],
+    plan: &Plan,
+    forced: &[Forced],
+) -> Ours {
     let day = Day {
+        energy_rule,
         case,
         spans,
         plan,
@@ -43,6 +56,7 @@ pub fn complete(case: &Case, spans: &[Span], plan: &Plan, forced: &[Forced]) -> 
 }
 
 struct Day<'a> {
+    energy_rule: EnergyRule,
     case: &'a Case,
     spans: &'a [Span],
     plan: &'a Plan,
@@ -180,14 +194,13 @@ impl Day<'_> {
             .collect()
     }
 
-    /// "d·p summed over window start < M ≤ window end, above a maximum or below a minimum."
+    /// "Overrun uses p times the shared minutes", summed, "above a maximum or below a minimum."
     fn overrun(&self, j: usize, window: &EnergyWindow) -> i128 {
         let energy: i128 = self
             .spans
             .iter()
             .zip(&self.forced[j].power)
-            .filter(|(span, _)| window.start < span.midpoint() && span.midpoint() <= window.end)
-            .map(|(span, power)| span.duration() * power)
+            .map(|(span, power)| self.energy_rule.minutes(span, window) * power)
             .sum();
         let beyond = match window.kind {
             EnergyKind::Maximum => energy - window.energy,

@@ -513,60 +513,95 @@ fn start_window_rows() -> Vec<Row> {
     .collect()
 }
 
-/// Energy windows: a midpoint at the window's end counts, one at its start does not.
+/// A maximum of energy in a window.
+fn at_most(energy: i128, start: i128, end: i128) -> EnergyWindow {
+    EnergyWindow {
+        kind: EnergyKind::Maximum,
+        start,
+        end,
+        energy,
+    }
+}
+
+/// A minimum of energy in a window.
+fn at_least(energy: i128, start: i128, end: i128) -> EnergyWindow {
+    EnergyWindow {
+        kind: EnergyKind::Minimum,
+        ..at_most(energy, start, end)
+    }
+}
+
+/// A device on at these powers in intervals of so many minutes, with energy windows.
+fn running(side: Side, powers: &[(i128, i128)], windows: &[EnergyWindow]) -> Draft {
+    let mut draft = draft(side, true, 0, &vec![true; powers.len()]);
+    for (t, &(minutes, power)) in powers.iter().enumerate() {
+        draft.case.durations[t] = minutes;
+        draft.setting(t + 1).online_power = power;
+    }
+    draft.device().energy_windows = windows.to_vec();
+    draft
+}
+
+/// Energy windows count "the minutes an interval shares with an energy window": of 20 kW in the
+/// first hour and 30 kW in the second.
 fn energy_window_rows() -> Vec<Row> {
-    [
-        (
-            EnergyKind::Maximum,
-            0,
-            30,
-            100,
-            "maximum, midpoint at the end counts",
-        ),
-        (
-            EnergyKind::Maximum,
-            0,
-            29,
-            100,
-            "maximum, midpoint after the end",
-        ),
-        (
-            EnergyKind::Maximum,
-            30,
-            120,
-            100,
-            "maximum, midpoint at the start does not count",
-        ),
-        (
-            EnergyKind::Maximum,
-            29,
-            120,
-            100,
-            "maximum, both midpoints count",
-        ),
-        (
-            EnergyKind::Minimum,
-            30,
-            90,
-            2_000,
-            "minimum, second midpoint at the end counts",
-        ),
-        (EnergyKind::Minimum, 90, 90, 50, "minimum, empty window"),
+    let windows = [
+        (at_most(100, 0, 30), "maximum, ends at a midpoint"),
+        (at_most(100, 0, 29), "maximum, ends before a midpoint"),
+        (at_most(100, 30, 120), "maximum, begins at a midpoint"),
+        (at_most(100, 29, 120), "maximum, begins before a midpoint"),
+        (at_least(2_000, 30, 90), "minimum, midpoint to midpoint"),
+        (at_least(50, 90, 90), "minimum, empty inside an interval"),
+        (at_most(0, 60, 60), "maximum, empty at an edge"),
+        (at_most(0, 70, 80), "maximum, inside, beside the midpoint"),
+        (at_most(0, 80, 100), "maximum, inside, over the midpoint"),
+        (at_most(0, 60, 120), "maximum, one interval"),
+        (at_most(0, 0, 120), "maximum, the whole day"),
+        (at_most(0, 59, 60), "maximum, last minute of interval 1"),
+        (at_most(0, 60, 61), "maximum, first minute of interval 2"),
+        (at_most(0, 59, 61), "maximum, two minutes over an edge"),
+        (at_most(600, 0, 30), "maximum met exactly"),
+        (at_most(599, 0, 30), "maximum overrun by one"),
+        (at_least(900, 90, 120), "minimum met exactly"),
+        (at_least(901, 90, 120), "minimum missed by one"),
+    ];
+    let two_hours = [(60, 20), (60, 30)];
+    let mut rows: Vec<Row> = windows
+        .into_iter()
+        .map(|(window, about)| running(Side::Producing, &two_hours, &[window]).row(about))
+        .collect();
+    rows.extend(rows_of_other_days_with_energy_windows());
+    rows
+}
+
+/// Windows over several intervals, of unlike length, of a consuming device, two of them, and over
+/// startup power.
+fn rows_of_other_days_with_energy_windows() -> Vec<Row> {
+    let three_hours = [(60, 20), (60, 30), (60, 40)];
+    let unlike_intervals = [(10, 20), (60, 30), (20, 40)];
+    let two_hours = [(60, 20), (60, 30)];
+    let mut rising = draft(Side::Producing, false, 10, &[false, false, true]);
+    for terms in &mut rising.device().terms {
+        terms.pmin = 50;
+    }
+    rising.device().ramps.starting = 2;
+    rising.setting(3).online_power = 50;
+    rising.device().energy_windows = vec![at_most(0, 5, 15)];
+    vec![
+        running(Side::Producing, &three_hours, &[at_most(0, 50, 130)])
+            .row("maximum, over an interval and 10 minutes on either side"),
+        running(Side::Producing, &unlike_intervals, &[at_most(0, 5, 75)])
+            .row("maximum, over intervals of 10, 60 and 20 minutes"),
+        running(Side::Consuming, &two_hours, &[at_least(3_000, 1, 120)])
+            .row("minimum of a consuming device, all but the first minute"),
+        running(
+            Side::Producing,
+            &two_hours,
+            &[at_most(0, 0, 1), at_least(5_000, 119, 120)],
+        )
+        .row("two windows: the first and the last minute"),
+        rising.row("startup power counts: 10 kW, then 30 kW, 5 minutes of each"),
     ]
-    .into_iter()
-    .map(|(kind, start, end, energy, about)| {
-        let mut draft = draft(Side::Producing, true, 60, &[true, true]);
-        draft.device().energy_windows.push(EnergyWindow {
-            kind,
-            start,
-            end,
-            energy,
-        });
-        draft.setting(1).online_power = 20;
-        draft.setting(2).online_power = 30;
-        draft.row(about)
-    })
-    .collect()
 }
 
 /// Startup and shutdown power, and the ramps that go with them.

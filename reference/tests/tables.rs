@@ -7,7 +7,7 @@ use reference::tables::{rows, written_rows};
 
 /// What each written row must give, in order. One interval of 10 minutes or more of 60 (10 in the
 /// rows about trajectories), block price 7 unless given, mismatch price 1, overrun price 3.
-const VERDICTS: [&str; 54] = [
+const VERDICTS: [&str; 71] = [
     // Consuming reserves: 90 or 60 kW at 7 − 1 for 10 minutes.
     "accepted 5400",
     "broken 17 1 1 0",
@@ -46,13 +46,35 @@ const VERDICTS: [&str; 54] = [
     "accepted 0",
     "broken 20 0 1 1",
     "accepted 0",
-    // Energy windows: −24,000 less 3 for each of 1100, 0, 1700, 2900, 200, 50 kW·min.
-    "accepted -27300",
-    "accepted -24000",
-    "accepted -29100",
-    "accepted -32700",
-    "accepted -24600",
+    // Energy windows: −24,000 less 3 for each of 30·20 − 100, 29·20 − 100, 30·20 + 60·30 − 100,
+    // 31·20 + 60·30 − 100, 2,000 − 30·20 − 30·30, 50, 0 kW·min;
+    "accepted -25500",
+    "accepted -25440",
+    "accepted -30900",
+    "accepted -30960",
+    "accepted -25500",
     "accepted -24150",
+    "accepted -24000",
+    // of 10·30, 20·30, 60·30, 60·20 + 60·30, 20, 30, 20 + 30;
+    "accepted -24900",
+    "accepted -25800",
+    "accepted -29400",
+    "accepted -33000",
+    "accepted -24060",
+    "accepted -24090",
+    "accepted -24150",
+    // of 0 and 1, twice.
+    "accepted -24000",
+    "accepted -24003",
+    "accepted -24000",
+    "accepted -24003",
+    // −43,200 less 3·(10·20 + 60·30 + 10·40); −22,400 less 3·(5·20 + 60·30 + 5·40); 18,000 less
+    // 3·20; −24,000 less 3·(20 + 4,970); −7,200 less 3·(5·10 + 5·30).
+    "accepted -50400",
+    "accepted -28700",
+    "accepted 17940",
+    "accepted -38970",
+    "accepted -7800",
     // Trajectories: 10, 30, 50; its break; 50, 30, 10; 25, 5; nothing left; its break; reaching
     // into an on interval; that with too little online; 30, 20, 30; two starts.
     "accepted -7200",

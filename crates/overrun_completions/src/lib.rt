@@ -54,7 +54,7 @@ fn complete_windows(
     let mut pen = p.pen;
     let mut w = 0;
     while w < n {
-        let over = overrun(energy_at(devices, i, w), halves, starts, &powers[a..e]);
+        let over = overrun(energy_at(devices, i, w), starts, &powers[a..e]);
         money = overrun_money(money, over, front.overrun);
         pen = put_overrun(buf, pen, over);
         w += 1;

@@ -3,20 +3,20 @@ use mathlib.Core.Bool.{Bool, true, false, not, _&&_}
 use Prim.Native.Nat.{ℕ, _*_, _≤_, _<_}
 use native.Mathlib.Omega.{arith}
 use native.Mathlib.Nat.{mul-le-mul}
-use lib.Dec.{ltb, leb, eqb}
+use lib.Dec.{eqb}
 use lib.ListN.{getD}
 use lib.IntN.{pos, _-ℤ_}
 use Rattle.numbers.specs.Laws.{maxZero, above-is}
 use Rattle.numbers.specs.Bounds.{bound-sub}
 use Rattle.bits.specs.Pick.{pick}
 use Rattle.model.specs.Case.{System, Plan, noMinima, noEnergyWindow}
-use Rattle.model.specs.Forced.{intervals, devices, zones, device, zone, energyWindow, consuming, member, duration, midpoint, power}
+use Rattle.model.specs.Forced.{intervals, devices, zones, device, zone, energyWindow, consuming, member, power}
 use Rattle.model.specs.Rules.{EveryRule}
 use Rattle.model.specs.Completion as C
 use Rattle.ranges.specs.Ranges.{SystemRange, MinimaRange, PlanRange, EnergyRange}
 use Rattle.numbers.specs.Every.{all-or, gate-le}
 use Rattle.numbers.specs.Ranges.{sum-few}
-use Rattle.theorems.specs.Sizes.{power-bound, unit-bound, zone-at, device-at, duration-bound}
+use Rattle.theorems.specs.Sizes.{power-bound, unit-bound, zone-at, device-at, minutes-bound}
 use Rattle.records.specs.Views.{mostDevices, mostIntervals}
 use Rattle.money.specs.Bounds.{powerMost, minutesMost, loadMost, mismatchMost, shareMost, shortfallMost, limitMost}
 
@@ -60,10 +60,9 @@ module _ (q : System) (p : Plan) (rq : SystemRange q) (rp : PlanRange q p) (ok :
 
 module _ (q : System) (p : Plan) (rq : SystemRange q) (rp : PlanRange q p) (ok : EveryRule q p) (few : intervals q ≤ mostIntervals) where
   energy-bound : (i w : ℕ) → i < devices q → C.energyIn q p i w ≤ mostIntervals * (minutesMost * powerMost)
-  unfolding C.energyIn C.minutesIn
+  unfolding C.energyIn
   energy-bound i w m = sum-few _ (minutesMost * powerMost) (intervals q) mostIntervals few (λ t l.
-      mul-le-mul (gate-le (ltb (energyWindow q i w .from) (midpoint q t) && leb (midpoint q t) (energyWindow q i w .until)) (duration q t) minutesMost (duration-bound q p rq rp ok t))
-      (power-bound q p rq rp ok t i l m))
+      mul-le-mul (minutes-bound q p rq rp ok (energyWindow q i w .from) (energyWindow q i w .until) t) (power-bound q p rq rp ok t i l m))
 
   pub overrun-bound : (i w : ℕ) → i < devices q → maxZero (C.overrunNeed q p i w) ≤ limitMost
   unfolding C.overrunNeed

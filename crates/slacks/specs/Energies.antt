@@ -2,7 +2,7 @@
 use mathlib.Core.Path.{_≡_, refl, sym, ap, ap₂, _∙_}
 use mathlib.Core.Bool.{Bool, true, false, _&&_}
 use mathlib.Core.List.{List, []}
-use Prim.Native.Nat.{ℕ, zero, suc, _+_, _-_, _*_, _≤_, _<_}
+use Prim.Native.Nat.{ℕ, zero, suc, _+_, _-_, _*_, _≤_, _<_, min, max}
 use native.Mathlib.Omega.{arith}
 use native.Mathlib.Numerals.{add-one}
 use native.Mathlib.Nat.{mul-comm, mul-le-mul}
@@ -16,63 +16,65 @@ use Rattle.bits.specs.Pick.{pick}
 use Rattle.numbers.specs.Base.{range, upTo}
 use Rattle.model.specs.Case as M
 use Rattle.model.specs.Case.{System, Plan}
-use Rattle.model.specs.Forced.{energyWindow, duration, midpoint, power}
+use Rattle.model.specs.Forced.{energyWindow, power}
 use Rattle.model.specs.Completion as C
 use Rattle.records.specs.declared.EnergyWindow.{EnergyWindow}
 use Rattle.records.specs.declared.Front.{Front}
 use Rattle.records.specs.Figures.{deviceOf}
 use Rattle.numbers.specs.Parts.{part, part-long}
 use Rattle.numbers.specs.Ranges.{sum-next}
-use Rattle.records.specs.Views.{systemIn, planIn, energyIn, mostIntervals, mostPower, lastMinute, Ready}
+use Rattle.records.specs.Views.{systemIn, planIn, energyIn, mostIntervals, mostPower, Ready}
 use Rattle.records.specs.Viewed as W
 use Rattle.records.specs.Figures.{noEnergy}
-use Rattle.records.specs.Ranged.{half-small, power-at, power-small}
+use Rattle.records.specs.Ranged.{half-small, end-at, start-next, power-at, power-small}
 
--- the durations and times of m intervals, and a device's powers in them
-pub record Running (halves starts powers : List ℕ) : Type 0 where
-  pub few : length halves ≤ mostIntervals
-  pub timed : length halves ≤ length starts
-  pub full : length powers ≡ length halves
-  pub half : (t : ℕ) → t < length halves → getD halves t 0 ≤ 180
-  pub early : (t : ℕ) → t < length halves → getD starts t 0 ≤ lastMinute
-  pub small : (t : ℕ) → t < length halves → getD powers t 0 ≤ mostPower
+-- the longest interval: twice 180 minutes
+abbrev pub longest : ℕ
+longest = 360
 
--- the minutes of an interval that count: "window start < M ≤ window end"
-abbrev pub minutesOf : EnergyWindow → (start half : ℕ) → ℕ
-minutesOf w start half = gate (ltb (w .from) (start + half) && leb (start + half) (w .until)) (2 * half)
+-- the times of intervals, the last one's end included, and a device's powers in them
+pub record Running (starts powers : List ℕ) : Type 0 where
+  pub few : length powers ≤ mostIntervals
+  pub timed : length powers < length starts
+  pub short : (t : ℕ) → t < length powers → getD starts (t + 1) 0 ≤ getD starts t 0 + longest
+  pub small : (t : ℕ) → t < length powers → getD powers t 0 ≤ mostPower
+
+-- the minutes that an interval shares with a window
+abbrev pub minutesOf : EnergyWindow → (start end : ℕ) → ℕ
+minutesOf w start end = min end (w .until) - max start (w .from)
 
 -- a device's energy in the first n intervals
-unfoldable pub energyTo : EnergyWindow → (halves starts powers : List ℕ) → ℕ → ℕ
-energyTo w halves starts powers zero = 0
-energyTo w halves starts powers (suc t) = energyTo w halves starts powers t + minutesOf w (getD starts t 0) (getD halves t 0) * getD powers t 0
+unfoldable pub energyTo : EnergyWindow → (starts powers : List ℕ) → ℕ → ℕ
+energyTo w starts powers zero = 0
+energyTo w starts powers (suc t) = energyTo w starts powers t + minutesOf w (getD starts t 0) (getD starts (t + 1) 0) * getD powers t 0
 
 -- "above a maximum or below a minimum"
 abbrev pub overOf : EnergyWindow → ℕ → ℕ
 overOf w e = pick (eqb (w .kind) 0) (e - w .energy .0) (w .energy .0 - e)
 
 -- what the loop over the intervals has
-pub record Spent (w : EnergyWindow) (halves starts powers : List ℕ) (t e : ℕ) : Type 0 where
-  pub is : e ≡ energyTo w halves starts powers t
-  pub spent-small : e ≤ t * (mostPower * 360)
+pub record Spent (w : EnergyWindow) (starts powers : List ℕ) (t e : ℕ) : Type 0 where
+  pub is : e ≡ energyTo w starts powers t
+  pub spent-small : e ≤ t * (mostPower * longest)
 
-module _ (w : EnergyWindow) (halves starts powers : List ℕ) where
-  pub spent-start : Spent w halves starts powers 0 0
+module _ (w : EnergyWindow) (starts powers : List ℕ) where
+  pub spent-start : Spent w starts powers 0 0
   unfolding energyTo
   spent-start = record { is = refl; spent-small = omega arith }
 
-  module _ (r : Running halves starts powers) (t : ℕ) (l : t < length halves) {e v y : ℕ} (s : Spent w halves starts powers t e) (n : v ≤ 360) (d : y ≡ getD powers t 0 * v) where
+  module _ (r : Running starts powers) (t : ℕ) (l : t < length powers) {e v y : ℕ} (s : Spent w starts powers t e) (n : v ≤ longest) (d : y ≡ getD powers t 0 * v) where
     pub spent-room : e + y < 18446744073709551616
     spent-room = omega (arith, s .spent-small, mul-le-mul (r .small t l) n, r .few)
 
-    pub spent-next : {z : ℕ} → v ≡ minutesOf w (getD starts t 0) (getD halves t 0) → z ≡ e + y → Spent w halves starts powers (t + 1) z
+    pub spent-next : {z : ℕ} → v ≡ minutesOf w (getD starts t 0) (getD starts (t + 1) 0) → z ≡ e + y → Spent w starts powers (t + 1) z
     unfolding energyTo
     spent-next f z = rw (z, add-one t) record {
       is = ap₂ (λ (a b : ℕ). a + b) (s .is) (d ∙ mul-comm (getD powers t 0) v ∙ ap (λ (x : ℕ). x * getD powers t 0) f);
       spent-small = omega (arith, s .spent-small, mul-le-mul (r .small t l) n);
     }
 
-  pub spent-end : (t n : ℕ) {e : ℕ} → t ≤ n → n ≤ t → Spent w halves starts powers t e → e ≡ energyTo w halves starts powers n
-  spent-end t n h l s = let m : t ≡ n = omega arith in s .is ∙ ap (energyTo w halves starts powers) m
+  pub spent-end : (t n : ℕ) {e : ℕ} → t ≤ n → n ≤ t → Spent w starts powers t e → e ≡ energyTo w starts powers n
+  spent-end t n h l s = let m : t ≡ n = omega arith in s .is ∙ ap (energyTo w starts powers) m
 
 -- the code's two answers
 module _ (w : EnergyWindow) (e : ℕ) where
@@ -98,14 +100,15 @@ module _ {front : Front} {halves : List ℕ} {zones minima devices cells setting
   abbrev own : List ℕ
   own = part (length halves) i powers
 
-  pub running : Running halves starts own
+  own-long : length own ≡ m
+  own-long = part-long m i (length devices) powers l (ready .forced-rows .powers-full)
+
+  pub running : Running starts own
   running = record {
-    few = ready .case-rows .few-intervals;
-    timed = omega (arith, ready .forced-rows .starts-full);
-    full = part-long m i (length devices) powers l (ready .forced-rows .powers-full);
-    half = λ t h. half-small (ready .case-rows) t;
-    early = λ t h. ready .forced-rows .early t (omega arith);
-    small = power-small ready i l;
+    few = omega (arith, own-long, ready .case-rows .few-intervals);
+    timed = omega (arith, own-long, ready .forced-rows .starts-full);
+    short = λ t h. omega (arith, own-long, half-small (ready .case-rows) t, start-next ready t (omega (arith, own-long)));
+    small = λ t h. power-small ready i l t (omega (arith, own-long));
   }
 
   module _ (j : ℕ) (k : j < deviceOf (getD devices i []) .nenergies) where
@@ -118,22 +121,22 @@ module _ {front : Front} {halves : List ℕ} {zones minima devices cells setting
     window-is : energyWindow q i j ≡ energyIn w
     window-is = W.energy-window-is halves zones minima devices cells i l j k
 
-    minutes-are : (t : ℕ) → t < m → minutesOf w (getD starts t 0) (getD halves t 0) ≡ C.minutesIn q p (energyWindow q i j .from) (energyWindow q i j .until) t
+    minutes-are : (t : ℕ) → t < m → minutesOf w (getD starts t 0) (getD starts (t + 1) 0) ≡ C.minutesIn q p (energyWindow q i j .from) (energyWindow q i j .until) t
     unfolding C.minutesIn
-    minutes-are t h = rw (window-is, ready .forced-rows .start t (omega arith), W.midpoint-is halves zones minima devices cells t, W.duration-is halves zones minima devices cells t) refl
+    minutes-are t h = rw (window-is, ready .forced-rows .start t (omega arith), end-at ready t h) refl
 
-    energy-to : (t : ℕ) → t ≤ m → energyTo w halves starts own t ≡ sumℕ term (upTo t)
+    energy-to : (t : ℕ) → t ≤ m → energyTo w starts own t ≡ sumℕ term (upTo t)
     unfolding energyTo range
     energy-to zero h = refl
     energy-to (suc t) h =
         sum-next term t (energy-to t (omega arith)) (ap₂ (λ (a b : ℕ). a * b) (minutes-are t (omega arith)) (power-at ready i l t (omega arith)))
         ∙ ap (λ (n : ℕ). sumℕ term (upTo n)) (add-one t)
 
-    energy-is : energyTo w halves starts own m ≡ C.energyIn q p i j
+    energy-is : energyTo w starts own (length own) ≡ C.energyIn q p i j
     unfolding C.energyIn
-    energy-is = energy-to m (omega arith) ∙ ap (λ (n : ℕ). sumℕ term (upTo n)) (sym (W.intervals-are halves zones minima devices cells))
+    energy-is = ap (energyTo w starts own) own-long ∙ energy-to m (omega arith) ∙ ap (λ (n : ℕ). sumℕ term (upTo n)) (sym (W.intervals-are halves zones minima devices cells))
 
-    pub overrun-is : overOf w (energyTo w halves starts own m) ≡ maxZero (C.overrunNeed q p i j)
+    pub overrun-is : overOf w (energyTo w starts own (length own)) ≡ maxZero (C.overrunNeed q p i j)
     unfolding C.overrunNeed
     overrun-is = ap (overOf w) energy-is ∙ rw window-is (go (eqb (w .kind) 0) (C.energyIn q p i j))
       where

@@ -12,16 +12,16 @@ use records::setting_at;
 use records::side_at;
 use records::zonebits_at;
 ghost use mathlib.Core.Path.{_≡_};
-ghost use Prim.Native.Nat.{_+_, _-_, _*_, _<_, _≤_, _^_};
+ghost use Prim.Native.Nat.{_+_, _-_, _*_, _<_, _≤_, _^_, min, max};
 ghost use lib.ListN.{length, getD};
 ghost use Rattle.numbers.specs.Sum.{gate};
 ghost use Rattle.ranges.specs.Ranges.{Eight};
 ghost use Rattle.energy.specs.Energy.{watts};
 ghost use Rattle.records.specs.Figures.{inZone};
-ghost use Rattle.records.specs.Views.{mostDevices, mostZones, mostPower, lastMinute, eightIn};
+ghost use Rattle.records.specs.Views.{mostDevices, mostZones, mostPower, eightIn};
 ghost use Rattle.slacks.specs.Sides.{Powered, withSide, sidesTo, mismatchOf};
 ghost use Rattle.slacks.specs.Needs.{Thousandths, requiredOf, needsOf, zoneNeeds};
-ghost use Rattle.slacks.specs.Energies.{minutesOf, Running, energyTo, overOf};
+ghost use Rattle.slacks.specs.Energies.{longest, minutesOf, Running, energyTo, overOf};
 ghost use Rattle.slacks.specs.Sums.{sumsTo, SumsOf, withMember, Stood, DeviceAdded, Zoned, SumsSo};
 
 // The powers of the consuming and the producing devices.
@@ -230,29 +230,37 @@ pub fn shortfalls(
     zone_needs(needed, s, least)
 }
 
-// The minutes of an interval that count in a window: "window start < M ≤ window end".
-fn minutes_in(w: EnergyWindow, start: u32, half: u32) -> u32
-    requires { ⌜ (start ≤ lastMinute) × (half ≤ 180) ⌝ }
-    ensures { λ r. ⌜ (r ≡ minutesOf w start half) × (r ≤ 360) ⌝ }
+fn later(a: u32, b: u32) -> u32
+    ensures { λ r. ⌜ r ≡ max a b ⌝ }
 {
-    let middle = start + half;
-    if w.from < middle {
-        if middle <= w.until {
-            return 2 * half;
-        }
-    }
-    0
+    if a <= b { b } else { a }
+}
+
+fn earlier(a: u32, b: u32) -> u32
+    ensures { λ r. ⌜ r ≡ min a b ⌝ }
+{
+    if a <= b { a } else { b }
+}
+
+// The minutes that an interval from start to end shares with a window, 0 where they do not meet.
+fn minutes_in(w: EnergyWindow, start: u32, end: u32) -> u32
+    requires { ⌜ end ≤ start + longest ⌝ }
+    ensures { λ r. ⌜ (r ≡ minutesOf w start end) × (r ≤ longest) ⌝ }
+{
+    let from = later(start, w.from);
+    let until = earlier(end, w.until);
+    if from <= until { until - from } else { 0 }
 }
 
 // A device's energy in a window, over its part of the powers.
-fn energy_in(w: EnergyWindow, halves: &[u32], starts: &[u32], powers: &[u32]) -> KwMin
-    requires { ⌜ Running (now halves) (now starts) (now powers) ⌝ }
-    ensures { λ r. ⌜ r .0 ≡ energyTo w (now (halves .entry)) (now (starts .entry)) (now (powers .entry)) (length (now (halves .entry))) ⌝ }
+fn energy_in(w: EnergyWindow, starts: &[u32], powers: &[u32]) -> KwMin
+    requires { ⌜ Running (now starts) (now powers) ⌝ }
+    ensures { λ r. ⌜ r .0 ≡ energyTo w (now (starts .entry)) (now (powers .entry)) (length (now (powers .entry))) ⌝ }
 {
     let mut energy = KwMin(0);
     let mut t = 0;
-    while t < halves.len() {
-        let minutes = minutes_in(w, starts[t], halves[t]);
+    while t < powers.len() {
+        let minutes = minutes_in(w, starts[t], starts[t + 1]);
         energy = energy.plus(Kw(powers[t]).over(minutes));
         t += 1;
     }
@@ -260,11 +268,11 @@ fn energy_in(w: EnergyWindow, halves: &[u32], starts: &[u32], powers: &[u32]) ->
 }
 
 // A window's overrun: "above a maximum or below a minimum", at its need, over a device's part of the powers.
-pub fn overrun(w: EnergyWindow, halves: &[u32], starts: &[u32], powers: &[u32]) -> KwMin
-    requires { ⌜ Running (now halves) (now starts) (now powers) ⌝ }
-    ensures { λ r. ⌜ r .0 ≡ overOf w (energyTo w (now (halves .entry)) (now (starts .entry)) (now (powers .entry)) (length (now (halves .entry)))) ⌝ }
+pub fn overrun(w: EnergyWindow, starts: &[u32], powers: &[u32]) -> KwMin
+    requires { ⌜ Running (now starts) (now powers) ⌝ }
+    ensures { λ r. ⌜ r .0 ≡ overOf w (energyTo w (now (starts .entry)) (now (powers .entry)) (length (now (powers .entry)))) ⌝ }
 {
-    let energy = energy_in(w, halves, starts, powers);
+    let energy = energy_in(w, starts, powers);
     let limit = w.energy;
     if w.kind == 0 {
         energy.less(limit)

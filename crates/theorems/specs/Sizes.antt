@@ -15,7 +15,7 @@ use Rattle.numbers.specs.State.{best, best-is}
 use Rattle.bits.specs.Pick.{pick}
 use Rattle.numbers.specs.Base.{range, upTo}
 use Rattle.model.specs.Case.{System, Plan, Case, noDevice, noCell, noZone, Minima, noMinima, noSetting, noEnergyWindow, noSix}
-use Rattle.model.specs.Forced.{intervals, devices, zones, device, cell, zone, cap, energyWindow, consuming, member, duration, midpoint, setting, u, uBefore, su, sd, psu, psd, power}
+use Rattle.model.specs.Forced.{intervals, devices, zones, device, cell, zone, cap, energyWindow, consuming, member, duration, endOf, setting, u, uBefore, su, sd, psu, psd, power}
 use Rattle.model.specs.Rules.{blocks, EveryRule}
 use Rattle.model.specs.Named.{rule16-holds, rule18-holds}
 use Rattle.model.specs.Completion as C
@@ -167,9 +167,9 @@ module _ (q : System) (p : Plan) (rq : SystemRange q) (rp : PlanRange q p) (ok :
   unfolding duration
   duration-bound t = omega (arith, all-getD 180 (q .halves) (rq .halves) t)
 
-  minutes-bound : (from until t : ℕ) → C.minutesIn q p from until t ≤ mostMinutes
-  unfolding C.minutesIn
-  minutes-bound from until t = gate-le (ltb from (midpoint q t) && leb (midpoint q t) until) (duration q t) mostMinutes (duration-bound t)
+  pub minutes-bound : (from until t : ℕ) → C.minutesIn q p from until t ≤ mostMinutes
+  unfolding C.minutesIn endOf
+  minutes-bound from until t = omega (arith, duration-bound t)
 
   -- ---- at most n devices
   module _ (n : ℕ) (few : devices q ≤ n) where

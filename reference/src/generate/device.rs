@@ -1,12 +1,13 @@
 //! A device built around a commitment that it can follow, with figures set at the edges of what
-//! the rules compare: minima met exactly, ramps just steep enough, windows that end on a start or
-//! a midpoint, equal prices and costs.
+//! the rules compare: minima met exactly, ramps just steep enough, windows that end on a start, on
+//! an interval's edge or a minute beside it, equal prices and costs.
 
 use crate::case::{
     Block, Device, EnergyKind, EnergyWindow, Ramps, Reserves, Side, StartWindow, StartupState,
     Status, Terms, MOST_ITEMS, MOST_STATES, MOST_ZONES,
 };
 use crate::clock::Span;
+use crate::energy::EnergyRule;
 use crate::forced::{commit, Commitment};
 use crate::generate::schedule::{schedule, Waived};
 use crate::generate::shape::{Shape, Size};
@@ -425,7 +426,10 @@ fn window_among(rng: &mut Rng, marks: &[i128], last_end: i128) -> (i128, i128) {
         let beside = rng.pick(&[-1, 0, 0, 0, 1]);
         (rng.pick(marks) + beside).clamp(0, last_end)
     };
-    let (a, b) = (mark(), mark());
+    in_order(mark(), mark())
+}
+
+fn in_order(a: i128, b: i128) -> (i128, i128) {
     (a.min(b), a.max(b))
 }
 
@@ -446,6 +450,9 @@ fn random_start_window(rng: &mut Rng, spans: &[Span], commitment: &Commitment) -
     }
 }
 
+/// The highest energy that a window can say.
+const HIGHEST_ENERGY: i128 = 4_000_000_000;
+
 /// A window over energy whose bound lies near what the device can do in it.
 fn random_energy_window(
     rng: &mut Rng,
@@ -453,25 +460,43 @@ fn random_energy_window(
     device: &Device,
     scale: Scale,
 ) -> EnergyWindow {
-    let last_end = spans[spans.len() - 1].end;
-    let mut marks: Vec<i128> = spans.iter().map(Span::midpoint).collect();
-    marks.extend([0, last_end]);
-    let (start, end) = window_among(rng, &marks, last_end);
-    let most: i128 = spans
-        .iter()
-        .zip(&device.terms)
-        .map(|(span, terms)| span.duration() * terms.pmax)
-        .sum();
-    let energy = match rng.below(4) {
-        0 => 0,
-        1 if scale == Scale::Wide => rng.from_to(0, 4_000_000_000),
-        1 if scale == Scale::Extreme => 4_000_000_000,
-        _ => rng.from_to(0, most.min(4_000_000_000)),
-    };
-    EnergyWindow {
+    let (start, end) = energy_window_edges(rng, spans);
+    let mut window = EnergyWindow {
         kind: rng.pick(&[EnergyKind::Maximum, EnergyKind::Minimum]),
         start,
         end,
-        energy,
+        energy: 0,
+    };
+    let most: i128 = spans
+        .iter()
+        .zip(&device.terms)
+        .map(|(span, terms)| EnergyRule::ByMinute.minutes(span, &window) * terms.pmax)
+        .sum();
+    window.energy = match rng.below(4) {
+        0 => 0,
+        1 if scale == Scale::Wide => rng.from_to(0, HIGHEST_ENERGY),
+        1 if scale == Scale::Extreme => HIGHEST_ENERGY,
+        _ => rng.from_to(0, most.min(HIGHEST_ENERGY)),
+    };
+    window
+}
+
+/// From an interval's edge to an interval's edge, within one interval, any minutes of the day, or
+/// edges and midpoints of intervals and what lies beside them; some are empty.
+fn energy_window_edges(rng: &mut Rng, spans: &[Span]) -> (i128, i128) {
+    let last_end = spans[spans.len() - 1].end;
+    let mut marks: Vec<i128> = spans.iter().map(|span| span.start).collect();
+    marks.push(last_end);
+    match rng.below(6) {
+        0 => in_order(rng.pick(&marks), rng.pick(&marks)),
+        1 => {
+            let Span { start, end } = rng.pick(spans);
+            in_order(rng.from_to(start, end), rng.from_to(start, end))
+        }
+        2 => in_order(rng.from_to(0, last_end), rng.from_to(0, last_end)),
+        _ => {
+            marks.extend(spans.iter().map(Span::midpoint));
+            window_among(rng, &marks, last_end)
+        }
     }
 }

@@ -15,11 +15,11 @@ less-requires-2 : tie.Need-less-requires-2
 less-requires-2 c κs = search needs
 
 returns : tie.Need-returns
-returns c = let w : _ = c .before .before .before .before .before .before .before .before .args .w in
+returns c = let w : _ = c .before .before .before .before .before .before .before .args .w in
     over-maximum w _ (c .before .if1 .taken) (c .less .ensures) ∙ ap (overOf w) (c .before .before .before .before .energy-in .ensures)
 
 returns-2 : tie.Need-returns-2
-returns-2 c = let w : _ = c .before .before .before .before .before .before .before .before .args .w in
+returns-2 c = let w : _ = c .before .before .before .before .before .before .before .args .w in
     below-minimum w _ (c .before .if1 .left) (c .less2 .ensures) ∙ ap (overOf w) (c .before .before .before .before .energy-in .ensures)
 
 pub overrun-spec : {M : Type 1} → statement M
