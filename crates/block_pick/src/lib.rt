@@ -1,0 +1,50 @@
+// The next of a device's blocks, straight from its offer: the cheapest first when producing, the dearest when consuming; "lower-numbered block first".
+ghost use mathlib.Core.Path.{_≡_};
+ghost use mathlib.Core.Bool.{false};
+ghost use Prim.Native.Nat.{_<_};
+ghost use lib.Dec.{eqb};
+ghost use Rattle.block_pick.specs.Order.{ahead, aheadIn};
+ghost use Rattle.block_pick.specs.Picks.{Below, better, Picks};
+
+// The number of a block, or none.
+pub enum Pick {
+    Block(usize),
+    None,
+}
+
+// Whether a block at the price a goes ahead of one at b that has a lower number.
+fn goes_ahead(side: u32, a: u32, b: u32) -> bool
+    ensures { λ r. ⌜ r ≡ ahead (eqb side 1) a b false ⌝ }
+{
+    if side == 1 { b < a } else { a < b }
+}
+
+// The better of what was found among lower numbers and block k.
+fn better_of(side: u32, prices: [u32; 4], found: Pick, k: usize) -> Pick
+    requires { ⌜ (k < 4) × Below k found ⌝ }
+    ensures { λ r. ⌜ r ≡ better (aheadIn (eqb side 1) prices) found k ⌝ }
+{
+    let Pick::Block(j) = found else {
+        return Pick::Block(k);
+    };
+    if goes_ahead(side, prices[k], prices[j]) {
+        Pick::Block(k)
+    } else {
+        found
+    }
+}
+
+// The next block: of those not picked yet the one ahead of the others; none exactly where all are picked.
+pub fn next(side: u32, prices: [u32; 4], picked: [bool; 4]) -> Pick
+    ensures { λ r. ⌜ Picks (eqb side 1) prices picked r ⌝ }
+{
+    let mut found = Pick::None;
+    let mut k = 0;
+    while k < 4 {
+        if !picked[k] {
+            found = better_of(side, prices, found, k);
+        }
+        k += 1;
+    }
+    found
+}
