@@ -17,9 +17,9 @@ use Rattle.model.specs.Forced.{intervals, devices, zones}
 use Rattle.model.specs.Judgement.{readPlan, withPlan}
 use Rattle.layouts.specs.Layout.{Whole, passes, fails}
 use Rattle.plan_unit.specs.Decoded.{statedFirst, DecodedFirst}
-use Rattle.lines.specs.Text.{texts}
-use Rattle.lines.specs.Writes.{Writes}
-use Rattle.answers.specs.Frames.{framed}
+use Rattle.wording.specs.Text.{texts}
+use Rattle.wording.specs.Writes.{Writes}
+use Rattle.frames.specs.Frames.{framed}
 use Rattle.answers.specs.declared.CaseAnswer.{CaseAnswer}
 use Rattle.answers.specs.declared.PlanAnswer.{PlanAnswer}
 

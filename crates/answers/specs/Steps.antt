@@ -1,20 +1,16 @@
 -- The answers to a frame, by the splitter's cases.
 use mathlib.Core.Path.{_≡_, refl, sym, ap, subst, _∙_}
 use mathlib.Core.Bool.{Bool, true, false}
-use mathlib.Core.List.{List, [], _∷_, _++_, append-nil}
-use Prim.Native.Nat.{ℕ, _+_, _≤_, _<_}
+use mathlib.Core.List.{List, [], _∷_}
+use Prim.Native.Nat.{ℕ, _≤_, _<_}
 use native.Mathlib.Omega.{arith}
-use borrow.Author.Tests.{lt-ltb, le-ltb}
-use lib.ListN.{length, drop, length-take}
-use Rattle.bits.specs.Bits.{fieldAt}
-use Rattle.numbers.specs.Tests.{never}
+use lib.ListN.{length}
 use Rattle.layouts.specs.Faults.{numberOf}
-use Rattle.layouts.specs.Framing.{part, bytesOf, messageAt}
+use Rattle.layouts.specs.Framing.{part, messageAt}
 use Rattle.layouts.specs.declared.Fault.{Fault}
 use Rattle.layouts.specs.declared.Framed.{Framed}
 use Rattle.layouts.specs.declared.Framed.the-variants as B
 use Rattle.layouts.proofs.Frames.{lies, some}
-use Rattle.model.specs.declared.Subject.the-variants as S
 use Rattle.model.specs.declared.Verdict.{Verdict}
 use Rattle.model.specs.declared.Verdict.the-variants.{Refused}
 use Rattle.model.specs.Batch.{Line, caseLine, answer, framing, planVerdict}
@@ -23,7 +19,7 @@ use Rattle.model.specs.Editions.{batch}
 use Rattle.model.specs.ByEdition.{Stated, statedIn}
 use Rattle.model.specs.Forced as F
 use Rattle.model.specs.Judgement.{readPlan, completionBytes}
-use Rattle.layouts.specs.Layout.{Whole, passes, fails}
+use Rattle.layouts.specs.Layout.{passes}
 use Rattle.records.specs.declared.Front.{Front}
 use Rattle.records.specs.declared.Counts.{Counts}
 use Rattle.records.specs.Viewed.{devices-are, intervals-are}
@@ -33,88 +29,61 @@ use Rattle.fields.specs.Ended.{ended}
 use Rattle.case_reader.specs.Whole.{CaseDone}
 use Rattle.plan_unit.specs.Inspection.{inspectedOf}
 use Rattle.plan_unit.specs.Judges.{JudgesPlan}
-use Rattle.plan_unit.specs.Decoded.{Decoded, statedRows, statedFirst, DecodedFirst}
+use Rattle.plan_unit.specs.Decoded.{Decoded, statedRows, statedFirst}
 use Rattle.plan_unit.specs.Read.{inspect-passes, decoded-first}
-use Rattle.lines.specs.Text.{text, texts}
-use Rattle.lines.specs.Writes.{Writes}
-use Rattle.answers.specs.Frames.{limit, frameBytes, frameRoom, framed}
-use Rattle.answers.specs.Answers.{readLine, readAfter, caseLines, caseAfter, planAnswers, moreOf, accepts, acceptedOf, resultOf, afterOf, AnswersCase, AnswersPlan}
+use Rattle.wording.specs.Text.{text, texts}
+use Rattle.wording.specs.Writes.{Writes}
+use Rattle.wording.specs.Lines.{no-line, one-line}
+use Rattle.frames.specs.Frames.{limit, framed}
+use Rattle.case_lines.specs.Lines.{endedLines, endedMore, WritesCase}
+use Rattle.answers.specs.Answers.{readLine, caseLines, caseAfter, afterOf, moreOf, accepts, AnswersCase, AnswersPlan}
 use Rattle.answers.specs.Room.{resultRoom, completion-fits, enough}
-use Rattle.answers.specs.declared.CaseAnswer.{CaseAnswer}
-use Rattle.answers.specs.declared.PlanAnswer.{PlanAnswer}
-
--- ---- a frame's length
-
-module _ (head : List ℕ) where
-  pub cut-bytes : length head < 3 → (length head ≡ frameBytes head) × (length head ≤ frameRoom)
-  unfolding frameBytes
-  cut-bytes h = (rw (lt-ltb (length head) 3 h) refl, omega arith)
-
-  module _ {n : ℕ} (e : n ≡ fieldAt head 0 24) (h : 3 ≤ length head) where
-    pub head-bytes : limit < n → (3 ≡ frameBytes head) × (3 ≤ frameRoom)
-    unfolding frameBytes
-    head-bytes g = (rw (le-ltb (length head) 3 h, lt-ltb limit (fieldAt head 0 24) (omega arith)) refl, omega arith)
-
-    pub all-bytes : n ≤ limit → (3 + n ≡ frameBytes head) × (3 + n ≤ frameRoom)
-    unfolding frameBytes
-    all-bytes g = (rw (le-ltb (length head) 3 h, le-ltb limit (fieldAt head 0 24) (omega arith)) (ap (λ (k : ℕ). 3 + k) e), omega arith)
-
--- ---- lines
-
-no-line : (a : List ℕ) → Writes (texts []) a a 0
-unfolding texts
-no-line a = record { count = refl; short = omega arith; bytes = refl }
-
-one-line : {l m : Line} {a b : List ℕ} {n : ℕ} → l ≡ m → Writes (text l) a b n → Writes (texts (m ∷ [])) a b n
-unfolding texts
-one-line {l} {m} e w = let f : text l ≡ text m ++ [] = ap text e ∙ sym (append-nil (text m)) in rw f at w
 
 -- ---- the case
 
-module _ (frame halves : List ℕ) (zones minima devices cells : List (List ℕ)) (before : List ℕ) {x : Framed} (e : x ≡ framed frame) (front : Front) (counts : Counts) where
+pub never : {P : Type 0} → false ≡ true → P
+never k = let z : _≡_ {A = ℕ} 0 1 = cc in absurd (omega arith)
+
+-- what the splitter finds holds the message, so the case's line is that of its reading
+module _ (frame halves : List ℕ) (zones minima devices cells : List (List ℕ)) {m : List ℕ} {end : Ending} {front : Front} {counts : Counts} (i : m ≡ messageAt limit frame 0)
+    (d : CaseDone (batch .devices) (batch .intervals) m halves zones minima devices cells end front counts) where
   abbrev held : Stated
   held = statedFirst front counts halves zones minima devices cells
 
-  pub case-end : x ≡ B.End → AnswersCase frame halves zones minima devices cells before before (record { bytes = 0; more = false; front = front; counts = counts })
-  case-end t =
-      let f : framed frame ≡ B.End = sym e ∙ t in
-      record { text = rw f (no-line before); next = rw f refl; decoded = never }
+  read-is : {from until : ℕ} → framed frame ≡ B.Message from until → statedIn batch (part frame from until) ≡ ended held end
+  read-is t = ap (statedIn batch) (some limit frame 0 refl t ∙ sym i) ∙ sym (d .is)
 
-  pub case-framing : {f : Fault} {after : List ℕ} {n : ℕ} → x ≡ B.Refused f → Writes (text (framing (numberOf f))) before after n
-      → AnswersCase frame halves zones minima devices cells before after (record { bytes = n; more = false; front = front; counts = counts })
-  case-framing {f} t w =
-      let g : framed frame ≡ B.Refused f = sym e ∙ t in
-      record { text = rw g (one-line refl w); next = rw g refl; decoded = never }
+  -- the counts are the decoded case's
+  counts-are : end ≡ Passes → caseLine 0 (counts .devices) (counts .intervals) (counts .zones) ≡ readLine (passes held)
+  counts-are k =
+      let j = inspect-passes m halves zones minima devices cells end front counts d k ∙ ap inspectedOf (sym (d .is) ∙ ap (ended held) k) in
+      cc
 
-  module _ {from until : ℕ} (t : x ≡ B.Message from until) {m : List ℕ} {end : Ending} (i : m ≡ messageAt limit frame 0)
-      (d : CaseDone (batch .devices) (batch .intervals) m halves zones minima devices cells end front counts) where
-    message-is : framed frame ≡ B.Message from until
-    message-is = sym e ∙ t
+  lines-are : (x : Framed) (y : Ending) → framed frame ≡ x → end ≡ y → endedLines x y counts ≡ caseLines frame x
+  lines-are B.End y t k = refl
+  lines-are (B.Refused f) y t k = refl
+  lines-are (B.Message from until) Passes t k = rw (read-is t, k) (ap (λ (l : Line). l ∷ []) (counts-are k))
+  lines-are (B.Message from until) (Fails f) t k = rw (read-is t, k) refl
 
-    read-is : statedIn batch (part frame from until) ≡ ended held end
-    read-is = ap (statedIn batch) (some limit frame 0 e t ∙ sym i) ∙ sym (d .is)
+  after-is : (x : Framed) (y : Ending) → framed frame ≡ x → end ≡ y → afterOf (endedMore x y) held ≡ caseAfter frame x
+  after-is B.End y t k = refl
+  after-is (B.Refused f) y t k = refl
+  after-is (B.Message from until) Passes t k = rw (read-is t, k) refl
+  after-is (B.Message from until) (Fails f) t k = rw (read-is t, k) refl
 
-    pub case-fails : {f : Fault} {after : List ℕ} {n : ℕ} → end ≡ Fails f → Writes (text (answer 0 (Refused S.Case f))) before after n
-        → AnswersCase frame halves zones minima devices cells before after (record { bytes = n; more = false; front = front; counts = counts })
-    case-fails {f} k w =
-        let g : statedIn batch (part frame from until) ≡ fails f = read-is ∙ ap (ended held) k in
-        record { text = rw (message-is, g) (one-line refl w); next = rw (message-is, g) refl; decoded = never }
+  goes-on : (x : Framed) (y : Ending) → endedMore x y ≡ true → y ≡ Passes
+  goes-on B.End y h = never h
+  goes-on (B.Refused f) y h = never h
+  goes-on (B.Message from until) Passes h = refl
+  goes-on (B.Message from until) (Fails f) h = never h
 
-    -- the counts are the decoded case's
-    counts-are : end ≡ Passes → caseLine 0 (counts .devices) (counts .intervals) (counts .zones) ≡ readLine (passes held)
-    counts-are k =
-        let j = inspect-passes m halves zones minima devices cells end front counts d k ∙ ap inspectedOf (sym (d .is) ∙ ap (ended held) k) in
-        cc
-
-    pub case-passes : {after : List ℕ} {n : ℕ} → end ≡ Passes → Writes (text (caseLine 0 (counts .devices) (counts .intervals) (counts .zones))) before after n
-        → AnswersCase frame halves zones minima devices cells before after (record { bytes = n; more = true; front = front; counts = counts })
-    case-passes k w =
-        let g : statedIn batch (part frame from until) ≡ passes held = read-is ∙ ap (ended held) k in
-        record {
-          text = rw (message-is, g) (one-line (counts-are k) w);
-          next = rw (message-is, g) refl;
-          decoded = λ _. decoded-first m halves zones minima devices cells end front counts d k;
-        }
+  pub case-answered : {before after : List ℕ} {n : ℕ} {more : Bool} → WritesCase (framed frame) end counts before after (record { bytes = n; more = more })
+      → AnswersCase frame halves zones minima devices cells before after (record { bytes = n; more = more; front = front; counts = counts })
+  case-answered {before} {after} {n} {more} w = record {
+    text = subst (λ (ls : List Line). Writes (texts ls) before after n) (lines-are (framed frame) end refl refl) (w .text);
+    next = ap (λ (b : Bool). afterOf b held) (w .more) ∙ after-is (framed frame) end refl refl;
+    decoded = λ h. decoded-first m halves zones minima devices cells end front counts d (goes-on (framed frame) end (sym (w .more) ∙ h));
+  }
 
 -- ---- a plan
 

@@ -4,8 +4,8 @@ use Prim.Native.Nat.{ℕ, zero, suc}
 use lib.ListN.{length, drop}
 use Rattle.bits.specs.Pick.{pick}
 use Rattle.model.specs.ByEdition.{Stated}
-use Rattle.lines.specs.Text.{texts}
-use Rattle.answers.specs.Frames.{frameOf, framed}
+use Rattle.wording.specs.Text.{texts}
+use Rattle.frames.specs.Frames.{frameOf, framed}
 use Rattle.answers.specs.Answers.{After, over, plans, caseLines, caseAfter, planAnswers, moreOf}
 
 -- the plans, where these bytes of the batch are left; n bounds how many

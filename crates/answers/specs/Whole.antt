@@ -14,11 +14,11 @@ use Rattle.model.specs.Editions.{batch}
 use Rattle.model.specs.ByEdition.{Stated, statedIn}
 use Rattle.model.specs.Judgement.{readPlan}
 use Rattle.layouts.specs.Layout.{Whole, passes, fails}
-use Rattle.lines.specs.Text.{text, texts, batchText}
-use Rattle.answers.specs.Frames.{limit, frameOf, framed}
+use Rattle.wording.specs.Text.{text, texts, batchText}
+use Rattle.frames.specs.Frames.{limit, frameOf, framed}
 use Rattle.answers.specs.Answers.{readLine, readAfter, caseLines, caseAfter, planAnswers}
 use Rattle.answers.specs.Stream.{plansText, behindCase, streamText}
-use Rattle.answers.specs.Splits.{Both, ends, holds, refuses, both}
+use Rattle.frames.specs.Splits.{Both, ends, holds, refuses, both}
 
 one-line : (l : Line) (ls : List Line) → texts (l ∷ []) ++ texts ls ≡ texts (l ∷ ls)
 unfolding texts

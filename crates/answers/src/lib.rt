@@ -1,7 +1,6 @@
 // The batch program's answers on slices: to a frame, which is a message behind its length as far as the batch goes, its lines as text and how the batch goes on.
-use fields::Ending;
+use frames::LIMIT;
 use layouts::Framed;
-use model::Subject;
 use model::Verdict;
 use records::CellRow;
 use records::Counts;
@@ -16,30 +15,9 @@ ghost use lib.ListN.{length};
 ghost use Rattle.model.specs.Editions.{batch};
 ghost use Rattle.case_reader.specs.Whole.{CaseRoom};
 ghost use Rattle.plan_unit.specs.Decoded.{Decoded, Work, statedRows};
-ghost use Rattle.lines.specs.Writes.{lineRoom};
-ghost use Rattle.answers.specs.Frames.{frameBytes, frameRoom};
+ghost use Rattle.wording.specs.Writes.{lineRoom};
 ghost use Rattle.answers.specs.Answers.{accepts, AnswersCase, AnswersPlan};
 ghost use Rattle.answers.specs.Room.{resultRoom};
-
-// The most bytes of a message, and those of the length ahead of it.
-const LIMIT: u64 = 65536;
-
-const HEAD: usize = 3;
-
-// How many bytes a frame has, by the first of them.
-pub fn frame_bytes(head: &[u8]) -> usize
-    ensures { λ r. ⌜ (r ≡ frameBytes (now (head .entry))) × (r ≤ frameRoom) ⌝ }
-{
-    let here = head.len();
-    if here < HEAD {
-        return here;
-    }
-    let n = bits::bits_at(head, 0, 24);
-    if LIMIT < n {
-        return HEAD;
-    }
-    HEAD + n as usize
-}
 
 // The largest counts that the batch program takes.
 const DEVICES: u32 = 16;
@@ -81,49 +59,14 @@ pub fn answer_case(
     let ending = read.ending;
     let front = read.front;
     let counts = read.counts;
-    let more = false;
-    match layouts::frame_at(frame, 0, LIMIT) {
-        Framed::End => {
-            let bytes = 0;
-            CaseAnswer {
-                bytes,
-                more,
-                front,
-                counts,
-            }
-        }
-        Framed::Refused(f) => {
-            let bytes = lines::put_framing(out, f);
-            CaseAnswer {
-                bytes,
-                more,
-                front,
-                counts,
-            }
-        }
-        Framed::Message(_, _) => match ending {
-            Ending::Fails(f) => {
-                let bytes = lines::put_answer(out, 0, Verdict::Refused(Subject::Case, f));
-                CaseAnswer {
-                    bytes,
-                    more,
-                    front,
-                    counts,
-                }
-            }
-            Ending::Passes => {
-                let intervals = counts.intervals as u64;
-                let zones = counts.zones as u64;
-                let bytes = lines::put_case(out, counts.devices as u64, intervals, zones);
-                let more = true;
-                CaseAnswer {
-                    bytes,
-                    more,
-                    front,
-                    counts,
-                }
-            }
-        },
+    let line = case_lines::case_line(frame, ending, counts, out);
+    let bytes = line.bytes;
+    let more = line.more;
+    CaseAnswer {
+        bytes,
+        more,
+        front,
+        counts,
     }
 }
 
@@ -195,7 +138,7 @@ pub fn answer_plan(
                 powers,
                 result,
             );
-            let bytes = lines::put_answer(out, index, v);
+            let bytes = verdict_lines::put_answer(out, index, v);
             PlanAnswer {
                 bytes,
                 more: true,

@@ -16,7 +16,7 @@ ghost use Prim.Native.Nat.{_^_, _≤_, _<_};
 ghost use lib.ListN.{length};
 ghost use Rattle.model.specs.Editions.{batch};
 ghost use Rattle.plan_unit.specs.Decoded.{Decoded, Work};
-ghost use Rattle.answers.specs.Frames.{frameRoom};
+ghost use Rattle.frames.specs.Frames.{frameRoom};
 
 // The most bytes of a batch: no machine holds more.
 const REACH: u64 = 0x1fff_ffff_ffff_ffff;

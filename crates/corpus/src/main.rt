@@ -17,7 +17,7 @@ ghost use Prim.Native.Nat.{_^_, _≤_, _<_};
 ghost use lib.ListN.{length};
 ghost use Rattle.model.specs.Editions.{batch};
 ghost use Rattle.plan_unit.specs.Decoded.{Decoded, Work};
-ghost use Rattle.answers.specs.Frames.{frameRoom};
+ghost use Rattle.frames.specs.Frames.{frameRoom};
 
 fn least(a: u64, b: u64) -> u64
     ensures { λ r. ⌜ (r ≤ a) × (r ≤ b) ⌝ }

@@ -53,7 +53,8 @@ module _ (k : Listed) (e last : ℕ) (s : List ℕ) where
 
     module _ {n : ℕ} {start : Place} (t : c ≡ F.Good n start) where
       pub fill-none : (l : List Item) → length l ≡ mostWindows → Filling n start 0 l start
-      fill-none l long = let few : n ≤ mostItems k = nat-within (count k) s o (figure-on (limited c o limit read) t) .1 in record { few = few; fits = omega (arith, few, most-fits k); long = long; storing = storing-none (omega (arith, few, most-fits k)) }
+      fill-none l long = let few : n ≤ mostItems k = nat-within (count k) s o (figure-on (limited c o limit read) t) .1 in
+          record { few = few; fits = omega (arith, few, most-fits k); long = long; storing = storing-none (omega (arith, few, most-fits k)) }
 
       module _ {i : ℕ} {l : List Item} {p : Place} (u : Filling n start i l p) where
         pub fill-off : {w : Went} {r : ItemsRead} (v : Item) {f : Fault} → ItemsNone w r → i < n → told w (itemIn k v) ≡ got (item k e last) s p → w ≡ W.Off f → ItemsDone k e last s o r

@@ -65,7 +65,8 @@ module _ {front : Front} {halves : List ℕ} {zones minima devices cells setting
     pub powers-run : Running starts ownPowers
     powers-run = rw (part-cut m i a powers begins) (running (u .ready) i l)
 
-    module _ (w : ℕ) (k : w < energiesAt devices i) {window : EnergyWindow} {y : ℕ} (ew : window ≡ energyAt devices i w) (e : y ≡ overOf window (energyTo window starts ownPowers (length ownPowers))) where
+    module _ (w : ℕ) (k : w < energiesAt devices i) {window : EnergyWindow} {y : ℕ} (ew : window ≡ energyAt devices i w)
+        (e : y ≡ overOf window (energyTo window starts ownPowers (length ownPowers))) where
       over-is : y ≡ maxZero (overrunNeed q p i w)
       over-is = e ∙ rw (ew, part-cut m i a powers begins) (overrun-is (u .ready) i l w k)
 

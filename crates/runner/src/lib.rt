@@ -18,7 +18,7 @@ ghost use lib.ListN.{length};
 ghost use Rattle.model.specs.Editions.{batch};
 ghost use Rattle.case_reader.specs.Whole.{CaseRoom};
 ghost use Rattle.plan_unit.specs.Decoded.{Decoded, DecodedFirst, Work};
-ghost use Rattle.answers.specs.Frames.{frameRoom};
+ghost use Rattle.frames.specs.Frames.{frameRoom};
 ghost use Rattle.answers.specs.Room.{resultRoom};
 
 // A loop has to end: it counts down from a number that no run uses up.
@@ -91,7 +91,7 @@ fn read_frame(frame: &mut [u8], left: u64) -> Got
     let head = least(3, left) as usize;
     let got = read_full(&mut frame[0..head]);
     let here = got.0;
-    let end = least(answers::frame_bytes(&frame[0..here]) as u64, left) as usize;
+    let end = least(frames::frame_bytes(&frame[0..here]) as u64, left) as usize;
     if got.1 != 0 || end <= here {
         return got;
     }

@@ -1,5 +1,6 @@
+-- Too few places, or the answer told.
 use borrow.Author.Needs.{needs}
-use Rattle.abi.specs.Steps.{inspects-short, inspects-told}
+use Rattle.abi.specs.Hosts.{inspects-short, inspects-told}
 use Rattle.abi.proofs.kadunfo_inspect.Statement.{statement}
 use Rattle.abi.proofs.kadunfo_inspect.Tie as tie
 
@@ -19,8 +20,10 @@ same-length : tie.Need-same-length
 same-length c = search needs
 
 returns-2 : tie.Need-returns-2
-returns-2 c = inspects-told _ _ (c .before .before .before .before .before .before .if1 .left) (c .before .before .before .before .before .inspect .ensures)
-    (c .before .before .before .before .tell-case .ensures) (c .before .before .store .ensures)
+returns-2 c =
+    let at-tell : _ = c .before .before .before .before in
+    let at-inspect : _ = at-tell .before in
+    inspects-told _ _ (at-inspect .before .if1 .left) (at-inspect .inspect .ensures) (at-tell .tell-case .ensures) (c .before .before .store .ensures)
 
 pub kadunfo-inspect-spec : {M : Type 1} → statement M
 kadunfo-inspect-spec =

@@ -1,5 +1,6 @@
+-- Too few places, or the answer told.
 use borrow.Author.Needs.{needs}
-use Rattle.abi.specs.Steps.{judges-short, judges-told}
+use Rattle.abi.specs.Hosts.{judges-short, judges-told}
 use Rattle.abi.proofs.kadunfo_judge.Statement.{statement}
 use Rattle.abi.proofs.kadunfo_judge.Tie as tie
 
@@ -22,8 +23,10 @@ same-length-2 : tie.Need-same-length-2
 same-length-2 c = search needs
 
 returns-2 : tie.Need-returns-2
-returns-2 c = judges-told _ _ _ _ _ (c .before .before .before .before .before .before .before .before .before .if1 .left)
-    (c .before .before .before .before .before .before .before .judge .ensures) (c .before .before .before .before .tell .ensures) (c .before .before .store .ensures)
+returns-2 c =
+    let at-tell : _ = c .before .before .before .before in
+    let at-judge : _ = at-tell .before .before .before in
+    judges-told _ _ _ _ _ (at-judge .before .before .if1 .left) (at-judge .judge .ensures) (at-tell .tell .ensures) (c .before .before .store .ensures)
 
 pub kadunfo-judge-spec : {M : Type 1} → statement M
 kadunfo-judge-spec =

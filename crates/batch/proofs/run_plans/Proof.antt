@@ -6,7 +6,7 @@ use native.Mathlib.Omega.{arith}
 use borrow.Author.Tests.{not-false}
 use lib.ListN.{length}
 use Rattle.plan_unit.specs.Decoded.{Work}
-use Rattle.answers.specs.Frames.{frameRoom}
+use Rattle.frames.specs.Frames.{frameRoom}
 use Rattle.answers.specs.Room.{resultRoom}
 use borrow.Author.Needs.{needs}
 use Rattle.batch.proofs.run_plans.Statement.{statement}

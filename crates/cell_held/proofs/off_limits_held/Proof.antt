@@ -49,7 +49,11 @@ at-most-requires-3 c κs = search needs
 returns-4 : tie.Need-returns-4
 returns-4 c = let earlier : _ = c .before .before .before .before .before .before .before .before .before .before .before .before in
     let entry : _ = earlier .before in λ e. let a : _ = entry .args in
-    off-limits (a .d) (a .c) (a .s) (a .w) (entry .pre .1) (omega (arith, c .before .before .before .before .before .before .before .by-side .ensures .0, c .before .before .before .before .before .if1 .left))
+    off-limits (a .d) (a .c) (a .s) (a .w) (entry .pre .1) (omega (
+      arith,
+      c .before .before .before .before .before .before .before .by-side .ensures .0,
+      c .before .before .before .before .before .if1 .left,
+    ))
     (leb-true _ _ (passed (c .before .before .before .before .at-most .ensures) (c .before .before .before .if2 .left)))
     (leb-true _ _ (passed (c .before .before .at-most2 .ensures) (c .before .if3 .left)))
     (leb-true _ _ (passed-last (c .at-most3 .ensures) e))

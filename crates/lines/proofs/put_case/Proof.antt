@@ -1,5 +1,6 @@
+-- Three counts behind the word.
 use native.Mathlib.Omega.{arith}
-use Rattle.lines.specs.Writes.{writes}
+use Rattle.wording.specs.Writes.{writes}
 use borrow.Author.Needs.{needs}
 use Rattle.lines.proofs.put_case.Statement.{statement}
 use Rattle.lines.proofs.put_case.Tie as tie

@@ -1,5 +1,6 @@
+-- The error's number behind the words.
 use native.Mathlib.Omega.{arith}
-use Rattle.lines.specs.Writes.{writes}
+use Rattle.wording.specs.Writes.{writes}
 use borrow.Author.Needs.{needs}
 use Rattle.lines.proofs.put_failure.Statement.{statement}
 use Rattle.lines.proofs.put_failure.Tie as tie

@@ -1,6 +1,7 @@
+-- The fault's number behind the word.
 use native.Mathlib.Omega.{arith}
-use Rattle.lines.specs.Writes.{writes-as}
-use Rattle.lines.specs.Spelling.{framing-is}
+use Rattle.wording.specs.Writes.{writes-as}
+use Rattle.wording.specs.Spelling.{framing-is}
 use borrow.Author.Needs.{needs}
 use Rattle.lines.proofs.put_framing.Statement.{statement}
 use Rattle.lines.proofs.put_framing.Tie as tie
@@ -21,8 +22,9 @@ same-length : tie.Need-same-length
 same-length c = search needs
 
 returns : tie.Need-returns
-returns c = writes-as (framing-is (c .before .before .before .before .before .before .before .before .args .f)
-    (c .before .before .before .before .before .before .number-of .ensures)) (c .before .before .put-word .ensures) (omega arith)
+returns c =
+    let at-number : _ = c .before .before .before .before .before .before in
+    writes-as (framing-is (at-number .before .before .args .f) (at-number .number-of .ensures)) (c .before .before .put-word .ensures) (omega arith)
 
 pub put-framing-spec : {M : Type 1} → statement M
 put-framing-spec =

@@ -99,7 +99,8 @@ slice-aggregate-judge-plan-4 c = let earlier : _ = c .before .before .before .be
 
 array-share-prefix-cells : tie.Need-array-share-prefix-cells
 array-share-prefix-cells c =
-    let d = let earlier : _ = c .before .before .before .before .before .before .before .before .before .before .before .before in decoded-first _ _ _ _ _ _ _ _ _ (earlier .before .before .read-case .ensures) (c .before .before .before .before .before .enum-told .given .1) in
+    let d = let earlier : _ = c .before .before .before .before .before .before .before .before .before .before .before .before in
+    decoded-first _ _ _ _ _ _ _ _ _ (earlier .before .before .read-case .ensures) (c .before .before .before .before .before .enum-told .given .1) in
     omega (arith, few-cells d)
 
 slice-aggregate-judge-plan-5 : tie.Need-slice-aggregate-judge-plan-5

@@ -7,7 +7,7 @@ use Prim.Native.Nat.{ℕ, _-_, _≤_, _<_}
 use native.Mathlib.Omega.{arith}
 use lib.ListN.{length, length-take}
 use lib.Seq.{length-take-le}
-use Rattle.answers.specs.Frames.{framed}
+use Rattle.frames.specs.Frames.{framed}
 use Rattle.answers.specs.Answers.{moreOf}
 use Rattle.numbers.specs.Tests.{never}
 use Rattle.answers.specs.Steps.{more-bytes}

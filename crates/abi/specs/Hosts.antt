@@ -1,0 +1,49 @@
+-- What hosts in other languages are answered.
+use mathlib.Core.Path.{_≡_, refl, ap, _∙_}
+use mathlib.Core.List.{List, _++_}
+use Prim.Native.Nat.{ℕ, _≤_, _<_}
+use native.Mathlib.Omega.{arith}
+use lib.ListN.{length, drop}
+use Rattle.model.specs.declared.Verdict.{Verdict}
+use Rattle.model.specs.Editions.{batch}
+use Rattle.model.specs.ByEdition.{statedIn}
+use Rattle.tellings.specs.declared.Told.{Told}
+use Rattle.plan_unit.specs.declared.Inspected.{Inspected}
+use Rattle.plan_unit.specs.Judges.{Judges}
+use Rattle.plan_unit.specs.Inspection.{inspectedOf}
+use Rattle.tellings.specs.Told.{toldOf, toldCase, figuresOf}
+
+-- four numbers stored at the front of a lent slice; nothing is done, and 5 is answered, where it has fewer places
+pub record HostJudges (cs ps before after figures told : List ℕ) (r : ℕ) : Type 0 where
+  pub short : length figures < 4 → (r ≡ 5) × (after ≡ before) × (told ≡ figures)
+  pub judges : 4 ≤ length figures → (v : Verdict) × Judges batch cs ps before after v × (r ≡ toldOf v .word) × (told ≡ figuresOf (toldOf v) ++ drop 4 figures)
+
+pub record HostInspects (cs figures told : List ℕ) (r : ℕ) : Type 0 where
+  pub short : length figures < 4 → (r ≡ 5) × (told ≡ figures)
+  pub inspects : 4 ≤ length figures → (r ≡ toldCase (inspectedOf (statedIn batch cs)) .word) × (told ≡ figuresOf (toldCase (inspectedOf (statedIn batch cs))) ++ drop 4 figures)
+
+-- ---- from what the code answers
+
+module _ (cs ps before figures : List ℕ) where
+  pub judges-short : length figures < 4 → HostJudges cs ps before before figures figures 5
+  judges-short h = record { short = λ _. (refl, refl, refl); judges = λ k. absurd (omega (arith, h, k)) }
+
+  pub judges-told : {after told : List ℕ} {t : Told} (v : Verdict) → 4 ≤ length figures → Judges batch cs ps before after v → t ≡ toldOf v
+      → told ≡ figuresOf t ++ drop 4 figures → HostJudges cs ps before after figures told (t .word)
+  judges-told v h j e f = record {
+    short = λ k. absurd (omega (arith, h, k));
+    judges = λ _. (v, j, ap (λ (x : Told). x .word) e, f ∙ ap (λ (x : Told). figuresOf x ++ drop 4 figures) e);
+  }
+
+module _ (cs figures : List ℕ) where
+  pub inspects-short : length figures < 4 → HostInspects cs figures figures 5
+  inspects-short h = record { short = λ _. (refl, refl); inspects = λ k. absurd (omega (arith, h, k)) }
+
+  pub inspects-told : {told : List ℕ} {t : Told} {x : Inspected} → 4 ≤ length figures → x ≡ inspectedOf (statedIn batch cs) → t ≡ toldCase x
+      → told ≡ figuresOf t ++ drop 4 figures → HostInspects cs figures told (t .word)
+  inspects-told {told} {t} {x} h i e f =
+      let g : t ≡ toldCase (inspectedOf (statedIn batch cs)) = e ∙ ap toldCase i in
+      record {
+        short = λ k. absurd (omega (arith, h, k));
+        inspects = λ _. (ap (λ (y : Told). y .word) g, f ∙ ap (λ (y : Told). figuresOf y ++ drop 4 figures) g);
+      }

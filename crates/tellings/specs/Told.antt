@@ -1,0 +1,32 @@
+-- What hosts in other languages are told: a word and four numbers for each verdict, and for each case that is inspected.
+use mathlib.Core.List.{List, [], _∷_}
+use Prim.Native.Nat.{ℕ}
+use Rattle.layouts.specs.Faults.{numberOf, returnedBy}
+use Rattle.bits.specs.Twos.{toTwos}
+use Rattle.model.specs.declared.Subject.{Subject}
+use Rattle.model.specs.declared.Subject.the-variants as S
+use Rattle.model.specs.declared.Verdict.{Verdict}
+use Rattle.model.specs.declared.Verdict.the-variants.{Accepted, Broken, Refused}
+use Rattle.tellings.specs.declared.Told.{Told}
+use Rattle.plan_unit.specs.declared.Inspected.{Inspected}
+use Rattle.plan_unit.specs.declared.Inspected.the-variants as I
+
+-- 2 a refused case, 3 a refused plan, 4 a result buffer too short
+abbrev pub wordOf : Subject → ℕ
+wordOf S.Case = 2
+wordOf S.Plan = 3
+wordOf S.Result = 4
+
+-- 0 accepted: the surplus in two's complement; 1 broken: rule, interval, device, window; 2 to 4 refused: number, bit or bytes
+abbrev pub toldOf : Verdict → Told
+toldOf (Accepted z) = record { word = 0; first = toTwos 64 z; second = 0; third = 0; fourth = 0 }
+toldOf (Broken b) = record { word = 1; first = b .rule; second = b .interval; third = b .device; fourth = b .window }
+toldOf (Refused s f) = record { word = wordOf s; first = numberOf f; second = returnedBy f; third = 0; fourth = 0 }
+
+-- 0 passes: devices, intervals, zones; 2 refused: number, bit
+abbrev pub toldCase : Inspected → Told
+toldCase (I.Counts d n z) = record { word = 0; first = d; second = n; third = z; fourth = 0 }
+toldCase (I.Refused f) = record { word = 2; first = numberOf f; second = returnedBy f; third = 0; fourth = 0 }
+
+abbrev pub figuresOf : Told → List ℕ
+figuresOf t = t .first ∷ t .second ∷ t .third ∷ t .fourth ∷ []

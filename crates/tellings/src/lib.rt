@@ -1,0 +1,103 @@
+// What hosts in other languages are told: a word and four numbers.
+use model::Subject;
+use model::Verdict;
+use plan_unit::Inspected;
+ghost use mathlib.Core.Path.{_≡_};
+ghost use mathlib.Core.List.{_++_};
+ghost use Prim.Native.Nat.{_≤_};
+ghost use lib.ListN.{length, drop};
+ghost use Rattle.tellings.specs.Told.{wordOf, toldOf, toldCase, figuresOf};
+
+pub struct Told {
+    pub word: u64,
+    pub first: u64,
+    pub second: u64,
+    pub third: u64,
+    pub fourth: u64,
+}
+
+fn word_of(s: Subject) -> u64
+    ensures { λ r. ⌜ r ≡ wordOf s ⌝ }
+{
+    match s {
+        Subject::Case => 2,
+        Subject::Plan => 3,
+        Subject::Result => 4,
+    }
+}
+
+// A verdict.
+pub fn tell(v: Verdict) -> Told
+    ensures { λ r. ⌜ r ≡ toldOf v ⌝ }
+{
+    match v {
+        Verdict::Accepted(z) => {
+            let surplus = bits::twos(z);
+            Told {
+                word: 0,
+                first: surplus,
+                second: 0,
+                third: 0,
+                fourth: 0,
+            }
+        }
+        Verdict::Broken(b) => {
+            Told {
+                word: 1,
+                first: b.rule,
+                second: b.interval,
+                third: b.device,
+                fourth: b.window,
+            }
+        }
+        Verdict::Refused(s, f) => {
+            let word = word_of(s);
+            let number = layouts::number_of(f);
+            let returned = layouts::returned_by(f);
+            Told {
+                word,
+                first: number,
+                second: returned,
+                third: 0,
+                fourth: 0,
+            }
+        }
+    }
+}
+
+// A case that was inspected.
+pub fn tell_case(x: Inspected) -> Told
+    ensures { λ r. ⌜ r ≡ toldCase x ⌝ }
+{
+    match x {
+        Inspected::Counts(d, n, z) => Told {
+            word: 0,
+            first: d,
+            second: n,
+            third: z,
+            fourth: 0,
+        },
+        Inspected::Refused(f) => {
+            let number = layouts::number_of(f);
+            let returned = layouts::returned_by(f);
+            Told {
+                word: 2,
+                first: number,
+                second: returned,
+                third: 0,
+                fourth: 0,
+            }
+        }
+    }
+}
+
+// The four numbers at the front of a slice.
+pub fn store(figures: &mut [u64], t: Told)
+    requires { ⌜ 4 ≤ length (now figures) ⌝ }
+    ensures { λ _. ⌜ now (figures .exit) ≡ figuresOf t ++ drop 4 (now (figures .entry)) ⌝ }
+{
+    figures[3] = t.fourth;
+    figures[2] = t.third;
+    figures[1] = t.second;
+    figures[0] = t.first;
+}
