@@ -20,8 +20,8 @@ use Rattle.model.specs.ByEdition.{Stated, statedIn}
 use Rattle.model.specs.Forced as F
 use Rattle.model.specs.Judgement.{readPlan, completionBytes}
 use Rattle.layouts.specs.Layout.{passes}
-use Rattle.records.specs.declared.Front.{Front}
-use Rattle.records.specs.declared.Counts.{Counts}
+use Rattle.row_places.specs.declared.Front.{Front}
+use Rattle.row_places.specs.declared.Counts.{Counts}
 use Rattle.records.specs.Viewed.{devices-are, intervals-are}
 use Rattle.fields.specs.declared.Ending.{Ending}
 use Rattle.fields.specs.declared.Ending.the-variants.{Passes, Fails}

@@ -15,13 +15,13 @@ use Rattle.model.specs.Case.{System, Plan}
 use Rattle.model.specs.Forced as F
 use Rattle.model.specs.Breaches.{failing, cellTests, cellBreaches, oneWindow, windowBreaches}
 use Rattle.model.specs.declared.Breach.{Breach}
-use Rattle.records.specs.Figures.{deviceOf}
+use Rattle.row_places.specs.Figures.{deviceOf}
 use Rattle.numbers.specs.Parts.{part, part-cut, part-inside, part-long}
 use Rattle.records.specs.Views.{systemIn, planIn, mostWindows, mostDevices, mostIntervals, Ready}
 use Rattle.records.specs.Viewed as W
-use Rattle.records.specs.Figures.{noStart}
-use Rattle.records.specs.declared.Device.{Device}
-use Rattle.records.specs.declared.Front.{Front}
+use Rattle.row_places.specs.Figures.{noStart}
+use Rattle.row_places.specs.declared.Device.{Device}
+use Rattle.row_places.specs.declared.Front.{Front}
 use Rattle.cell_rules.specs.declared.Bounds.{Bounds}
 use Rattle.cell_rules.specs.Word.{failingWord, numbersIn}
 use Rattle.cell_rules.specs.Tests.{boundsOf}

@@ -12,19 +12,19 @@ ghost use Rattle.breaches.specs.Bits.{firstOf};
 ghost use Rattle.breaches.specs.Parts.{windowAt, windowsHere};
 ghost use Rattle.breaches.specs.Day.{intervalBreaches, dayBreaches, dayWindows, DeviceHolds};
 use cell_rules::bounds_of;
+use device_rows::device_at;
 use device_rules::all_starts;
 use device_rules::failing_at;
 use device_rules::held_all;
 use device_rules::window_kept;
 use model::Breach;
-use records::CellRow;
-use records::Device;
-use records::DeviceRow;
-use records::Front;
-use records::MinimaRow;
-use records::SettingRow;
-use records::ZoneRow;
-use records::device_at;
+use row_places::CellRow;
+use row_places::Device;
+use row_places::DeviceRow;
+use row_places::Front;
+use row_places::MinimaRow;
+use row_places::SettingRow;
+use row_places::ZoneRow;
 
 // Every rule holds, or the first that is broken.
 pub enum Check {

@@ -9,7 +9,7 @@ use Rattle.layouts.specs.declared.Framed.the-variants as B
 use Rattle.model.specs.declared.Subject.the-variants as S
 use Rattle.model.specs.declared.Verdict.the-variants.{Refused}
 use Rattle.model.specs.Batch.{Line, caseLine, answer, framing}
-use Rattle.records.specs.declared.Counts.{Counts}
+use Rattle.row_places.specs.declared.Counts.{Counts}
 use Rattle.fields.specs.declared.Ending.{Ending}
 use Rattle.fields.specs.declared.Ending.the-variants.{Passes, Fails}
 use Rattle.wording.specs.Text.{texts}

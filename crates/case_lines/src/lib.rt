@@ -4,7 +4,7 @@ use frames::LIMIT;
 use layouts::Framed;
 use model::Subject;
 use model::Verdict;
-use records::Counts;
+use row_places::Counts;
 ghost use Prim.Native.Nat.{_≤_};
 ghost use lib.ListN.{length};
 ghost use Rattle.wording.specs.Writes.{lineRoom};

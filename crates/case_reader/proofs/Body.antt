@@ -18,10 +18,10 @@ use Rattle.numbers.specs.Every.{all-getD}
 use Rattle.model.specs.Case as C
 use Rattle.model.specs.Case.{Case}
 use Rattle.numbers.specs.Rows.{rows}
-use Rattle.records.specs.declared.Counts.{Counts}
-use Rattle.records.specs.declared.Front.{Front}
+use Rattle.row_places.specs.declared.Counts.{Counts}
+use Rattle.row_places.specs.declared.Front.{Front}
 use Rattle.numbers.specs.Parts.{part, part-taken}
-use Rattle.records.specs.Figures.{deviceOf, zoneOf}
+use Rattle.row_places.specs.Figures.{deviceOf, zoneOf}
 use Rattle.records.specs.Views.{mostIntervals, zoneIn, sixIn, deviceIn, devicePricesIn, systemIn, pricesIn}
 use Rattle.fields.specs.declared.Went.{Went}
 use Rattle.fields.specs.declared.Went.the-variants as W

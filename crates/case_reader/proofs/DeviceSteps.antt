@@ -9,8 +9,8 @@ use lib.Seq.{getD-set-same, getD-set-other}
 use Rattle.layouts.specs.declared.Fault.{Fault}
 use Rattle.layouts.specs.declared.Place.{Place}
 use Rattle.model.specs.ByEdition as B
-use Rattle.records.specs.declared.Device.{Device}
-use Rattle.records.specs.Figures.{deviceOf, deviceRow}
+use Rattle.row_places.specs.declared.Device.{Device}
+use Rattle.row_places.specs.Figures.{deviceOf, deviceRow}
 use Rattle.records.specs.Kept.{device-kept}
 use Rattle.numbers.specs.Parts.{patched-before, patched-row}
 use Rattle.records.specs.Views.{deviceIn, devicePricesIn}

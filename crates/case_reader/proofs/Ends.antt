@@ -15,8 +15,8 @@ use Rattle.model.specs.Messages.{apart}
 use Rattle.model.specs.ByEdition.{Stated, content, caseLayout, statedIn}
 use Rattle.model.specs.AsBefore.{stated}
 use Rattle.ranges.specs.Ranges.{StatedRange, stated-checked, stated-range}
-use Rattle.records.specs.declared.Counts.{Counts}
-use Rattle.records.specs.declared.Front.{Front}
+use Rattle.row_places.specs.declared.Counts.{Counts}
+use Rattle.row_places.specs.declared.Front.{Front}
 use Rattle.fields.specs.declared.Went.{Went}
 use Rattle.fields.specs.declared.Went.the-variants as W
 use Rattle.fields.specs.declared.Ending.{Ending}

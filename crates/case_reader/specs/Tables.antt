@@ -8,8 +8,8 @@ use Rattle.layouts.specs.Layout.{list}
 use Rattle.model.specs.Case as C
 use Rattle.model.specs.ByEdition as B
 use Rattle.numbers.specs.Rows.{rows}
-use Rattle.records.specs.declared.Device.{Device}
-use Rattle.records.specs.Figures.{deviceOf, deviceRow, DeviceSmall}
+use Rattle.row_places.specs.declared.Device.{Device}
+use Rattle.row_places.specs.Figures.{deviceOf, deviceRow, DeviceSmall}
 use Rattle.numbers.specs.Parts.{part}
 use Rattle.records.specs.Views.{mostIntervals, deviceIn, devicePricesIn, Padded, Counted}
 use Rattle.fields.specs.declared.Went.{Went}

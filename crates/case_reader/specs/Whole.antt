@@ -15,8 +15,8 @@ use Rattle.model.specs.ByEdition as B
 use Rattle.model.specs.ByEdition.{Stated, caseLayout, statedIn}
 use Rattle.model.specs.AsBefore.{stated}
 use Rattle.ranges.specs.Ranges.{StatedRange}
-use Rattle.records.specs.declared.Counts.{Counts}
-use Rattle.records.specs.declared.Front.{Front}
+use Rattle.row_places.specs.declared.Counts.{Counts}
+use Rattle.row_places.specs.declared.Front.{Front}
 use Rattle.records.specs.Views.{mostDevices, mostIntervals, caseIn, CaseRows}
 use Rattle.fields.specs.declared.Went.{Went}
 use Rattle.fields.specs.declared.Went.the-variants.{On}

@@ -2,8 +2,8 @@
 use device_reader::HeadRead;
 use fields::Went;
 use layouts::Place;
-use records::CellRow;
-use records::DeviceRow;
+use row_places::CellRow;
+use row_places::DeviceRow;
 ghost use Prim.Native.Nat.{_≤_};
 ghost use lib.ListN.{length};
 ghost use Rattle.model.specs.Editions.{mostZones};
@@ -58,7 +58,7 @@ pub fn read_devices(
         let Went::On(next) = went else {
             return went;
         };
-        records::put_device(devices, i, device);
+        device_store::put_device(devices, i, device);
         q = next;
         i += 1;
         a = e;

@@ -6,12 +6,12 @@ use fields::Ending;
 use fields::Went;
 use front_reader::FrontRead;
 use layouts::Place;
-use records::CellRow;
-use records::Counts;
-use records::DeviceRow;
-use records::Front;
-use records::MinimaRow;
-use records::ZoneRow;
+use row_places::CellRow;
+use row_places::Counts;
+use row_places::DeviceRow;
+use row_places::Front;
+use row_places::MinimaRow;
+use row_places::ZoneRow;
 ghost use Rattle.case_reader.specs.Whole.{CaseRoom, BodyRoom, BodyDone, FieldsDone, CaseDone};
 
 // "Per interval: d/2, 8 (1..180)"

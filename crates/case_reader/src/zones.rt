@@ -1,8 +1,8 @@
 // A case's zones: a row each, and each with its part of the minima.
 use fields::Went;
 use layouts::Place;
-use records::MinimaRow;
-use records::ZoneRow;
+use row_places::MinimaRow;
+use row_places::ZoneRow;
 ghost use mathlib.Core.Path.{_≡_};
 ghost use Rattle.layouts.specs.Layout.{list};
 ghost use Rattle.model.specs.ByEdition as B;
@@ -33,7 +33,7 @@ pub fn read_zones(
         let Went::On(next) = went else {
             return went;
         };
-        records::put_zone(zones, i, zone);
+        zone_rows::put_zone(zones, i, zone);
         q = next;
         i += 1;
         a = e;

@@ -10,8 +10,8 @@ use lib.IntN.{pos, _-ℤ_}
 use lib.Signed.{leZ}
 use Rattle.bits.specs.Pick.{pick}
 use Rattle.model.specs.Breaches.{failing}
-use Rattle.records.specs.declared.Cell.{Cell}
-use Rattle.records.specs.declared.Setting.{Setting}
+use Rattle.row_places.specs.declared.Cell.{Cell}
+use Rattle.row_places.specs.declared.Setting.{Setting}
 use Rattle.cell_rules.specs.declared.Bounds.{Bounds}
 use Rattle.cell_rules.specs.declared.Moment.{Moment}
 use Rattle.cell_rules.specs.Sign.{moved-r}

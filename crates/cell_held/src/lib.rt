@@ -15,8 +15,8 @@ use cell_rules::rise_kept;
 use cell_rules::room_kept;
 use cell_rules::status_kept;
 use kilowatts::Kw;
-use records::Cell;
-use records::Setting;
+use row_places::Cell;
+use row_places::Setting;
 
 // Rules 1 to 4.
 fn state_held(d: Bounds, c: Cell, s: Setting, w: Moment) -> bool

@@ -16,9 +16,9 @@ use Rattle.model.specs.Messages.{apart}
 use Rattle.model.specs.ByEdition.{cell}
 use Rattle.ranges.specs.Kept.{reservesOf}
 use Rattle.kilowatts.specs.declared.Kw.{Kw}
-use Rattle.records.specs.declared.Cell.{Cell}
-use Rattle.records.specs.declared.ReservePrices.{ReservePrices}
-use Rattle.records.specs.Figures.{cellRow, kwAt}
+use Rattle.row_places.specs.declared.Cell.{Cell}
+use Rattle.row_places.specs.declared.ReservePrices.{ReservePrices}
+use Rattle.row_places.specs.Figures.{cellRow, kwAt}
 use Rattle.records.specs.Views.{less, priceOffset, eightPricesIn, Padded, cellPair}
 use Rattle.records.specs.Stored.{four, cell-stored, cell-prices-stored, cell-padded}
 use Rattle.fields.specs.declared.Went.{Went}

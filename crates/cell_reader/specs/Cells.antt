@@ -6,8 +6,8 @@ use lib.ListN.{length, getD}
 use Rattle.layouts.specs.declared.Place.{Place}
 use Rattle.layouts.specs.Layout.{list}
 use Rattle.model.specs.ByEdition.{cell}
-use Rattle.records.specs.declared.Cell.{Cell as CellRecord}
-use Rattle.records.specs.Figures.{cellRow}
+use Rattle.row_places.specs.declared.Cell.{Cell as CellRecord}
+use Rattle.row_places.specs.Figures.{cellRow}
 use Rattle.records.specs.Views.{Padded, cellPair}
 use Rattle.fields.specs.declared.Went.{Went}
 use Rattle.fields.specs.declared.Went.the-variants.{On}

@@ -10,9 +10,9 @@ use Rattle.layouts.specs.Layout.{Layout, int, _then_, _▸_, such, counted, fig
 use Rattle.model.specs.Case as M
 use Rattle.model.specs.Messages.{kW, eight}
 use Rattle.kilowatts.specs.Power.{kw}
-use Rattle.records.specs.declared.Cell.{Cell}
-use Rattle.records.specs.declared.ReservePrices.{ReservePrices}
-use Rattle.records.specs.Figures.{eightPrices}
+use Rattle.row_places.specs.declared.Cell.{Cell}
+use Rattle.row_places.specs.declared.ReservePrices.{ReservePrices}
+use Rattle.row_places.specs.Figures.{eightPrices}
 use Rattle.records.specs.Views.{less, priceOffset}
 use Rattle.fields.specs.declared.Went.{Went}
 use Rattle.fields.specs.declared.Went.the-variants.{On}

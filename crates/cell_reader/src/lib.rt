@@ -3,9 +3,9 @@ use fields::Figure;
 use fields::Went;
 use kilowatts::Kw;
 use layouts::Place;
-use records::Cell;
-use records::CellRow;
-use records::ReservePrices;
+use row_places::Cell;
+use row_places::CellRow;
+use row_places::ReservePrices;
 ghost use mathlib.Core.Path.{_≡_};
 ghost use Prim.Native.Nat.{_≤_};
 ghost use lib.Dec.{leb};
@@ -304,7 +304,7 @@ pub fn read_cells(s: &[u8], p: Place, edition: u32, cells: &mut [CellRow]) -> We
         let Went::On(next) = went else {
             return went;
         };
-        records::put_cell(cells, t, cell);
+        cell_rows::put_cell(cells, t, cell);
         q = next;
         t += 1;
     }

@@ -13,10 +13,10 @@ use Rattle.numbers.specs.Base.{implies}
 use Rattle.kilowatts.specs.Power.{kw}
 use Rattle.kilowatts.specs.declared.Kw.{Kw}
 use Rattle.records.specs.Views.{mostPower, lastMinute}
-use Rattle.records.specs.declared.Cell.{Cell}
-use Rattle.records.specs.declared.Device.{Device}
-use Rattle.records.specs.declared.Reserves.{Reserves}
-use Rattle.records.specs.declared.Setting.{Setting}
+use Rattle.row_places.specs.declared.Cell.{Cell}
+use Rattle.row_places.specs.declared.Device.{Device}
+use Rattle.row_places.specs.declared.Reserves.{Reserves}
+use Rattle.row_places.specs.declared.Setting.{Setting}
 use Rattle.cell_rules.specs.declared.Bounds.{Bounds}
 use Rattle.cell_rules.specs.declared.Moment.{Moment}
 use Rattle.cell_rules.specs.Sign.{mayRise, mayFall}

@@ -12,10 +12,10 @@ ghost use Rattle.cell_rules.specs.Sign.{mayRise, mayFall};
 ghost use Rattle.cell_rules.specs.Word.{bitUnless, failingWord};
 ghost use Rattle.cell_rules.specs.Tests.{limitsOf, boundsOf, cap, roomOf, Sized, Small, stateTests, rampTests, onTests, offTests, powerTests, tests};
 use kilowatts::Kw;
-use records::Cell;
-use records::Device;
-use records::Reserves;
-use records::Setting;
+use row_places::Cell;
+use row_places::Device;
+use row_places::Reserves;
+use row_places::Setting;
 
 // What the rules of a device's intervals read of it; the ramps are in kW/min.
 pub struct Bounds {

@@ -10,10 +10,10 @@ use Rattle.model.specs.Case as M
 use Rattle.model.specs.Case.{System, Plan, Case}
 use Rattle.model.specs.Forced as F
 use Rattle.model.specs.Completion as C
-use Rattle.records.specs.declared.Front.{Front}
-use Rattle.records.specs.declared.Cell.{Cell}
-use Rattle.records.specs.declared.Device.{Device}
-use Rattle.records.specs.Figures.{cellOf, deviceOf, onAt, startedAt, stoppedAt}
+use Rattle.row_places.specs.declared.Front.{Front}
+use Rattle.row_places.specs.declared.Cell.{Cell}
+use Rattle.row_places.specs.declared.Device.{Device}
+use Rattle.row_places.specs.Figures.{cellOf, deviceOf, onAt, startedAt, stoppedAt}
 use Rattle.numbers.specs.Parts.{part, part-long}
 use Rattle.numbers.specs.Ranges.{sum-last}
 use Rattle.records.specs.Views.{less, priceOffset, numberOf, settingIn, deviceIn, devicePricesIn, systemIn, caseIn, planIn, Ready}

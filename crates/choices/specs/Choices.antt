@@ -17,9 +17,9 @@ use Rattle.model.specs.Ours.{filling, lasts, bestState, ours}
 use Rattle.numbers.specs.Every.{all-range}
 use Rattle.kilowatts.specs.declared.Kw.{Kw}
 use Rattle.kilowatts.specs.Power.{kw}
-use Rattle.records.specs.declared.Cell.{Cell}
-use Rattle.records.specs.declared.Device.{Device}
-use Rattle.records.specs.Figures.{startedAt, stoppedAt}
+use Rattle.row_places.specs.declared.Cell.{Cell}
+use Rattle.row_places.specs.declared.Device.{Device}
+use Rattle.row_places.specs.Figures.{startedAt, stoppedAt}
 use Rattle.records.specs.Views.{priceOffset}
 use Rattle.records.specs.Viewed as Viewed
 use Rattle.block_fill.specs.Filled.{Filled, priceOf, capOf, Alike, filling-same, filling-caps, four-same}

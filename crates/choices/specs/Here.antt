@@ -7,10 +7,10 @@ use Rattle.kilowatts.specs.Power.{kw}
 use Rattle.model.specs.Case.{Plan, Case}
 use Rattle.model.specs.Rules.{blocks}
 use Rattle.model.specs.Ours.{ours}
-use Rattle.records.specs.declared.Front.{Front}
-use Rattle.records.specs.declared.Cell.{Cell}
-use Rattle.records.specs.declared.Device.{Device}
-use Rattle.records.specs.Figures.{cellOf, deviceOf}
+use Rattle.row_places.specs.declared.Front.{Front}
+use Rattle.row_places.specs.declared.Cell.{Cell}
+use Rattle.row_places.specs.declared.Device.{Device}
+use Rattle.row_places.specs.Figures.{cellOf, deviceOf}
 use Rattle.numbers.specs.Parts.{part, part-at}
 use Rattle.records.specs.Views.{caseIn, planIn, Ready}
 use Rattle.choices.specs.declared.Choice.{Choice}

@@ -13,9 +13,9 @@ use Rattle.bits.specs.Pick.{pick}
 use Rattle.model.specs.Case.{System, Plan}
 use Rattle.model.specs.Case as M
 use Rattle.model.specs.Forced.{device, startOf, endOf, u, lastOn, downtime}
-use Rattle.records.specs.declared.Cell.{Cell}
-use Rattle.records.specs.declared.Device.{Device}
-use Rattle.records.specs.Figures.{onAt}
+use Rattle.row_places.specs.declared.Cell.{Cell}
+use Rattle.row_places.specs.declared.Device.{Device}
+use Rattle.row_places.specs.Figures.{onAt}
 use Rattle.records.specs.Views.{lastMinute, deviceIn}
 use Rattle.choices.specs.Cells as Cells
 use Rattle.choices.specs.Cells.{CellOf, systemOf, planOf}

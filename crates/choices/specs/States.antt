@@ -12,10 +12,10 @@ use lib.Signed.{ltZ}
 use Rattle.numbers.specs.State.{best}
 use Rattle.bits.specs.Pick.{pick}
 use Rattle.numbers.specs.Base.{range}
-use Rattle.records.specs.declared.State.{State}
-use Rattle.records.specs.declared.Device.{Device}
+use Rattle.row_places.specs.declared.State.{State}
+use Rattle.row_places.specs.declared.Device.{Device}
 use Rattle.records.specs.Views.{less, costOffset}
-use Rattle.records.specs.Figures.{noState}
+use Rattle.row_places.specs.Figures.{noState}
 use Rattle.choices.specs.declared.Chosen.{Chosen}
 use Rattle.block_fill.specs.Filled.{kept-lower}
 

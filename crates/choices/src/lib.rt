@@ -1,22 +1,22 @@
 // Our choices for a device in an interval: "lower-numbered block first; lowest-numbered cheapest state, and none unless it costs below 0".
+use device_rows::minutes0_at;
+use device_rows::on0_at;
+use device_rows::side_at;
+use device_rows::states_at;
 use kilowatts::Kw;
-use records::Cell;
-use records::DeviceRow;
-use records::SettingRow;
-use records::State;
-use records::minutes0_at;
-use records::on_at;
-use records::on0_at;
-use records::side_at;
-use records::started_at;
-use records::states_at;
-use records::stopped_at;
+use row_places::Cell;
+use row_places::DeviceRow;
+use row_places::SettingRow;
+use row_places::State;
+use setting_rows::on_at;
+use setting_rows::started_at;
+use setting_rows::stopped_at;
 ghost use mathlib.Core.Path.{_≡_};
 ghost use Prim.Native.Nat.{_≤_, _<_, _-_};
 ghost use lib.Dec.{eqb};
 ghost use lib.ListN.{length};
 ghost use Rattle.bits.specs.Pick.{pick};
-ghost use Rattle.records.specs.Figures.{deviceAt};
+ghost use Rattle.row_places.specs.Figures.{deviceAt};
 ghost use Rattle.choices.specs.Cells.{CellOf};
 ghost use Rattle.choices.specs.States.{chosen, stateOf};
 ghost use Rattle.choices.specs.Rests.{initial, offSince, Looks};
@@ -59,7 +59,7 @@ fn best_state(devices: &[DeviceRow], i: usize, downtime: u32) -> u32
     };
     let mut k = 0;
     while k < n {
-        let s = records::state_at(devices, i, k);
+        let s = device_rows::state_at(devices, i, k);
         b = with_state(b, s, k as u32 + 1, downtime);
         k += 1;
     }

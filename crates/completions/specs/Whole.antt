@@ -16,7 +16,7 @@ use Rattle.model.specs.Judgement.{completionIn}
 use Rattle.pen.specs.declared.Pen.{Pen}
 use Rattle.pen.specs.Pens.{Pushes, Finishes}
 use Rattle.pen.specs.Runs.{fresh, Room, run, pushes-as}
-use Rattle.records.specs.declared.Front.{Front}
+use Rattle.row_places.specs.declared.Front.{Front}
 use Rattle.records.specs.Views.{systemIn, caseIn, planIn, CaseRows}
 use Rattle.records.specs.Viewed as Viewed
 use Rattle.completion_writer.specs.Fields.{countsIn}

@@ -9,8 +9,8 @@ use Rattle.numbers.specs.Base.{range, upTo}
 use Rattle.numbers.specs.Every.{all-upTo}
 use Rattle.model.specs.Case.{System}
 use Rattle.model.specs.Judgement.{energyWindows}
-use Rattle.records.specs.declared.Front.{Front}
-use Rattle.records.specs.Figures.{deviceAt, energiesAt}
+use Rattle.row_places.specs.declared.Front.{Front}
+use Rattle.row_places.specs.Figures.{deviceAt, energiesAt}
 use Rattle.numbers.specs.Ranges.{sum-next}
 use Rattle.records.specs.Views.{mostDevices, mostIntervals, systemIn, Counted, CaseRows}
 use Rattle.records.specs.Viewed as Viewed

@@ -6,12 +6,12 @@ use plan_unit::INTERVALS;
 use plan_unit::MINIMA;
 use plan_unit::TIMES;
 use plan_unit::ZONES;
-use records::CellRow;
-use records::DeviceRow;
-use records::Front;
-use records::MinimaRow;
-use records::SettingRow;
-use records::ZoneRow;
+use row_places::CellRow;
+use row_places::DeviceRow;
+use row_places::Front;
+use row_places::MinimaRow;
+use row_places::SettingRow;
+use row_places::ZoneRow;
 ghost use mathlib.Core.Path.{_≡_};
 ghost use Prim.Native.Nat.{_^_, _≤_, _<_};
 ghost use lib.ListN.{length};
@@ -129,13 +129,13 @@ fn run_batch(left: u64) -> u64
 {
     let mut frame = runner::frame_buffer();
     let mut halves = [0u32; INTERVALS];
-    let zone = records::blank_zone();
+    let zone = row_places::blank_zone();
     let mut zones = [zone; ZONES];
-    let least = records::blank_minima();
+    let least = row_places::blank_minima();
     let mut minima = [least; MINIMA];
-    let device = records::blank_device();
+    let device = row_places::blank_device();
     let mut devices = [device; DEVICES];
-    let cell = records::blank_cell();
+    let cell = row_places::blank_cell();
     let mut cells = [cell; CELLS];
     let started = runner::start(
         &mut frame,
@@ -152,7 +152,7 @@ fn run_batch(left: u64) -> u64
     let m = counts.intervals;
     let z = counts.zones;
     if started.more {
-        let setting = records::blank_setting();
+        let setting = row_places::blank_setting();
         let mut settings = [setting; CELLS];
         let mut starts = [0u32; TIMES];
         let mut powers = [0u32; CELLS];

@@ -12,10 +12,10 @@ use Rattle.model.specs.Case as M
 use Rattle.model.specs.Messages.{head, costs, ramps, zoneBits, apart, eight, kW}
 use Rattle.kilowatts.specs.declared.Kw.{Kw}
 use Rattle.grains.specs.declared.Grains.{Grains}
-use Rattle.records.specs.declared.State.{State}
-use Rattle.records.specs.declared.StartWindow.{StartWindow}
-use Rattle.records.specs.declared.EnergyWindow.{EnergyWindow}
-use Rattle.records.specs.declared.Device.{Device}
+use Rattle.row_places.specs.declared.State.{State}
+use Rattle.row_places.specs.declared.StartWindow.{StartWindow}
+use Rattle.row_places.specs.declared.EnergyWindow.{EnergyWindow}
+use Rattle.row_places.specs.declared.Device.{Device}
 use Rattle.records.specs.Views.{less, costOffset, startIn, energyIn}
 use Rattle.fields.specs.declared.Went.{Went}
 use Rattle.fields.specs.declared.Went.the-variants as W

@@ -11,7 +11,7 @@ use Rattle.model.specs.Messages as L
 use Rattle.model.specs.Messages.{Head, apart, head, costs, ramps, zoneBits}
 use Rattle.model.specs.ByEdition as B
 use Rattle.model.specs.ByEdition.{cell}
-use Rattle.records.specs.declared.Device.{Device}
+use Rattle.row_places.specs.declared.Device.{Device}
 use Rattle.records.specs.Views.{cellPair, deviceIn, devicePricesIn}
 use Rattle.fields.specs.declared.Went.{Went}
 use Rattle.fields.specs.Got.{good, bad, got, told, Natural, nat-natural, int-natural, then-natural, such-natural, held-natural, goes-on, goes-off, mapped}

@@ -10,8 +10,8 @@ use Rattle.model.specs.Case as M
 use Rattle.model.specs.Editions.{mostStates, mostWindows}
 use Rattle.model.specs.Messages.{Head, Costs, head, costs, eight, kW, apart, energyWindow}
 use Rattle.model.specs.ByEdition.{startWindow}
-use Rattle.records.specs.declared.Device.{Device}
-use Rattle.records.specs.Figures.{DeviceSmall}
+use Rattle.row_places.specs.declared.Device.{Device}
+use Rattle.row_places.specs.Figures.{DeviceSmall}
 use Rattle.records.specs.Kept.{DeviceLong}
 use Rattle.records.specs.Views.{less, costOffset, limitsIn, startIn, energyIn, Counted}
 use Rattle.fields.specs.declared.Went.{Went}

@@ -11,11 +11,11 @@ use Rattle.kilowatts.specs.declared.Kw.{Kw}
 use Rattle.grains.specs.declared.Grains.{Grains}
 use Rattle.kilowatts.specs.Power.{kw}
 use Rattle.grains.specs.Money.{grains}
-use Rattle.records.specs.declared.State.{State}
-use Rattle.records.specs.declared.StartWindow.{StartWindow}
-use Rattle.records.specs.declared.EnergyWindow.{EnergyWindow}
-use Rattle.records.specs.declared.Device.{Device}
-use Rattle.records.specs.Figures.{EnergiesSmall}
+use Rattle.row_places.specs.declared.State.{State}
+use Rattle.row_places.specs.declared.StartWindow.{StartWindow}
+use Rattle.row_places.specs.declared.EnergyWindow.{EnergyWindow}
+use Rattle.row_places.specs.declared.Device.{Device}
+use Rattle.row_places.specs.Figures.{EnergiesSmall}
 use Rattle.field_rows.specs.Each.{row}
 use Rattle.device_reader.specs.declared.SidesRead.{SidesRead}
 use Rattle.device_reader.specs.declared.FiguresRead.{FiguresRead}

@@ -7,7 +7,7 @@ use kilowatts::Kw;
 use layouts::Place;
 use list_reader::ItemsRead;
 use list_reader::Listed;
-use records::Device;
+use row_places::Device;
 ghost use mathlib.Core.Path.{_≡_};
 ghost use mathlib.Core.Bool.{true};
 ghost use Prim.Native.Nat.{_-_, _*_, _%_, _^_, _≤_};

@@ -11,7 +11,7 @@ use Rattle.bits.specs.Pick.{pick}
 use Rattle.numbers.specs.Base.{upTo, implies, every}
 use Rattle.numbers.specs.Every.{all-upTo, every-true}
 use Rattle.numbers.specs.Ranges.{every-last}
-use Rattle.records.specs.Figures.{startedAt, stoppedAt}
+use Rattle.row_places.specs.Figures.{startedAt, stoppedAt}
 use Rattle.device_rules.specs.declared.Rest.{Rest}
 
 -- su or sd

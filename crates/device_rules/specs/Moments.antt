@@ -7,9 +7,9 @@ use lib.Dec.{T, eqb}
 use lib.ListN.{getD, length}
 use Rattle.numbers.specs.Base.{implies}
 use Rattle.kilowatts.specs.Power.{kw}
-use Rattle.records.specs.Figures.{cellOf, settingOf, startedAt, stoppedAt, previousAt}
-use Rattle.records.specs.declared.Cell.{Cell}
-use Rattle.records.specs.declared.Setting.{Setting}
+use Rattle.row_places.specs.Figures.{cellOf, settingOf, startedAt, stoppedAt, previousAt}
+use Rattle.row_places.specs.declared.Cell.{Cell}
+use Rattle.row_places.specs.declared.Setting.{Setting}
 use Rattle.cell_rules.specs.declared.Bounds.{Bounds}
 use Rattle.cell_rules.specs.declared.Moment.{Moment}
 use Rattle.cell_rules.specs.Word.{rising}

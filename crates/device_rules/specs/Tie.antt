@@ -17,15 +17,15 @@ use Rattle.model.specs.Case.{System, Plan}
 use Rattle.model.specs.Forced as F
 use Rattle.model.specs.Rules as R
 use Rattle.model.specs.Breaches.{apart, cellTests, failing}
-use Rattle.records.specs.Figures.{cellOf, settingOf, deviceOf, startedAt, stoppedAt, previousAt, onAt, onBefore}
+use Rattle.row_places.specs.Figures.{cellOf, settingOf, deviceOf, startedAt, stoppedAt, previousAt, onAt, onBefore}
 use Rattle.numbers.specs.Parts.{part, part-long}
 use Rattle.records.specs.Views.{systemIn, planIn, deviceIn, cellIn, settingIn, mostPower, Ready}
 use Rattle.records.specs.Viewed as W
 use Rattle.records.specs.Ranged as G
-use Rattle.records.specs.declared.Cell.{Cell}
-use Rattle.records.specs.declared.Device.{Device}
-use Rattle.records.specs.declared.Front.{Front}
-use Rattle.records.specs.declared.Setting.{Setting}
+use Rattle.row_places.specs.declared.Cell.{Cell}
+use Rattle.row_places.specs.declared.Device.{Device}
+use Rattle.row_places.specs.declared.Front.{Front}
+use Rattle.row_places.specs.declared.Setting.{Setting}
 use Rattle.cell_rules.specs.declared.Bounds.{Bounds}
 use Rattle.cell_rules.specs.declared.Moment.{Moment}
 use Rattle.cell_rules.specs.Word.{failingWord, numbersIn, word-bits}

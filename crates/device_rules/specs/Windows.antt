@@ -14,15 +14,15 @@ use Rattle.numbers.specs.Base.{range, upTo}
 use Rattle.model.specs.Case.{System, Plan}
 use Rattle.model.specs.Forced as F
 use Rattle.model.specs.Rules as R
-use Rattle.records.specs.Figures.{deviceOf, onAt, onBefore, startedAt}
+use Rattle.row_places.specs.Figures.{deviceOf, onAt, onBefore, startedAt}
 use Rattle.numbers.specs.Parts.{part, part-long}
 use Rattle.numbers.specs.Ranges.{sum-more, sum-same}
 use Rattle.records.specs.Views.{systemIn, planIn, Ready}
 use Rattle.records.specs.Viewed as W
-use Rattle.records.specs.Figures.{noStart}
-use Rattle.records.specs.declared.Device.{Device}
-use Rattle.records.specs.declared.Front.{Front}
-use Rattle.records.specs.declared.StartWindow.{StartWindow}
+use Rattle.row_places.specs.Figures.{noStart}
+use Rattle.row_places.specs.declared.Device.{Device}
+use Rattle.row_places.specs.declared.Front.{Front}
+use Rattle.row_places.specs.declared.StartWindow.{StartWindow}
 
 -- su is at most 1
 pub started-few : (on0 : ℕ) (settings : List (List ℕ)) (t : ℕ) {x : ℕ} → x ≡ startedAt on0 settings t → x ≤ 1

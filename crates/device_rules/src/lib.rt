@@ -8,23 +8,23 @@ ghost use lib.ListN.{getD, length};
 ghost use Rattle.kilowatts.specs.Power.{kw};
 ghost use Rattle.numbers.specs.Base.{implies};
 ghost use Rattle.model.specs.Breaches.{failing};
-ghost use Rattle.records.specs.Figures.{previousAt};
+ghost use Rattle.row_places.specs.Figures.{previousAt};
 ghost use Rattle.records.specs.Views.{mostIntervals};
 ghost use Rattle.cell_rules.specs.Word.{failingWord};
 ghost use Rattle.device_rules.specs.Apart.{Rising, changedAt, apartAt};
 ghost use Rattle.device_rules.specs.Moments.{momentAt, testsAt, Fits};
 ghost use Rattle.device_rules.specs.Whole.{AllFit, HeldTo};
 ghost use Rattle.device_rules.specs.Windows.{countedStart, startsAt, allStarts};
+use cell_rows::cell_at;
 use cell_rules::Bounds;
 use cell_rules::Moment;
 use kilowatts::Kw;
-use records::CellRow;
-use records::SettingRow;
-use records::StartWindow;
-use records::cell_at;
-use records::setting_at;
-use records::started_at;
-use records::stopped_at;
+use row_places::CellRow;
+use row_places::SettingRow;
+use row_places::StartWindow;
+use setting_rows::setting_at;
+use setting_rows::started_at;
+use setting_rows::stopped_at;
 
 // What must lie back: starts or stops, and by how many minutes.
 pub struct Rest {

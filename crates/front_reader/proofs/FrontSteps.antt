@@ -12,8 +12,8 @@ use Rattle.layouts.specs.declared.Place.{Place}
 use Rattle.layouts.specs.Layout.{nat, list, repeated, _then_, held, begin, figure, fixed, countOf}
 use Rattle.model.specs.Editions.{Largest, deviceBits, intervalBits, devicesIn, intervalsIn}
 use Rattle.model.specs.ByEdition.{caseKind, editionField, deviceCount, intervalCount, zoneCount, counts}
-use Rattle.records.specs.declared.Counts.{Counts}
-use Rattle.records.specs.declared.Front.{Front}
+use Rattle.row_places.specs.declared.Counts.{Counts}
+use Rattle.row_places.specs.declared.Front.{Front}
 use Rattle.fields.specs.declared.Figure.{Figure}
 use Rattle.fields.specs.declared.Figure.the-variants as F
 use Rattle.fields.specs.declared.Went.{Went}

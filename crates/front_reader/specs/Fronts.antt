@@ -8,8 +8,8 @@ use Rattle.layouts.specs.Layout.{Layout, nat, _then_, _▸_, held, figure, fixe
 use Rattle.model.specs.Editions.{Largest, mostZones}
 use Rattle.model.specs.Messages as M
 use Rattle.model.specs.ByEdition.{caseKind, editionField, counts}
-use Rattle.records.specs.declared.Counts.{Counts}
-use Rattle.records.specs.declared.Front.{Front}
+use Rattle.row_places.specs.declared.Counts.{Counts}
+use Rattle.row_places.specs.declared.Front.{Front}
 use Rattle.records.specs.Views.{mostIntervals}
 use Rattle.fields.specs.declared.Went.{Went}
 use Rattle.fields.specs.declared.Went.the-variants.{On}

@@ -9,7 +9,7 @@ use Rattle.model.specs.Case.{System, Plan, Case}
 use Rattle.model.specs.Completion.{Completion, shortfallCost}
 use Rattle.model.specs.Ours.{ours}
 use Rattle.pen.specs.Runs.{run}
-use Rattle.records.specs.declared.Front.{Front}
+use Rattle.row_places.specs.declared.Front.{Front}
 use Rattle.records.specs.Views.{systemIn, caseIn, planIn}
 use Rattle.money.specs.Bounds.{cellMost, zoneMost, intervalMost}
 use Rattle.money.specs.Terms.{our, cellBalance}

@@ -13,7 +13,7 @@ use Rattle.model.specs.Completion.{Completion, shortfalls, shortfallNeed, misma
 use Rattle.model.specs.Ours.{ours}
 use Rattle.theorems.specs.Back.{FitsSix, FitsDevice}
 use Rattle.theorems.specs.Sizes.{shortfall-bound, mismatch-bound, device-fits}
-use Rattle.records.specs.declared.Front.{Front}
+use Rattle.row_places.specs.declared.Front.{Front}
 use Rattle.records.specs.Views.{mostDevices, systemIn, caseIn, planIn}
 use Rattle.records.specs.Viewed as Viewed
 use Rattle.choices.specs.declared.Choice.{Choice}

@@ -19,12 +19,12 @@ use Rattle.theorems.specs.Back.{FitsSix, FitsDevice}
 use Rattle.pen.specs.declared.Pen.{Pen}
 use Rattle.pen.specs.Pens.{Pushes}
 use Rattle.pen.specs.Runs.{run, pushes-as}
-use Rattle.records.specs.declared.Front.{Front}
-use Rattle.records.specs.declared.Cell.{Cell}
-use Rattle.records.specs.declared.Setting.{Setting}
-use Rattle.records.specs.declared.Zone.{Zone}
-use Rattle.records.specs.declared.Minima.{Minima}
-use Rattle.records.specs.Figures.{cellOf, settingOf, zoneOf, minimaOf, deviceAt}
+use Rattle.row_places.specs.declared.Front.{Front}
+use Rattle.row_places.specs.declared.Cell.{Cell}
+use Rattle.row_places.specs.declared.Setting.{Setting}
+use Rattle.row_places.specs.declared.Zone.{Zone}
+use Rattle.row_places.specs.declared.Minima.{Minima}
+use Rattle.row_places.specs.Figures.{cellOf, settingOf, zoneOf, minimaOf, deviceAt}
 use Rattle.numbers.specs.Parts.{part, part-at, part-cut, place-inside}
 use Rattle.records.specs.Views.{mostIntervals, systemIn, caseIn, planIn}
 use Rattle.records.specs.Viewed as Viewed

@@ -12,8 +12,8 @@ use Rattle.layouts.specs.Layout.{noted, figure}
 use Rattle.fields.specs.declared.Went.{Went}
 use Rattle.fields.specs.Got.{Got, got, told}
 use Rattle.fields.proofs.Steps.{noted-yes, noted-no}
-use Rattle.records.specs.declared.EnergyWindow.{EnergyWindow}
-use Rattle.records.specs.Figures.{noEnergy}
+use Rattle.row_places.specs.declared.EnergyWindow.{EnergyWindow}
+use Rattle.row_places.specs.Figures.{noEnergy}
 use Rattle.list_reader.specs.declared.Item.{Item}
 use Rattle.list_reader.specs.declared.Listed.{Listed}
 use Rattle.list_reader.specs.Items.{item, itemIn, noItem, EnergyMade, EnergiesMade}

@@ -10,10 +10,10 @@ use Rattle.model.specs.Case as M
 use Rattle.model.specs.Editions.{mostStates, mostWindows}
 use Rattle.model.specs.Messages.{minutes, energyWindow}
 use Rattle.model.specs.ByEdition.{startWindow}
-use Rattle.records.specs.declared.State.{State}
-use Rattle.records.specs.declared.StartWindow.{StartWindow}
-use Rattle.records.specs.declared.EnergyWindow.{EnergyWindow}
-use Rattle.records.specs.Figures.{windowOf, EnergiesSmall}
+use Rattle.row_places.specs.declared.State.{State}
+use Rattle.row_places.specs.declared.StartWindow.{StartWindow}
+use Rattle.row_places.specs.declared.EnergyWindow.{EnergyWindow}
+use Rattle.row_places.specs.Figures.{windowOf, EnergiesSmall}
 use Rattle.records.specs.Views.{less, costOffset}
 use Rattle.fields.specs.declared.Went.{Went}
 use Rattle.fields.specs.Got.{got, told}

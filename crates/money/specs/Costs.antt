@@ -10,11 +10,11 @@ use Rattle.numbers.specs.Laws as L
 use Rattle.grains.specs.declared.Grains.{Grains}
 use Rattle.grains.specs.declared.Ledger.{Ledger}
 use Rattle.grains.specs.Money.{Ledgered}
-use Rattle.records.specs.declared.Device.{Device}
-use Rattle.records.specs.declared.Reserves.{Reserves}
-use Rattle.records.specs.declared.ReservePrices.{ReservePrices}
+use Rattle.row_places.specs.declared.Device.{Device}
+use Rattle.row_places.specs.declared.Reserves.{Reserves}
+use Rattle.row_places.specs.declared.ReservePrices.{ReservePrices}
 use Rattle.records.specs.Views.{costOffset}
-use Rattle.records.specs.Figures.{noState}
+use Rattle.row_places.specs.Figures.{noState}
 use Rattle.choices.specs.States.{costOf}
 use Rattle.money.specs.Bounds.{powerMost, minutesMost, priceMost, rateMost, costMost, onMost, stateMost, changeMost}
 use Rattle.money.specs.Entries.{Entered, entered-none, entered-then, entered-as, earned, spent}

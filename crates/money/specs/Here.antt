@@ -5,11 +5,11 @@ use Prim.Native.Nat.{ℕ, _+_, _*_, _<_}
 use lib.ListN.{length, getD}
 use Rattle.grains.specs.declared.Ledger.{Ledger}
 use Rattle.model.specs.Case.{Plan, Case}
-use Rattle.records.specs.declared.Front.{Front}
-use Rattle.records.specs.declared.Cell.{Cell}
-use Rattle.records.specs.declared.Device.{Device}
-use Rattle.records.specs.declared.Setting.{Setting}
-use Rattle.records.specs.Figures.{cellOf, settingOf, deviceOf}
+use Rattle.row_places.specs.declared.Front.{Front}
+use Rattle.row_places.specs.declared.Cell.{Cell}
+use Rattle.row_places.specs.declared.Device.{Device}
+use Rattle.row_places.specs.declared.Setting.{Setting}
+use Rattle.row_places.specs.Figures.{cellOf, settingOf, deviceOf}
 use Rattle.numbers.specs.Parts.{part}
 use Rattle.records.specs.Views.{caseIn, planIn}
 use Rattle.choices.specs.declared.Choice.{Choice}

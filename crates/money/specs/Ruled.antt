@@ -24,10 +24,10 @@ use Rattle.ranges.specs.Ranges.{CellPriceRange, SettingRange}
 use Rattle.ranges.specs.Kept.{kept-small}
 use Rattle.numbers.specs.Every.{all-or, bit-le}
 use Rattle.theorems.specs.Sizes.{power-bound}
-use Rattle.records.specs.declared.Cell.{Cell}
-use Rattle.records.specs.declared.Device.{Device}
-use Rattle.records.specs.declared.Setting.{Setting}
-use Rattle.records.specs.Figures.{settingOf}
+use Rattle.row_places.specs.declared.Cell.{Cell}
+use Rattle.row_places.specs.declared.Device.{Device}
+use Rattle.row_places.specs.declared.Setting.{Setting}
+use Rattle.row_places.specs.Figures.{settingOf}
 use Rattle.numbers.specs.Parts.{part}
 use Rattle.records.specs.Views.{mostStates, less, priceOffset, numberOf, cellPricesIn, settingIn}
 use Rattle.records.specs.Viewed as Viewed

@@ -21,9 +21,9 @@ use Rattle.model.specs.Rules.{blocks}
 use Rattle.model.specs.Completion.{Completion, bySide, cellPrices, blockPrice, reserveCost, blockWorth, onCost, changeCost, reservesCost}
 use Rattle.model.specs.Named.{rule19-holds}
 use Rattle.model.specs.Ours.{ours, whole, bestState}
-use Rattle.records.specs.declared.Cell.{Cell}
-use Rattle.records.specs.declared.Device.{Device}
-use Rattle.records.specs.declared.Setting.{Setting}
+use Rattle.row_places.specs.declared.Cell.{Cell}
+use Rattle.row_places.specs.declared.Device.{Device}
+use Rattle.row_places.specs.declared.Setting.{Setting}
 use Rattle.records.specs.Views.{less, priceOffset, eightIn, eightPricesIn, settingIn, devicePricesIn}
 use Rattle.records.specs.Viewed as Viewed
 use Rattle.block_fill.specs.Filled.{filling-total}

@@ -9,7 +9,7 @@ use Rattle.model.specs.Forced as F
 use Rattle.model.specs.Rules.{EveryRule}
 use Rattle.ranges.specs.Ranges.{SystemRange, PlanRange, SettingRange}
 use Rattle.numbers.specs.Rows.{rows-long, all-rows}
-use Rattle.records.specs.declared.Front.{Front}
+use Rattle.row_places.specs.declared.Front.{Front}
 use Rattle.numbers.specs.Parts.{part-inside}
 use Rattle.records.specs.Views.{mostDevices, mostIntervals, systemIn, planIn, Ready}
 use Rattle.records.specs.Viewed as Viewed

@@ -12,7 +12,7 @@ use Rattle.model.specs.Completion.{Completion}
 use Rattle.model.specs.Ours.{ours}
 use Rattle.pen.specs.Pens.{Ready}
 use Rattle.pen.specs.Runs.{run}
-use Rattle.records.specs.declared.Front.{Front}
+use Rattle.row_places.specs.declared.Front.{Front}
 use Rattle.records.specs.Views.{systemIn, caseIn, planIn}
 use Rattle.money.specs.Bounds.{overrunCostMost, windowsCostMost}
 use Rattle.money.specs.Entries.{entered-as, entries-none, entries-next}

@@ -9,8 +9,8 @@ use Rattle.model.specs.Case.{System, Plan}
 use Rattle.model.specs.Forced as F
 use Rattle.model.specs.Completion.{overrunNeed}
 use Rattle.theorems.specs.Sizes.{overrun-bound}
-use Rattle.records.specs.declared.Front.{Front}
-use Rattle.records.specs.Figures.{energiesAt}
+use Rattle.row_places.specs.declared.Front.{Front}
+use Rattle.row_places.specs.Figures.{energiesAt}
 use Rattle.records.specs.Views.{mostIntervals, systemIn, planIn, CaseRows}
 use Rattle.records.specs.Viewed as Viewed
 use Rattle.money.specs.Unbroken.{Unbroken, plan-range, system-range, few-intervals}

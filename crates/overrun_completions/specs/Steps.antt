@@ -14,9 +14,9 @@ use Rattle.model.specs.Ours.{ours}
 use Rattle.pen.specs.declared.Pen.{Pen}
 use Rattle.pen.specs.Pens.{Pushes}
 use Rattle.pen.specs.Runs.{Room, pushes-as}
-use Rattle.records.specs.declared.Front.{Front}
-use Rattle.records.specs.declared.EnergyWindow.{EnergyWindow}
-use Rattle.records.specs.Figures.{energiesAt, energyAt}
+use Rattle.row_places.specs.declared.Front.{Front}
+use Rattle.row_places.specs.declared.EnergyWindow.{EnergyWindow}
+use Rattle.row_places.specs.Figures.{energiesAt, energyAt}
 use Rattle.numbers.specs.Parts.{part-cut}
 use Rattle.records.specs.Views.{systemIn, caseIn, planIn}
 use Rattle.records.specs.Viewed as Viewed

@@ -1,14 +1,14 @@
 // The overruns of our completion: each is computed once, its money entered in a ledger and its bits written behind those before it.
 use completion_writer::put_overrun;
+use device_rows::energies_at;
+use device_rows::energy_at;
 use progress::Progress;
-use records::CellRow;
-use records::DeviceRow;
-use records::Front;
-use records::MinimaRow;
-use records::SettingRow;
-use records::ZoneRow;
-use records::energies_at;
-use records::energy_at;
+use row_places::CellRow;
+use row_places::DeviceRow;
+use row_places::Front;
+use row_places::MinimaRow;
+use row_places::SettingRow;
+use row_places::ZoneRow;
 use slack_money::overrun_money;
 use slacks::overrun;
 ghost use mathlib.Core.Path.{_≡_};

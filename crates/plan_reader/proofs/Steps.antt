@@ -18,7 +18,7 @@ use Rattle.model.specs.Messages as L
 use Rattle.model.specs.Messages.{kW, eight}
 use Rattle.model.specs.ByEdition.{setting}
 use Rattle.ranges.specs.Kept.{reservesOf}
-use Rattle.records.specs.declared.Reserves.{Reserves}
+use Rattle.row_places.specs.declared.Reserves.{Reserves}
 use Rattle.records.specs.Views.{eightIn}
 use Rattle.fields.specs.declared.Figure.{Figure}
 use Rattle.fields.specs.declared.Figure.the-variants as G

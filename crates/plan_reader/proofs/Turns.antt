@@ -13,8 +13,8 @@ use Rattle.layouts.specs.Layout.{list}
 use Rattle.model.specs.Case as M
 use Rattle.model.specs.ByEdition.{setting, planned}
 use Rattle.numbers.specs.Rows.{rows}
-use Rattle.records.specs.declared.Setting.{Setting}
-use Rattle.records.specs.Figures.{settingRow}
+use Rattle.row_places.specs.declared.Setting.{Setting}
+use Rattle.row_places.specs.Figures.{settingRow}
 use Rattle.numbers.specs.Parts.{next-part, part-inside, place-inside}
 use Rattle.records.specs.Views.{mostDevices, mostIntervals, settingIn}
 use Rattle.fields.specs.declared.Went.{Went}

@@ -6,8 +6,8 @@ use Rattle.bits.specs.Bits.{fieldAt, reach}
 use Rattle.layouts.specs.Layout.{Layout, any, _▸_}
 use Rattle.model.specs.Case as M
 use Rattle.model.specs.Messages.{kW, eight}
-use Rattle.records.specs.declared.Setting.{Setting}
-use Rattle.records.specs.Figures.{settingRow}
+use Rattle.row_places.specs.declared.Setting.{Setting}
+use Rattle.row_places.specs.Figures.{settingRow}
 use Rattle.records.specs.Views.{eightIn, settingIn}
 use Rattle.plan_reader.specs.declared.Active.{Active}
 use Rattle.plan_reader.specs.declared.Three.{Three}

@@ -17,7 +17,7 @@ use Rattle.model.specs.Breaches.{breaches}
 use Rattle.model.specs.Named.{none-every, every-none}
 use Rattle.model.specs.Judgement.{countsOf, judged, verdict, accepts, unlessBroken, bufferAfter, ourSurplus, completionBytes}
 use Rattle.theorems.specs.Back.{Countable}
-use Rattle.records.specs.declared.Front.{Front}
+use Rattle.row_places.specs.declared.Front.{Front}
 use Rattle.records.specs.Views.{systemIn, caseIn, planIn, Ready}
 use Rattle.powers.specs.Fleet.{Forced}
 use Rattle.breaches.specs.First.{first, none-first}

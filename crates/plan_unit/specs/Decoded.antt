@@ -8,8 +8,8 @@ use Rattle.model.specs.ByEdition.{Stated}
 use Rattle.model.specs.Judgement.{countsOf}
 use Rattle.theorems.specs.Back.{Countable}
 use Rattle.theorems.specs.Promise.{Sound}
-use Rattle.records.specs.declared.Front.{Front}
-use Rattle.records.specs.declared.Counts.{Counts}
+use Rattle.row_places.specs.declared.Front.{Front}
+use Rattle.row_places.specs.declared.Counts.{Counts}
 use Rattle.records.specs.Views.{systemIn, caseIn, CaseRows, PlanRows}
 use Rattle.case_reader.specs.Whole.{Long}
 

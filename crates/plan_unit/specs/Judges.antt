@@ -7,7 +7,7 @@ use Rattle.model.specs.Editions.{Largest, mostDevices, mostIntervals}
 use Rattle.model.specs.ByEdition.{Stated}
 use Rattle.model.specs.Judgement.{Judged, judgement, withPlan, readPlan}
 use Rattle.theorems.specs.Promise.{Promise, PlanPromise, Sound, promised, plan-promised}
-use Rattle.records.specs.declared.Front.{Front}
+use Rattle.row_places.specs.declared.Front.{Front}
 use Rattle.plan_unit.specs.Decoded.{Decoded, statedRows, sound-rows}
 
 -- `l` are the largest counts that the reader takes; `before` and `after` are the result buffer as it came and as it is left

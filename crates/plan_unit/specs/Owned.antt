@@ -6,8 +6,8 @@ use native.Mathlib.Omega.{arith}
 use native.Mathlib.Nat.{mul-le-mul}
 use lib.ListN.{length, take, replicate, length-replicate, length-take}
 use Rattle.model.specs.Editions.{batch, mostZones}
-use Rattle.records.specs.declared.Front.{Front}
-use Rattle.records.specs.declared.Counts.{Counts}
+use Rattle.row_places.specs.declared.Front.{Front}
+use Rattle.row_places.specs.declared.Counts.{Counts}
 use Rattle.plan_unit.specs.Decoded.{Work, DecodedFirst}
 
 -- the first k elements of an array that has them

@@ -17,8 +17,8 @@ use Rattle.theorems.specs.Promise.{stated-sound}
 use Rattle.fields.specs.Ended.{ended}
 use Rattle.fields.specs.declared.Ending.{Ending}
 use Rattle.fields.specs.declared.Ending.the-variants.{Passes, Fails}
-use Rattle.records.specs.declared.Front.{Front}
-use Rattle.records.specs.declared.Counts.{Counts}
+use Rattle.row_places.specs.declared.Front.{Front}
+use Rattle.row_places.specs.declared.Counts.{Counts}
 use Rattle.records.specs.Views.{planIn}
 use Rattle.records.specs.Viewed.{devices-are, intervals-are, zones-are}
 use Rattle.plan_reader.specs.Plans.{PlanDone}

@@ -4,12 +4,12 @@ use fields::Ending;
 use layouts::Fault;
 use model::Subject;
 use model::Verdict;
-use records::CellRow;
-use records::DeviceRow;
-use records::Front;
-use records::MinimaRow;
-use records::SettingRow;
-use records::ZoneRow;
+use row_places::CellRow;
+use row_places::DeviceRow;
+use row_places::Front;
+use row_places::MinimaRow;
+use row_places::SettingRow;
+use row_places::ZoneRow;
 ghost use mathlib.Core.Path.{_≡_};
 ghost use Rattle.model.specs.Editions.{batch};
 ghost use Rattle.model.specs.ByEdition.{statedIn};
@@ -155,13 +155,13 @@ pub fn judge(case: &[u8], plan: &[u8], result: &mut [u8]) -> Verdict
     ensures { λ r. ⌜ Judges batch (now (case .entry)) (now (plan .entry)) (now (result .entry)) (now (result .exit)) r ⌝ }
 {
     let mut halves = [0u32; INTERVALS];
-    let zone = records::blank_zone();
+    let zone = row_places::blank_zone();
     let mut zones = [zone; ZONES];
-    let least = records::blank_minima();
+    let least = row_places::blank_minima();
     let mut minima = [least; MINIMA];
-    let device = records::blank_device();
+    let device = row_places::blank_device();
     let mut devices = [device; DEVICES];
-    let cell = records::blank_cell();
+    let cell = row_places::blank_cell();
     let mut cells = [cell; CELLS];
     let read = case_reader::read_case(
         case,
@@ -182,7 +182,7 @@ pub fn judge(case: &[u8], plan: &[u8], result: &mut [u8]) -> Verdict
     match ending {
         Ending::Fails(f) => Verdict::Refused(Subject::Case, f),
         Ending::Passes => {
-            let setting = records::blank_setting();
+            let setting = row_places::blank_setting();
             let mut settings = [setting; CELLS];
             let mut starts = [0u32; TIMES];
             let mut powers = [0u32; CELLS];
@@ -217,13 +217,13 @@ pub fn inspect(case: &[u8]) -> Inspected
     ensures { λ r. ⌜ r ≡ inspectedOf (statedIn batch (now (case .entry))) ⌝ }
 {
     let mut halves = [0u32; INTERVALS];
-    let zone = records::blank_zone();
+    let zone = row_places::blank_zone();
     let mut zones = [zone; ZONES];
-    let least = records::blank_minima();
+    let least = row_places::blank_minima();
     let mut minima = [least; MINIMA];
-    let device = records::blank_device();
+    let device = row_places::blank_device();
     let mut devices = [device; DEVICES];
-    let cell = records::blank_cell();
+    let cell = row_places::blank_cell();
     let mut cells = [cell; CELLS];
     let read = case_reader::read_case(
         case,

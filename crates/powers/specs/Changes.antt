@@ -12,8 +12,8 @@ use lib.ListN.{length, getD, set, length-set, List·getD-eq-default}
 use lib.Seq.{getD-set-same, getD-set-other}
 use Rattle.numbers.specs.Sum.{sumℕ, gate}
 use Rattle.numbers.specs.Base.{range, upTo, bit}
-use Rattle.records.specs.declared.Device.{Device}
-use Rattle.records.specs.Figures.{onAt, onlineAt, pminAt, onBefore}
+use Rattle.row_places.specs.declared.Device.{Device}
+use Rattle.row_places.specs.Figures.{onAt, onlineAt, pminAt, onBefore}
 use Rattle.numbers.specs.Ranges.{sum-more, sum-few}
 use Rattle.records.specs.Views.{mostIntervals, mostPower}
 use Rattle.powers.specs.declared.Ramping.{Ramping}

@@ -6,8 +6,8 @@ use native.Mathlib.Omega.{arith}
 use native.Mathlib.Decide.{decLe}
 use lib.ListN.{getD, length, take, drop}
 use Rattle.model.specs.Forced as F
-use Rattle.records.specs.declared.Front.{Front}
-use Rattle.records.specs.Figures.{deviceOf}
+use Rattle.row_places.specs.declared.Front.{Front}
+use Rattle.row_places.specs.Figures.{deviceOf}
 use Rattle.numbers.specs.Parts.{part, part-long, part-inside, part-cut, place-inside, patched-long, patched-before, patched-row}
 use Rattle.records.specs.Views.{systemIn, planIn, mostPower, CaseRows, PlanRows, ForcedRows}
 use Rattle.records.specs.Ranged.{half-small, device-sized, cell-range, setting-range}

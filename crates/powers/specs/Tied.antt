@@ -14,8 +14,8 @@ use Rattle.numbers.specs.Base.{upTo}
 use Rattle.model.specs.Case as M
 use Rattle.model.specs.Case.{System, Plan}
 use Rattle.model.specs.Forced as F
-use Rattle.records.specs.declared.Device.{Device}
-use Rattle.records.specs.Figures.{deviceOf, onlineAt, pminAt, startedAt, stoppedAt}
+use Rattle.row_places.specs.declared.Device.{Device}
+use Rattle.row_places.specs.Figures.{deviceOf, onlineAt, pminAt, startedAt, stoppedAt}
 use Rattle.numbers.specs.Parts.{part}
 use Rattle.records.specs.Views.{systemIn, planIn, deviceIn}
 use Rattle.records.specs.Viewed as W

@@ -12,7 +12,7 @@ use lib.ListN.{length, getD, set, length-set}
 use lib.Seq.{getD-set-same, getD-set-other}
 use Rattle.numbers.specs.Sum.{gate}
 use Rattle.bits.specs.Pick.{pick}
-use Rattle.records.specs.Figures.{pminAt}
+use Rattle.row_places.specs.Figures.{pminAt}
 use Rattle.records.specs.Views.{mostPower}
 use Rattle.powers.specs.Times.{Clock}
 

@@ -1,17 +1,17 @@
 // The forced figures: S of each interval, and the power p of each device in each interval. A device's functions take its part of each table.
+use cell_rows::pmin_at;
+use device_rows::device_at;
 use kilowatts::Kw;
-use records::CellRow;
-use records::DeviceRow;
-use records::SettingRow;
-use records::device_at;
-use records::on_at;
-use records::online_at;
-use records::pmin_at;
+use row_places::CellRow;
+use row_places::DeviceRow;
+use row_places::SettingRow;
+use setting_rows::on_at;
+use setting_rows::online_at;
 ghost use mathlib.Core.Path.{_≡_};
 ghost use mathlib.Core.List.{[]};
 ghost use Prim.Native.Nat.{_+_, _-_, _*_, _<_, _≤_};
 ghost use lib.ListN.{length, getD};
-ghost use Rattle.records.specs.Figures.{deviceOf, onAt, onBefore};
+ghost use Rattle.row_places.specs.Figures.{deviceOf, onAt, onBefore};
 ghost use Rattle.records.specs.Views.{lastMinute, PlanRows};
 ghost use Rattle.powers.specs.Times.{Halves, Times, Clock};
 ghost use Rattle.powers.specs.Trajectories.{leavesAt, riseIn, fallIn, Raised, Ramped};

@@ -6,12 +6,12 @@ use lib.ListN.{length}
 use Rattle.numbers.specs.Rows.{tabbed}
 use Rattle.kilowatts.specs.declared.Kw.{Kw}
 use Rattle.kilowatts.specs.Power.{kw}
-use Rattle.records.specs.declared.State.{State}
+use Rattle.row_places.specs.declared.State.{State}
 use Rattle.model.specs.Editions.{mostStates, mostWindows}
-use Rattle.records.specs.declared.StartWindow.{StartWindow}
-use Rattle.records.specs.declared.EnergyWindow.{EnergyWindow}
-use Rattle.records.specs.declared.Device.{Device}
-use Rattle.records.specs.Figures.{deviceOf, deviceRow, noState, noStart, noEnergy}
+use Rattle.row_places.specs.declared.StartWindow.{StartWindow}
+use Rattle.row_places.specs.declared.EnergyWindow.{EnergyWindow}
+use Rattle.row_places.specs.declared.Device.{Device}
+use Rattle.row_places.specs.Figures.{deviceOf, deviceRow, noState, noStart, noEnergy}
 
 -- its arrays have their lengths
 pub record DeviceLong (d : Device) : Type 0 where

@@ -1,4 +1,3 @@
-pub mod Figures
 pub mod Views
 pub mod Viewed
 pub mod Ranged

@@ -22,10 +22,10 @@ use Rattle.ranges.specs.Kept.{kept-small}
 use Rattle.numbers.specs.Every.{all-at, all-or, all-getD}
 use Rattle.kilowatts.specs.declared.Kw.{Kw}
 use Rattle.kilowatts.specs.Power.{kw}
-use Rattle.records.specs.declared.State.{State}
-use Rattle.records.specs.declared.Device.{Device}
-use Rattle.records.specs.declared.Front.{Front}
-use Rattle.records.specs.Figures.{noState, cellOf, settingOf, deviceOf, zoneOf, minimaOf, previousAt}
+use Rattle.row_places.specs.declared.State.{State}
+use Rattle.row_places.specs.declared.Device.{Device}
+use Rattle.row_places.specs.declared.Front.{Front}
+use Rattle.row_places.specs.Figures.{noState, cellOf, settingOf, deviceOf, zoneOf, minimaOf, previousAt}
 use Rattle.numbers.specs.Parts.{part, part-inside, place-inside, part-at, part-long}
 use Rattle.numbers.specs.Ranges.{sum-more, sum-rises}
 use Rattle.records.specs.Views.{less, priceOffset, costOffset, limitsIn, cellIn, cellPricesIn, settingIn, sharesIn, sixIn, deviceIn, devicePricesIn, systemIn, pricesIn, caseIn, planIn}

@@ -6,8 +6,8 @@ use lib.ListN.{length, getD, take}
 use Rattle.numbers.specs.Rows.{tabbed}
 use Rattle.model.specs.Case as M
 use Rattle.kilowatts.specs.declared.Kw.{Kw}
-use Rattle.records.specs.declared.Cell.{Cell}
-use Rattle.records.specs.Figures.{kwAt, cellOf, cellRow}
+use Rattle.row_places.specs.declared.Cell.{Cell}
+use Rattle.row_places.specs.Figures.{kwAt, cellOf, cellRow}
 use Rattle.records.specs.Views.{less, priceOffset, eightPricesIn, cellIn, cellPricesIn, Padded}
 
 -- four figures, one by one

@@ -11,14 +11,14 @@ use Rattle.model.specs.Forced.{startOf, power}
 use Rattle.ranges.specs.Ranges.{CaseRange, SettingRange}
 use Rattle.numbers.specs.Rows.{rows}
 use Rattle.kilowatts.specs.declared.Kw.{Kw}
-use Rattle.records.specs.declared.Reserves.{Reserves}
-use Rattle.records.specs.declared.ReservePrices.{ReservePrices}
-use Rattle.records.specs.declared.State.{State}
-use Rattle.records.specs.declared.StartWindow.{StartWindow}
-use Rattle.records.specs.declared.EnergyWindow.{EnergyWindow}
-use Rattle.records.specs.declared.Device.{Device}
-use Rattle.records.specs.declared.Front.{Front}
-use Rattle.records.specs.Figures.{cellOf, settingOf, deviceOf, zoneOf, minimaOf}
+use Rattle.row_places.specs.declared.Reserves.{Reserves}
+use Rattle.row_places.specs.declared.ReservePrices.{ReservePrices}
+use Rattle.row_places.specs.declared.State.{State}
+use Rattle.row_places.specs.declared.StartWindow.{StartWindow}
+use Rattle.row_places.specs.declared.EnergyWindow.{EnergyWindow}
+use Rattle.row_places.specs.declared.Device.{Device}
+use Rattle.row_places.specs.declared.Front.{Front}
+use Rattle.row_places.specs.Figures.{cellOf, settingOf, deviceOf, zoneOf, minimaOf}
 use Rattle.numbers.specs.Parts.{part}
 -- ---- the model's figures, by the records' names
 

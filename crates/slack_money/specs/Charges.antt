@@ -17,9 +17,9 @@ use Rattle.model.specs.Completion.{Shortfall, shortfalls, shortfallNeed, mismat
 use Rattle.model.specs.Completion as C
 use Rattle.model.specs.Ours.{ours, whole}
 use Rattle.ranges.specs.Ranges.{SixRange}
-use Rattle.records.specs.declared.Front.{Front}
-use Rattle.records.specs.declared.Zone.{Zone}
-use Rattle.records.specs.Figures.{zoneOf}
+use Rattle.row_places.specs.declared.Front.{Front}
+use Rattle.row_places.specs.declared.Zone.{Zone}
+use Rattle.row_places.specs.Figures.{zoneOf}
 use Rattle.records.specs.Views.{sixIn, systemIn, caseIn, planIn}
 use Rattle.records.specs.Viewed as Viewed
 use Rattle.records.specs.Ranged as Ranged

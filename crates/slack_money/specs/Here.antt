@@ -14,9 +14,9 @@ use Rattle.numbers.specs.Base.{upTo}
 use Rattle.model.specs.Case.{System, Plan, Case}
 use Rattle.model.specs.Completion.{shortfalls, shortfallNeed, mismatchNeed, overrunNeed, shortfallCost, mismatchCost}
 use Rattle.model.specs.Judgement.{ourSurplus}
-use Rattle.records.specs.declared.Front.{Front}
-use Rattle.records.specs.declared.Zone.{Zone}
-use Rattle.records.specs.Figures.{zoneOf}
+use Rattle.row_places.specs.declared.Front.{Front}
+use Rattle.row_places.specs.declared.Zone.{Zone}
+use Rattle.row_places.specs.Figures.{zoneOf}
 use Rattle.records.specs.Views.{systemIn, caseIn, planIn}
 use Rattle.records.specs.Viewed as Viewed
 use Rattle.money.specs.Bounds.{cellMost, zoneMost, mismatchCostMost, overrunCostMost, intervalMost, windowsCostMost, dayMost}

@@ -4,7 +4,7 @@ use energy::Watts;
 use grains::Grains;
 use grains::Ledger;
 use kilowatts::Kw;
-use records::Zone;
+use row_places::Zone;
 ghost use mathlib.Core.Path.{_≡_};
 ghost use Prim.Native.Nat.{_*_, _≤_};
 ghost use Rattle.money.specs.Bounds.{minutesMost, shortPriceMost, shortfallMost, shortMost, zoneMost};

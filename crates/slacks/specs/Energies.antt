@@ -18,14 +18,14 @@ use Rattle.model.specs.Case as M
 use Rattle.model.specs.Case.{System, Plan}
 use Rattle.model.specs.Forced.{energyWindow, power}
 use Rattle.model.specs.Completion as C
-use Rattle.records.specs.declared.EnergyWindow.{EnergyWindow}
-use Rattle.records.specs.declared.Front.{Front}
-use Rattle.records.specs.Figures.{deviceOf}
+use Rattle.row_places.specs.declared.EnergyWindow.{EnergyWindow}
+use Rattle.row_places.specs.declared.Front.{Front}
+use Rattle.row_places.specs.Figures.{deviceOf}
 use Rattle.numbers.specs.Parts.{part, part-long}
 use Rattle.numbers.specs.Ranges.{sum-next}
 use Rattle.records.specs.Views.{systemIn, planIn, energyIn, mostIntervals, mostPower, Ready}
 use Rattle.records.specs.Viewed as W
-use Rattle.records.specs.Figures.{noEnergy}
+use Rattle.row_places.specs.Figures.{noEnergy}
 use Rattle.records.specs.Ranged.{half-small, end-at, start-next, power-at, power-small}
 
 -- the longest interval: twice 180 minutes

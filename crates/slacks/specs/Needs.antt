@@ -18,11 +18,11 @@ use Rattle.model.specs.Completion as C
 use Rattle.energy.specs.declared.Watts.{Watts}
 use Rattle.kilowatts.specs.Power.{kw}
 use Rattle.energy.specs.Energy.{watts}
-use Rattle.records.specs.declared.Front.{Front}
-use Rattle.records.specs.declared.Reserves.{Reserves}
-use Rattle.records.specs.declared.Zone.{Zone}
-use Rattle.records.specs.declared.Minima.{Minima}
-use Rattle.records.specs.Figures.{sideAt, zonebitsAt, inZone, settingOf, zoneOf, minimaOf}
+use Rattle.row_places.specs.declared.Front.{Front}
+use Rattle.row_places.specs.declared.Reserves.{Reserves}
+use Rattle.row_places.specs.declared.Zone.{Zone}
+use Rattle.row_places.specs.declared.Minima.{Minima}
+use Rattle.row_places.specs.Figures.{sideAt, zonebitsAt, inZone, settingOf, zoneOf, minimaOf}
 use Rattle.numbers.specs.Parts.{part, part-at}
 use Rattle.numbers.specs.Ranges.{sum-next, sum-skip, largest-next, largest-skip}
 use Rattle.records.specs.Views.{eightIn, systemIn, planIn, Ready}

@@ -19,8 +19,8 @@ use Rattle.model.specs.Forced.{devices as count, consuming, power}
 use Rattle.model.specs.Completion as C
 use Rattle.kilowatts.specs.declared.Kw.{Kw}
 use Rattle.kilowatts.specs.Power.{kw}
-use Rattle.records.specs.declared.Front.{Front}
-use Rattle.records.specs.Figures.{sideAt}
+use Rattle.row_places.specs.declared.Front.{Front}
+use Rattle.row_places.specs.Figures.{sideAt}
 use Rattle.numbers.specs.Parts.{place-inside}
 use Rattle.numbers.specs.Ranges.{sum-next, sum-skip}
 use Rattle.records.specs.Views.{systemIn, planIn, mostDevices, mostIntervals, mostPower, Ready}

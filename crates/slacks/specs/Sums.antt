@@ -13,9 +13,9 @@ use Rattle.ranges.specs.Ranges.{SettingRange, Eight}
 use Rattle.numbers.specs.Every.{gate-le}
 use Rattle.kilowatts.specs.declared.Kw.{Kw}
 use Rattle.kilowatts.specs.Power.{kw}
-use Rattle.records.specs.declared.Front.{Front}
-use Rattle.records.specs.declared.Reserves.{Reserves}
-use Rattle.records.specs.Figures.{sideAt, zonebitsAt, inZone, settingOf}
+use Rattle.row_places.specs.declared.Front.{Front}
+use Rattle.row_places.specs.declared.Reserves.{Reserves}
+use Rattle.row_places.specs.Figures.{sideAt, zonebitsAt, inZone, settingOf}
 use Rattle.records.specs.Views.{mostPower, eightIn, settingIn, Ready}
 use Rattle.slacks.specs.declared.ZoneSums.{ZoneSums}
 use Rattle.slacks.specs.Sides.{Powered, powered, place}

@@ -11,9 +11,9 @@ use Rattle.layouts.specs.Layout.{list, repeated, _then_, held, figure}
 use Rattle.model.specs.Case as C
 use Rattle.model.specs.Messages as M
 use Rattle.model.specs.ByEdition as B
-use Rattle.records.specs.declared.Zone.{Zone}
-use Rattle.records.specs.declared.Minima.{Minima}
-use Rattle.records.specs.Figures.{zoneRow, minimaRow}
+use Rattle.row_places.specs.declared.Zone.{Zone}
+use Rattle.row_places.specs.declared.Minima.{Minima}
+use Rattle.row_places.specs.Figures.{zoneRow, minimaRow}
 use Rattle.records.specs.Views.{minimaIn, zoneIn, sixIn}
 use Rattle.fields.specs.declared.Went.{Went}
 use Rattle.fields.specs.declared.Went.the-variants as W

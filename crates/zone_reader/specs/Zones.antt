@@ -8,8 +8,8 @@ use Rattle.layouts.specs.Layout.{Layout, _▸_, figure}
 use Rattle.model.specs.Case as C
 use Rattle.model.specs.Messages as M
 use Rattle.model.specs.ByEdition as B
-use Rattle.records.specs.declared.Zone.{Zone}
-use Rattle.records.specs.Figures.{zoneOf, zoneRow}
+use Rattle.row_places.specs.declared.Zone.{Zone}
+use Rattle.row_places.specs.Figures.{zoneOf, zoneRow}
 use Rattle.records.specs.Views.{sharesIn, zoneIn, sixIn}
 use Rattle.fields.specs.declared.Went.{Went}
 use Rattle.fields.specs.Got.{got, told}

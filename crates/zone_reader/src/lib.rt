@@ -2,16 +2,16 @@
 use fields::Went;
 use kilowatts::Kw;
 use layouts::Place;
-use records::Minima;
-use records::MinimaRow;
-use records::Zone;
+use row_places::Minima;
+use row_places::MinimaRow;
+use row_places::Zone;
 ghost use mathlib.Core.Path.{_≡_};
 ghost use mathlib.Core.List.{map};
 ghost use Prim.Native.Nat.{_≤_};
 ghost use lib.ListN.{length};
 ghost use Rattle.layouts.specs.Layout.{list};
 ghost use Rattle.model.specs.Messages as M;
-ghost use Rattle.records.specs.Figures.{minimaRow};
+ghost use Rattle.row_places.specs.Figures.{minimaRow};
 ghost use Rattle.records.specs.Views.{minimaIn, mostIntervals};
 ghost use Rattle.fields.specs.Got.{got, told};
 ghost use Rattle.zone_reader.specs.Zones.{zoneFrom, terms, termsIn, ZoneDone};
@@ -105,7 +105,7 @@ fn read_minima(s: &[u8], p: Place, minima: &mut [MinimaRow]) -> Went
         let Went::On(next) = went else {
             return went;
         };
-        records::put_minima(minima, k, x);
+        zone_rows::put_minima(minima, k, x);
         q = next;
         k += 1;
     }

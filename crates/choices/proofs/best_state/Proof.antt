@@ -2,8 +2,8 @@
 use Prim.Native.Nat.{_+_, _≤_, _-_}
 use mathlib.Core.Path.{ap, _∙_}
 use native.Mathlib.Omega.{arith}
-use Rattle.records.specs.declared.State.{State}
-use Rattle.records.specs.Figures.{deviceAt}
+use Rattle.row_places.specs.declared.State.{State}
+use Rattle.row_places.specs.Figures.{deviceAt}
 use Rattle.choices.specs.States.{chosen, Best, best-start, best-next, best-end}
 use borrow.Author.Needs.{needs}
 use Rattle.choices.proofs.best_state.Statement.{statement}

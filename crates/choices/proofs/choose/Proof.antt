@@ -1,5 +1,5 @@
 -- The four parts of a choice, for whatever case the records are of.
-use Rattle.records.specs.Figures.{deviceAt}
+use Rattle.row_places.specs.Figures.{deviceAt}
 use Rattle.choices.specs.Cells.{sized}
 use Rattle.choices.specs.Rests.{looks}
 use Rattle.choices.specs.Choices.{choice-of}

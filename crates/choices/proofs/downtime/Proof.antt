@@ -2,7 +2,7 @@
 use Prim.Native.Nat.{_≤_}
 use mathlib.Core.Path.{sym, _∙_}
 use native.Mathlib.Omega.{arith}
-use Rattle.records.specs.Figures.{deviceAt}
+use Rattle.row_places.specs.Figures.{deviceAt}
 use Rattle.choices.specs.Rests.{Off, off-next, off-found, off-none}
 use borrow.Author.Needs.{needs}
 use Rattle.choices.proofs.downtime.Statement.{statement}

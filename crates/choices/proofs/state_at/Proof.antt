@@ -1,7 +1,7 @@
 -- By whether there is a start.
 use mathlib.Core.Path.{_∙_, ap}
 use borrow.Author.Tests.{eq-eqb, ne-eqb}
-use Rattle.records.specs.Figures.{deviceAt}
+use Rattle.row_places.specs.Figures.{deviceAt}
 use Rattle.choices.specs.States.{stateOf}
 use borrow.Author.Needs.{needs}
 use Rattle.choices.proofs.state_at.Statement.{statement}

@@ -2,7 +2,7 @@
 use mathlib.Core.Path.{_∙_}
 use native.Mathlib.Omega.{arith}
 use lib.ListN.{getD}
-use Rattle.records.specs.Figures.{startedAt}
+use Rattle.row_places.specs.Figures.{startedAt}
 use Rattle.device_rules.specs.Windows.{inside, too-early, too-late, started-few}
 use borrow.Author.Needs.{needs}
 use Rattle.device_rules.proofs.counted_start.Statement.{statement}

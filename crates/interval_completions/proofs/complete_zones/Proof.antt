@@ -4,7 +4,7 @@ use Prim.Native.Nat.{_+_, _*_, _-_, _≤_}
 use native.Mathlib.Omega.{arith}
 use lib.ListN.{length}
 use Rattle.pen.specs.Runs.{room-at}
-use Rattle.records.specs.declared.Front.{Front}
+use Rattle.row_places.specs.declared.Front.{Front}
 use Rattle.slacks.specs.Sums.{zoned}
 use Rattle.model.specs.Editions.{mostZones}
 use Rattle.money.specs.Bounds.{zoneMost}

@@ -1,7 +1,7 @@
 -- The four entries, for whatever case the records are of.
 use Prim.Native.Nat.{_+_}
 use native.Mathlib.Omega.{arith}
-use Rattle.records.specs.Figures.{deviceAt}
+use Rattle.row_places.specs.Figures.{deviceAt}
 use Rattle.money.specs.Bounds.{reservesMost, tradeMost, onMost}
 use Rattle.money.specs.Entries.{room-after}
 use Rattle.money.specs.Ruled as R

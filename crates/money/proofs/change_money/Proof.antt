@@ -1,6 +1,6 @@
 -- Start and stop costs, and the state's.
 use native.Mathlib.Omega.{arith}
-use Rattle.records.specs.Figures.{deviceAt, startcostAt, stopcostAt}
+use Rattle.row_places.specs.Figures.{deviceAt, startcostAt, stopcostAt}
 use Rattle.money.specs.Costs.{due-of, change-cost}
 use borrow.Author.Needs.{needs}
 use Rattle.money.proofs.change_money.Statement.{statement}

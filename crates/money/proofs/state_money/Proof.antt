@@ -1,8 +1,8 @@
 -- The offset earned and the kept cost spent.
 use mathlib.Core.Path.{ap, _∙_}
 use native.Mathlib.Omega.{arith}
-use Rattle.records.specs.declared.State.{State}
-use Rattle.records.specs.Figures.{deviceAt}
+use Rattle.row_places.specs.declared.State.{State}
+use Rattle.row_places.specs.Figures.{deviceAt}
 use Rattle.money.specs.Costs.{cost-known, no-state, state-cost}
 use borrow.Author.Needs.{needs}
 use Rattle.money.proofs.state_money.Statement.{statement}

@@ -3,7 +3,7 @@ use mathlib.Core.Path.{_≡_, refl}
 use Prim.Native.Nat.{_≤_, _-_}
 use native.Mathlib.Omega.{arith}
 use lib.ListN.{length}
-use Rattle.records.specs.Figures.{onBefore}
+use Rattle.row_places.specs.Figures.{onBefore}
 use Rattle.powers.specs.Changes.{added, before-next, Grown, grown-none, grown-low, grown-more, grown-all}
 use borrow.Author.Needs.{needs}
 use Rattle.powers.proofs.add_changes.Statement.{statement}

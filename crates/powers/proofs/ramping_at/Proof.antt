@@ -1,6 +1,6 @@
 -- Four of the device's figures.
 use mathlib.Core.Path.{ap}
-use Rattle.records.specs.declared.Device.{Device}
+use Rattle.row_places.specs.declared.Device.{Device}
 use Rattle.powers.specs.Changes.{rampingOf}
 use borrow.Author.Needs.{needs}
 use Rattle.powers.proofs.ramping_at.Statement.{statement}

@@ -2,8 +2,8 @@
 use Prim.Native.Nat.{ℕ}
 use mathlib.Core.Path.{refl, sym, ap, subst, _∙_}
 use borrow.Author.Tests.{not-true, not-false}
-use Rattle.records.specs.declared.Setting.{Setting}
-use Rattle.records.specs.Figures.{inZone}
+use Rattle.row_places.specs.declared.Setting.{Setting}
+use Rattle.row_places.specs.Figures.{inZone}
 use Rattle.slacks.specs.Sums.{added, not-added, held-of}
 use borrow.Author.Needs.{needs}
 use Rattle.slacks.proofs.with_device.Statement.{statement}

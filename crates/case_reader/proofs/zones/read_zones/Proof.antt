@@ -3,7 +3,7 @@ use Prim.Native.Nat.{_-_}
 use native.Mathlib.Omega.{arith}
 use lib.ListN.{length-take, length-drop}
 use Rattle.model.specs.ByEdition as B
-use Rattle.records.specs.Figures.{zoneRow}
+use Rattle.row_places.specs.Figures.{zoneRow}
 use Rattle.zone_reader.specs.Zones.{zonePair}
 use Rattle.zone_reader.proofs.ZoneSteps.{zone-natural}
 use Rattle.case_reader.proofs.PartSteps.{Parting, parting-none, inside, inside-heads, stored-long, parting-more, parting-off, parting-done}

@@ -1,0 +1,277 @@
+// A device from its row, whole or one figure of it.
+ghost use mathlib.Core.Path.{_≡_};
+ghost use mathlib.Core.List.{[]};
+ghost use Prim.Native.Nat.{_<_};
+ghost use lib.ListN.{getD, length};
+ghost use Rattle.grains.specs.Money.{grains};
+ghost use Rattle.model.specs.Editions.{mostStates, mostWindows};
+ghost use Rattle.row_places.specs.Figures.{deviceWith, windowOf, statesOf, startsOf, energiesOf, limitsOf, deviceOf, stateOf, startOf, energyOf, sideAt, zonebitsAt};
+ghost use Rattle.row_places.specs.Figures.{on0At, minutes0At, oncostAt, startcostAt, stopcostAt, statesAt, stateAt, energiesAt, energyAt};
+use energy::KwMin;
+use grains::Grains;
+use kilowatts::Kw;
+use row_places::Device;
+use row_places::DeviceRow;
+use row_places::ENERGIES;
+use row_places::EnergyWindow;
+use row_places::STARTS;
+use row_places::STATES;
+use row_places::StartWindow;
+use row_places::State;
+
+fn money_of(x: u32) -> Grains
+    ensures { λ r. ⌜ r ≡ grains x ⌝ }
+{
+    Grains(x as u64)
+}
+
+fn counted(x: u32) -> usize
+    ensures { λ r. ⌜ r ≡ x ⌝ }
+{
+    x as usize
+}
+
+// Startup state k.
+fn state_in(r: DeviceRow, k: usize) -> State
+    requires { ⌜ k < mostStates ⌝ }
+    ensures { λ s. ⌜ s ≡ stateOf r k ⌝ }
+{
+    let a = STATES + 1 + 2 * k;
+    State {
+        longest: r[a],
+        cost: r[a + 1],
+    }
+}
+
+fn states_in(r: DeviceRow) -> [State; 3]
+    ensures { λ l. ⌜ l ≡ statesOf r ⌝ }
+{
+    let a = state_in(r, 0);
+    let b = state_in(r, 1);
+    let c = state_in(r, 2);
+    [a, b, c]
+}
+
+// Start window k.
+fn start_in(r: DeviceRow, k: usize) -> StartWindow
+    requires { ⌜ k < mostWindows ⌝ }
+    ensures { λ w. ⌜ w ≡ startOf r k ⌝ }
+{
+    let a = STARTS + 1 + 3 * k;
+    StartWindow {
+        from: r[a],
+        until: r[a + 1],
+        most: r[a + 2],
+    }
+}
+
+fn starts_in(r: DeviceRow) -> [StartWindow; 4]
+    ensures { λ l. ⌜ l ≡ startsOf r ⌝ }
+{
+    let a = start_in(r, 0);
+    let b = start_in(r, 1);
+    let c = start_in(r, 2);
+    let d = start_in(r, 3);
+    [a, b, c, d]
+}
+
+fn energy_window(kind: u32, from: u32, until: u32, energy: u32) -> EnergyWindow
+    ensures { λ w. ⌜ w ≡ windowOf kind from until energy ⌝ }
+{
+    EnergyWindow {
+        kind,
+        from,
+        until,
+        energy: KwMin(energy as u64),
+    }
+}
+
+// Energy window k.
+fn energy_in(r: DeviceRow, k: usize) -> EnergyWindow
+    requires { ⌜ k < mostWindows ⌝ }
+    ensures { λ w. ⌜ w ≡ energyOf r k ⌝ }
+{
+    let a = ENERGIES + 1 + 4 * k;
+    energy_window(r[a], r[a + 1], r[a + 2], r[a + 3])
+}
+
+fn energies_in(r: DeviceRow) -> [EnergyWindow; 4]
+    ensures { λ l. ⌜ l ≡ energiesOf r ⌝ }
+{
+    let a = energy_in(r, 0);
+    let b = energy_in(r, 1);
+    let c = energy_in(r, 2);
+    let d = energy_in(r, 3);
+    [a, b, c, d]
+}
+
+fn limits_in(r: DeviceRow) -> [Kw; 8]
+    ensures { λ l. ⌜ l ≡ limitsOf r ⌝ }
+{
+    [
+        Kw(r[14]),
+        Kw(r[15]),
+        Kw(r[16]),
+        Kw(r[17]),
+        Kw(r[18]),
+        Kw(r[19]),
+        Kw(r[20]),
+        Kw(r[21]),
+    ]
+}
+
+// A device from its row; its costs, limits and counted lists given.
+fn device_with(
+    r: DeviceRow,
+    startcost: Grains,
+    stopcost: Grains,
+    limits: [Kw; 8],
+    nstates: usize,
+    states: [State; 3],
+    nstarts: usize,
+    starts: [StartWindow; 4],
+    nenergies: usize,
+    energies: [EnergyWindow; 4],
+) -> Device
+    ensures { λ d. ⌜ d ≡ deviceWith r startcost stopcost limits nstates states nstarts starts nenergies energies ⌝ }
+{
+    Device {
+        side: r[0],
+        zonebits: r[1],
+        on0: r[2],
+        power0: Kw(r[3]),
+        minutes0: r[4],
+        minup: r[5],
+        mindown: r[6],
+        ramps: [r[7], r[8], r[9], r[10]],
+        oncost: r[11],
+        startcost,
+        stopcost,
+        limits,
+        nstates,
+        states,
+        nstarts,
+        starts,
+        nenergies,
+        energies,
+    }
+}
+
+pub fn device_at(devices: &[DeviceRow], i: usize) -> Device
+    requires { ⌜ i < length (now devices) ⌝ }
+    ensures { λ r. ⌜ r ≡ deviceOf (getD (now (devices .entry)) i []) ⌝ }
+{
+    let r = devices[i];
+    let startcost = money_of(r[12]);
+    let stopcost = money_of(r[13]);
+    let limits = limits_in(r);
+    let nstates = counted(r[STATES]);
+    let states = states_in(r);
+    let nstarts = counted(r[STARTS]);
+    let starts = starts_in(r);
+    let nenergies = counted(r[ENERGIES]);
+    let energies = energies_in(r);
+    device_with(
+        r,
+        startcost,
+        stopcost,
+        limits,
+        nstates,
+        states,
+        nstarts,
+        starts,
+        nenergies,
+        energies,
+    )
+}
+
+// One figure where only that is read.
+pub fn side_at(devices: &[DeviceRow], i: usize) -> u32
+    requires { ⌜ i < length (now devices) ⌝ }
+    ensures { λ r. ⌜ r ≡ sideAt (now (devices .entry)) i ⌝ }
+{
+    devices[i][0]
+}
+
+pub fn zonebits_at(devices: &[DeviceRow], i: usize) -> u32
+    requires { ⌜ i < length (now devices) ⌝ }
+    ensures { λ r. ⌜ r ≡ zonebitsAt (now (devices .entry)) i ⌝ }
+{
+    devices[i][1]
+}
+
+// Whether it is on before the day, and the minutes already so.
+pub fn on0_at(devices: &[DeviceRow], i: usize) -> u32
+    requires { ⌜ i < length (now devices) ⌝ }
+    ensures { λ r. ⌜ r ≡ on0At (now (devices .entry)) i ⌝ }
+{
+    devices[i][2]
+}
+
+pub fn minutes0_at(devices: &[DeviceRow], i: usize) -> u32
+    requires { ⌜ i < length (now devices) ⌝ }
+    ensures { λ r. ⌜ r ≡ minutes0At (now (devices .entry)) i ⌝ }
+{
+    devices[i][4]
+}
+
+pub fn oncost_at(devices: &[DeviceRow], i: usize) -> u32
+    requires { ⌜ i < length (now devices) ⌝ }
+    ensures { λ r. ⌜ r ≡ oncostAt (now (devices .entry)) i ⌝ }
+{
+    devices[i][11]
+}
+
+pub fn startcost_at(devices: &[DeviceRow], i: usize) -> Grains
+    requires { ⌜ i < length (now devices) ⌝ }
+    ensures { λ r. ⌜ r ≡ startcostAt (now (devices .entry)) i ⌝ }
+{
+    money_of(devices[i][12])
+}
+
+pub fn stopcost_at(devices: &[DeviceRow], i: usize) -> Grains
+    requires { ⌜ i < length (now devices) ⌝ }
+    ensures { λ r. ⌜ r ≡ stopcostAt (now (devices .entry)) i ⌝ }
+{
+    money_of(devices[i][13])
+}
+
+// How many startup states it has, and state k.
+pub fn states_at(devices: &[DeviceRow], i: usize) -> usize
+    requires { ⌜ i < length (now devices) ⌝ }
+    ensures { λ r. ⌜ r ≡ statesAt (now (devices .entry)) i ⌝ }
+{
+    counted(devices[i][STATES])
+}
+
+pub fn state_at(devices: &[DeviceRow], i: usize, k: usize) -> State
+    requires { ⌜ (i < length (now devices)) × (k < mostStates) ⌝ }
+    ensures { λ r. ⌜ r ≡ stateAt (now (devices .entry)) i k ⌝ }
+{
+    let a = STATES + 1 + 2 * k;
+    State {
+        longest: devices[i][a],
+        cost: devices[i][a + 1],
+    }
+}
+
+// How many energy windows it has, and window k.
+pub fn energies_at(devices: &[DeviceRow], i: usize) -> usize
+    requires { ⌜ i < length (now devices) ⌝ }
+    ensures { λ r. ⌜ r ≡ energiesAt (now (devices .entry)) i ⌝ }
+{
+    counted(devices[i][ENERGIES])
+}
+
+pub fn energy_at(devices: &[DeviceRow], i: usize, k: usize) -> EnergyWindow
+    requires { ⌜ (i < length (now devices)) × (k < mostWindows) ⌝ }
+    ensures { λ r. ⌜ r ≡ energyAt (now (devices .entry)) i k ⌝ }
+{
+    let a = ENERGIES + 1 + 4 * k;
+    energy_window(
+        devices[i][a],
+        devices[i][a + 1],
+        devices[i][a + 2],
+        devices[i][a + 3],
+    )
+}

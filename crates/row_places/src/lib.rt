@@ -1,0 +1,162 @@
+// The rows of a decoded case and plan: their widths, and the records that are taken from them and put into them. At rest figures stand in lent slices of
+// rows, device by device, zone by zone; counts are the slices' lengths. In flight they are structs by value. Where each figure stands in its row is said in
+// `Figures`; only the crates of the rows (`zone_rows`, `cell_rows`, `setting_rows`, `device_rows`, `device_store`) read and write by place.
+use energy::KwMin;
+use grains::Grains;
+use kilowatts::Kw;
+
+// A device in one interval: status, pmin, pmax, count of blocks, four caps, four prices kept from −10,000, the prices of the eight.
+pub type CellRow = [u32; 20];
+
+// A plan's figures for a device in one interval: on, online power, the eight.
+pub type SettingRow = [u32; 10];
+
+// A device ahead of its intervals: its head, ramps, costs, limits; then counted states, start windows and energy windows.
+pub type DeviceRow = [u32; 59];
+
+// Where its lists begin, each with its count.
+pub const STATES: usize = 22;
+
+pub const STARTS: usize = 29;
+
+pub const ENERGIES: usize = 42;
+
+// A zone ahead of its intervals: four shares, six prices.
+pub type ZoneRow = [u32; 10];
+
+// A zone's minima in one interval: rru, rrd.
+pub type MinimaRow = [u32; 2];
+
+// Rows of zeros, for an owner's tables: what a reader fills.
+pub fn blank_cell() -> CellRow {
+    [0u32; 20]
+}
+
+pub fn blank_setting() -> SettingRow {
+    [0u32; 10]
+}
+
+pub fn blank_device() -> DeviceRow {
+    [0u32; 59]
+}
+
+pub fn blank_zone() -> ZoneRow {
+    [0u32; 10]
+}
+
+pub fn blank_minima() -> MinimaRow {
+    [0u32; 2]
+}
+
+// "The eight, in order": amounts of a plan, limits of a device.
+pub struct Reserves {
+    pub rgu: Kw,
+    pub rgd: Kw,
+    pub scr: Kw,
+    pub nsc: Kw,
+    pub rruon: Kw,
+    pub rruoff: Kw,
+    pub rrdon: Kw,
+    pub rrdoff: Kw,
+}
+
+// The prices of the eight, in grains per kW·min.
+pub struct ReservePrices {
+    pub rgu: u32,
+    pub rgd: u32,
+    pub scr: u32,
+    pub nsc: u32,
+    pub rruon: u32,
+    pub rruoff: u32,
+    pub rrdon: u32,
+    pub rrdoff: u32,
+}
+
+// A device in one interval. Block prices are kept from 0: the price and 10,000. Absent blocks have cap 0.
+pub struct Cell {
+    pub status: u32,
+    pub pmin: Kw,
+    pub pmax: Kw,
+    pub blocks: u32,
+    pub caps: [Kw; 4],
+    pub prices: [u32; 4],
+    pub reserves: ReservePrices,
+}
+
+// A plan's figures for a device in one interval; "u = on (1/0)".
+pub struct Setting {
+    pub on: u32,
+    pub online: Kw,
+    pub reserves: Reserves,
+}
+
+// A startup state; its cost is kept from 0: the cost and 1,000,000,000.
+pub struct State {
+    pub longest: u32,
+    pub cost: u32,
+}
+
+pub struct StartWindow {
+    pub from: u32,
+    pub until: u32,
+    pub most: u32,
+}
+
+// Kind 0 limits the energy from above, kind 1 from below.
+pub struct EnergyWindow {
+    pub kind: u32,
+    pub from: u32,
+    pub until: u32,
+    pub energy: KwMin,
+}
+
+// "Per device": what a case says of a device ahead of its intervals. The ramps are up, down, starting, stopping, in kW/min; the limits are the eight in
+// order; the on cost is grains a minute.
+pub struct Device {
+    pub side: u32,
+    pub zonebits: u32,
+    pub on0: u32,
+    pub power0: Kw,
+    pub minutes0: u32,
+    pub minup: u32,
+    pub mindown: u32,
+    pub ramps: [u32; 4],
+    pub oncost: u32,
+    pub startcost: Grains,
+    pub stopcost: Grains,
+    pub limits: [Kw; 8],
+    pub nstates: usize,
+    pub states: [State; 3],
+    pub nstarts: usize,
+    pub starts: [StartWindow; 4],
+    pub nenergies: usize,
+    pub energies: [EnergyWindow; 4],
+}
+
+// Shares in thousandths; prices of the six shortfalls in grains per W·min.
+pub struct Zone {
+    pub rgu: u32,
+    pub rgd: u32,
+    pub scr: u32,
+    pub nsc: u32,
+    pub prices: [u32; 6],
+}
+
+pub struct Minima {
+    pub rru: Kw,
+    pub rrd: Kw,
+}
+
+// What stands at a case's front beside its counts: its edition; prices of mismatch and overrun in grains per kW·min.
+pub struct Front {
+    pub edition: u32,
+    pub mismatch: u32,
+    pub overrun: u32,
+}
+
+// How many of each a case has.
+pub struct Counts {
+    pub devices: usize,
+    pub intervals: usize,
+    pub zones: usize,
+}

@@ -1,0 +1,110 @@
+// A plan's figures for a device in one interval from their row, and into it; its starts and stops.
+ghost use mathlib.Core.Path.{_≡_};
+ghost use mathlib.Core.List.{[]};
+ghost use Prim.Native.Nat.{_<_};
+ghost use lib.Dec.{ltb};
+ghost use lib.ListN.{getD, length, set};
+ghost use Rattle.numbers.specs.Base.{bit};
+ghost use Rattle.row_places.specs.Figures.{settingRow, settingOf, onAt, onlineAt, onBefore, startedAt, stoppedAt};
+use kilowatts::Kw;
+use row_places::Reserves;
+use row_places::Setting;
+use row_places::SettingRow;
+
+pub fn setting_at(settings: &[SettingRow], k: usize) -> Setting
+    requires { ⌜ k < length (now settings) ⌝ }
+    ensures { λ r. ⌜ r ≡ settingOf (getD (now (settings .entry)) k []) ⌝ }
+{
+    let r = settings[k];
+    let reserves = Reserves {
+        rgu: Kw(r[2]),
+        rgd: Kw(r[3]),
+        scr: Kw(r[4]),
+        nsc: Kw(r[5]),
+        rruon: Kw(r[6]),
+        rruoff: Kw(r[7]),
+        rrdon: Kw(r[8]),
+        rrdoff: Kw(r[9]),
+    };
+    Setting {
+        on: r[0],
+        online: Kw(r[1]),
+        reserves,
+    }
+}
+
+pub fn online_at(settings: &[SettingRow], k: usize) -> Kw
+    requires { ⌜ k < length (now settings) ⌝ }
+    ensures { λ r. ⌜ r .0 ≡ onlineAt (now (settings .entry)) k ⌝ }
+{
+    Kw(settings[k][1])
+}
+
+// "u = on (1/0)"
+pub fn on_at(settings: &[SettingRow], k: usize) -> u32
+    requires { ⌜ k < length (now settings) ⌝ }
+    ensures { λ r. ⌜ r ≡ onAt (now (settings .entry)) k ⌝ }
+{
+    settings[k][0]
+}
+
+// "before interval 1 the initial state stands", in a device's part of the settings
+pub fn on_before(on0: u32, settings: &[SettingRow], t: usize) -> u32
+    requires { ⌜ t < length (now settings) ⌝ }
+    ensures { λ r. ⌜ r ≡ onBefore on0 (now (settings .entry)) t ⌝ }
+{
+    if t == 0 { on0 } else { on_at(settings, t - 1) }
+}
+
+// 1 where the second is above the first.
+fn rises(a: u32, b: u32) -> u32
+    ensures { λ r. ⌜ r ≡ bit (ltb a b) ⌝ }
+{
+    if a < b { 1 } else { 0 }
+}
+
+// "su = 1 where u rises"
+pub fn started_at(on0: u32, settings: &[SettingRow], t: usize) -> u32
+    requires { ⌜ t < length (now settings) ⌝ }
+    ensures { λ r. ⌜ r ≡ startedAt on0 (now (settings .entry)) t ⌝ }
+{
+    let before = on_before(on0, settings, t);
+    let on = on_at(settings, t);
+    rises(before, on)
+}
+
+// "sd = 1 where it falls"
+pub fn stopped_at(on0: u32, settings: &[SettingRow], t: usize) -> u32
+    requires { ⌜ t < length (now settings) ⌝ }
+    ensures { λ r. ⌜ r ≡ stoppedAt on0 (now (settings .entry)) t ⌝ }
+{
+    let before = on_before(on0, settings, t);
+    let on = on_at(settings, t);
+    rises(on, before)
+}
+
+fn setting_row(x: Setting) -> SettingRow
+    ensures { λ r. ⌜ r ≡ settingRow x ⌝ }
+{
+    let reserves = x.reserves;
+    [
+        x.on,
+        x.online.0,
+        reserves.rgu.0,
+        reserves.rgd.0,
+        reserves.scr.0,
+        reserves.nsc.0,
+        reserves.rruon.0,
+        reserves.rruoff.0,
+        reserves.rrdon.0,
+        reserves.rrdoff.0,
+    ]
+}
+
+// A setting into row k.
+pub fn put_setting(settings: &mut [SettingRow], k: usize, x: Setting)
+    requires { ⌜ k < length (now settings) ⌝ }
+    ensures { λ _. ⌜ now (settings .exit) ≡ set (now (settings .entry)) k (settingRow x) ⌝ }
+{
+    settings[k] = setting_row(x);
+}

@@ -1,0 +1,70 @@
+// A zone and its minima from their rows, and into them.
+ghost use mathlib.Core.Path.{_≡_};
+ghost use mathlib.Core.List.{[]};
+ghost use Prim.Native.Nat.{_<_};
+ghost use lib.ListN.{getD, length, set};
+ghost use Rattle.row_places.specs.Figures.{zoneRow, minimaRow, zoneOf, minimaOf};
+use kilowatts::Kw;
+use row_places::Minima;
+use row_places::MinimaRow;
+use row_places::Zone;
+use row_places::ZoneRow;
+
+pub fn zone_at(zones: &[ZoneRow], z: usize) -> Zone
+    requires { ⌜ z < length (now zones) ⌝ }
+    ensures { λ r. ⌜ r ≡ zoneOf (getD (now (zones .entry)) z []) ⌝ }
+{
+    let r = zones[z];
+    Zone {
+        rgu: r[0],
+        rgd: r[1],
+        scr: r[2],
+        nsc: r[3],
+        prices: [r[4], r[5], r[6], r[7], r[8], r[9]],
+    }
+}
+
+pub fn minima_at(minima: &[MinimaRow], k: usize) -> Minima
+    requires { ⌜ k < length (now minima) ⌝ }
+    ensures { λ r. ⌜ r ≡ minimaOf (getD (now (minima .entry)) k []) ⌝ }
+{
+    let r = minima[k];
+    Minima {
+        rru: Kw(r[0]),
+        rrd: Kw(r[1]),
+    }
+}
+
+fn zone_row(z: Zone) -> ZoneRow
+    ensures { λ r. ⌜ r ≡ zoneRow z ⌝ }
+{
+    let prices = z.prices;
+    [
+        z.rgu,
+        z.rgd,
+        z.scr,
+        z.nsc,
+        prices[0],
+        prices[1],
+        prices[2],
+        prices[3],
+        prices[4],
+        prices[5],
+    ]
+}
+
+// A zone into row z.
+pub fn put_zone(zones: &mut [ZoneRow], z: usize, x: Zone)
+    requires { ⌜ z < length (now zones) ⌝ }
+    ensures { λ _. ⌜ now (zones .exit) ≡ set (now (zones .entry)) z (zoneRow x) ⌝ }
+{
+    zones[z] = zone_row(x);
+}
+
+// A zone's minima into row k.
+pub fn put_minima(minima: &mut [MinimaRow], k: usize, x: Minima)
+    requires { ⌜ k < length (now minima) ⌝ }
+    ensures { λ _. ⌜ now (minima .exit) ≡ set (now (minima .entry)) k (minimaRow x) ⌝ }
+{
+    minima[k] = [x.rru.0, x.rrd.0];
+}
