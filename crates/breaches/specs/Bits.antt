@@ -7,7 +7,7 @@ use native.Mathlib.Omega.{arith}
 use borrow.Author.Tests.{eq-eqb, ne-eqb}
 use lib.Dec.{eqb}
 use Rattle.model.specs.Breaches.{unless}
-use Rattle.cell_rules.specs.Word.{bitsFrom, numbersIn}
+use Rattle.cell_bounds.specs.Word.{bitsFrom, numbersIn}
 use Rattle.breaches.specs.First.{first, breachAt}
 use Rattle.breaches.specs.declared.Check.{Check}
 use Rattle.breaches.specs.declared.Check.the-variants.{Held, Broken}

@@ -22,13 +22,13 @@ use Rattle.records.specs.Viewed as W
 use Rattle.row_places.specs.Figures.{noStart}
 use Rattle.row_places.specs.declared.Device.{Device}
 use Rattle.row_places.specs.declared.Front.{Front}
-use Rattle.cell_rules.specs.declared.Bounds.{Bounds}
-use Rattle.cell_rules.specs.Word.{failingWord, numbersIn}
-use Rattle.cell_rules.specs.Tests.{boundsOf}
-use Rattle.device_rules.specs.Moments.{testsAt, Fits}
+use Rattle.cell_bounds.specs.declared.Bounds.{Bounds}
+use Rattle.cell_bounds.specs.Word.{failingWord, numbersIn}
+use Rattle.cell_bounds.specs.Tests.{boundsOf}
+use Rattle.moments.specs.Moments.{testsAt, Fits}
 use Rattle.device_rules.specs.Tie.{tests-here, bits-here, fits-here}
 use Rattle.device_rules.specs.Whole.{AllFit, HeldTo}
-use Rattle.device_rules.specs.Windows.{startsAt, starts-are}
+use Rattle.start_windows.specs.Windows.{startsAt, starts-are}
 use Rattle.breaches.specs.First.{first, breachAt}
 use Rattle.breaches.specs.Bits.{firstOf}
 use Rattle.breaches.specs.declared.Check.{Check}

@@ -6,17 +6,15 @@ ghost use Prim.Native.Nat.{_*_, _≤_, _<_};
 ghost use lib.ListN.{length};
 ghost use Rattle.model.specs.Breaches.{cellBreaches, windowBreaches, breaches};
 ghost use Rattle.records.specs.Views.{systemIn, planIn, mostWindows, mostDevices, mostIntervals, Ready};
-ghost use Rattle.cell_rules.specs.Word.{numbersIn};
+ghost use Rattle.cell_bounds.specs.Word.{numbersIn};
 ghost use Rattle.breaches.specs.First.{first, breachAt};
 ghost use Rattle.breaches.specs.Bits.{firstOf};
 ghost use Rattle.breaches.specs.Parts.{windowAt, windowsHere};
 ghost use Rattle.breaches.specs.Day.{intervalBreaches, dayBreaches, dayWindows, DeviceHolds};
-use cell_rules::bounds_of;
+use cell_bounds::bounds_of;
 use device_rows::device_at;
-use device_rules::all_starts;
 use device_rules::failing_at;
 use device_rules::held_all;
-use device_rules::window_kept;
 use model::Breach;
 use row_places::CellRow;
 use row_places::Device;
@@ -25,6 +23,8 @@ use row_places::Front;
 use row_places::MinimaRow;
 use row_places::SettingRow;
 use row_places::ZoneRow;
+use start_windows::all_starts;
+use start_windows::window_kept;
 
 // Every rule holds, or the first that is broken.
 pub enum Check {

@@ -12,11 +12,11 @@ use Rattle.bits.specs.Pick.{pick}
 use Rattle.model.specs.Breaches.{failing}
 use Rattle.row_places.specs.declared.Cell.{Cell}
 use Rattle.row_places.specs.declared.Setting.{Setting}
-use Rattle.cell_rules.specs.declared.Bounds.{Bounds}
-use Rattle.cell_rules.specs.declared.Moment.{Moment}
-use Rattle.cell_rules.specs.Sign.{moved-r}
-use Rattle.cell_rules.specs.Word.{no-test, test-holds, all-hold}
-use Rattle.cell_rules.specs.Tests.{consumes, ups, downs, offUps, forced, roomOf, stateTests, rampTests, onTests, offTests, powerTests, tests}
+use Rattle.cell_bounds.specs.declared.Bounds.{Bounds}
+use Rattle.cell_bounds.specs.declared.Moment.{Moment}
+use Rattle.cell_bounds.specs.Sign.{moved-r}
+use Rattle.cell_bounds.specs.Word.{no-test, test-holds, all-hold}
+use Rattle.cell_bounds.specs.Tests.{consumes, ups, downs, offUps, forced, roomOf, stateTests, rampTests, onTests, offTests, powerTests, tests}
 
 -- the code's answer: `if !rule(..) { return false; }`, or the last one
 pub passed : {b test : Bool} → b ≡ test → not b ≡ false → test ≡ true

@@ -1,5 +1,2 @@
-pub mod Apart
-pub mod Moments
 pub mod Tie
-pub mod Windows
 pub mod Whole

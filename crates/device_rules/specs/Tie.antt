@@ -26,12 +26,12 @@ use Rattle.row_places.specs.declared.Cell.{Cell}
 use Rattle.row_places.specs.declared.Device.{Device}
 use Rattle.row_places.specs.declared.Front.{Front}
 use Rattle.row_places.specs.declared.Setting.{Setting}
-use Rattle.cell_rules.specs.declared.Bounds.{Bounds}
-use Rattle.cell_rules.specs.declared.Moment.{Moment}
-use Rattle.cell_rules.specs.Word.{failingWord, numbersIn, word-bits}
-use Rattle.cell_rules.specs.Tests.{boundsOf, roomOf, tests, stateTests, rampTests, onTests, offTests, powerTests, Sized, Small}
-use Rattle.device_rules.specs.Apart.{Rising, apartAt}
-use Rattle.device_rules.specs.Moments.{stopsOf, startsOf, momentAt, testsAt, tests-rise-here, Fits}
+use Rattle.cell_bounds.specs.declared.Bounds.{Bounds}
+use Rattle.cell_bounds.specs.declared.Moment.{Moment}
+use Rattle.cell_bounds.specs.Word.{failingWord, numbersIn, word-bits}
+use Rattle.cell_bounds.specs.Tests.{boundsOf, roomOf, tests, stateTests, rampTests, onTests, offTests, powerTests, Sized, Small}
+use Rattle.rests.specs.Apart.{Rising, apartAt}
+use Rattle.moments.specs.Moments.{stopsOf, startsOf, momentAt, testsAt, tests-rise-here, Fits}
 
 -- ---- the figures that the model's tests compare, by the records' names
 

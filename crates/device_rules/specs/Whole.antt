@@ -6,8 +6,8 @@ use native.Mathlib.Omega.{arith}
 use native.Mathlib.Decide.{decLe}
 use lib.ListN.{length}
 use Rattle.model.specs.Breaches.{failing}
-use Rattle.cell_rules.specs.declared.Bounds.{Bounds}
-use Rattle.device_rules.specs.Moments.{testsAt, Fits}
+use Rattle.cell_bounds.specs.declared.Bounds.{Bounds}
+use Rattle.moments.specs.Moments.{testsAt, Fits}
 
 module _ (d : Bounds) (power0 : ℕ) (halves : List ℕ) (cells settings : List (List ℕ)) (starts powers : List ℕ) where
   pub record AllFit : Type 0 where

@@ -32,9 +32,9 @@ use Rattle.choices.specs.declared.Choice.{Choice}
 use Rattle.choices.specs.Cells.{CellOf}
 use Rattle.choices.specs.Choices.{ChoiceOf}
 use Rattle.choices.specs.Here.{cell-here, choice-learnt}
-use Rattle.slacks.specs.Sides.{sidesTo, mismatchOf, mismatch-is}
-use Rattle.slacks.specs.Sums.{sumsTo}
-use Rattle.slacks.specs.Needs.{Thousandths, zoneNeeds, thousandths, shortfalls-are}
+use Rattle.mismatches.specs.Sides.{sidesTo, mismatchOf, mismatch-is}
+use Rattle.zone_totals.specs.Sums.{sumsTo}
+use Rattle.zone_shortfalls.specs.Needs.{Thousandths, zoneNeeds, thousandths, shortfalls-are}
 use Rattle.model.specs.Editions.{mostZones}
 use Rattle.money.specs.Bounds.{cellMost, zoneMost}
 use Rattle.money.specs.Unbroken.{Unbroken}

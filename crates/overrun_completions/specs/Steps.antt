@@ -20,7 +20,7 @@ use Rattle.row_places.specs.Figures.{energiesAt, energyAt}
 use Rattle.numbers.specs.Parts.{part-cut}
 use Rattle.records.specs.Views.{systemIn, caseIn, planIn}
 use Rattle.records.specs.Viewed as Viewed
-use Rattle.slacks.specs.Energies.{Running, running, energyTo, overOf, overrun-is}
+use Rattle.overruns.specs.Energies.{Running, running, energyTo, overOf, overrun-is}
 use Rattle.model.specs.Editions.{mostWindows}
 use Rattle.money.specs.Bounds.{overrunCostMost}
 use Rattle.money.specs.Unbroken.{Unbroken}

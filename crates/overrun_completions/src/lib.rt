@@ -2,6 +2,7 @@
 use completion_writer::put_overrun;
 use device_rows::energies_at;
 use device_rows::energy_at;
+use overruns::overrun;
 use progress::Progress;
 use row_places::CellRow;
 use row_places::DeviceRow;
@@ -10,7 +11,6 @@ use row_places::MinimaRow;
 use row_places::SettingRow;
 use row_places::ZoneRow;
 use slack_money::overrun_money;
-use slacks::overrun;
 ghost use mathlib.Core.Path.{_≡_};
 ghost use Prim.Native.Nat.{_*_, _<_};
 ghost use lib.ListN.{length};

@@ -11,9 +11,9 @@ use Rattle.row_places.specs.Figures.{deviceOf}
 use Rattle.numbers.specs.Parts.{part, part-long, part-inside, part-cut, place-inside, patched-long, patched-before, patched-row}
 use Rattle.records.specs.Views.{systemIn, planIn, mostPower, CaseRows, PlanRows, ForcedRows}
 use Rattle.records.specs.Ranged.{half-small, device-sized, cell-range, setting-range}
-use Rattle.powers.specs.declared.Ramping.{Ramping}
-use Rattle.powers.specs.Times.{Halves, Times, Clock, clock-of}
-use Rattle.powers.specs.Changes.{rampingOf, Rampable, Settled, Powers}
+use Rattle.ramped_powers.specs.declared.Ramping.{Ramping}
+use Rattle.clock.specs.Times.{Halves, Times, Clock, clock-of}
+use Rattle.ramped_powers.specs.Changes.{rampingOf, Rampable, Settled, Powers}
 use Rattle.powers.specs.Tied.{start-here, power-here}
 
 -- a decoded case: its front, zones and minima are read by nothing here

@@ -1,5 +1,2 @@
-pub mod Times
-pub mod Trajectories
-pub mod Changes
 pub mod Tied
 pub mod Fleet

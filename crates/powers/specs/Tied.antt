@@ -20,9 +20,9 @@ use Rattle.numbers.specs.Parts.{part}
 use Rattle.records.specs.Views.{systemIn, planIn, deviceIn}
 use Rattle.records.specs.Viewed as W
 use Rattle.numbers.specs.Ranges.{sum-same, sum-cut}
-use Rattle.powers.specs.Times.{startAt, start-next, start-order, Times}
-use Rattle.powers.specs.Trajectories.{leavesAt, riseIn, fallIn, within, past, ahead}
-use Rattle.powers.specs.Changes.{rampingOf, addedBy, added}
+use Rattle.clock.specs.Times.{startAt, start-next, start-order, Times}
+use Rattle.trajectories.specs.Trajectories.{leavesAt, riseIn, fallIn, within, past, ahead}
+use Rattle.ramped_powers.specs.Changes.{rampingOf, addedBy, added}
 
 module _ (halves : List ℕ) (zones minima devices cells settings : List (List ℕ)) where
   abbrev q : System

@@ -1,6 +1,6 @@
 -- Rules 5 and 6 in turn.
-use Rattle.cell_rules.specs.Word.{no-test, test-holds}
-use Rattle.cell_rules.specs.Tests.{rampTests}
+use Rattle.cell_bounds.specs.Word.{no-test, test-holds}
+use Rattle.cell_bounds.specs.Tests.{rampTests}
 use Rattle.numbers.specs.Tests.{never}
 use Rattle.cell_held.specs.Held.{passed, passed-last}
 use borrow.Author.Needs.{needs}

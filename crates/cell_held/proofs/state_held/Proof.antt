@@ -1,7 +1,7 @@
 -- Rules 1 to 4 in turn.
 use mathlib.Core.Path.{refl}
-use Rattle.cell_rules.specs.Word.{no-test, test-holds}
-use Rattle.cell_rules.specs.Tests.{stateTests}
+use Rattle.cell_bounds.specs.Word.{no-test, test-holds}
+use Rattle.cell_bounds.specs.Tests.{stateTests}
 use Rattle.numbers.specs.Tests.{never}
 use Rattle.cell_held.specs.Held.{passed}
 use borrow.Author.Needs.{needs}

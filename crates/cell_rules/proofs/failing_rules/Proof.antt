@@ -1,6 +1,6 @@
 -- The groups' words, added.
 use native.Mathlib.Omega.{arith}
-use Rattle.cell_rules.specs.Tests.{tests-word}
+use Rattle.cell_bounds.specs.Tests.{tests-word}
 use borrow.Author.Needs.{needs}
 use Rattle.cell_rules.proofs.failing_rules.Statement.{statement}
 use Rattle.cell_rules.proofs.failing_rules.Tie as tie

@@ -1,6 +1,6 @@
 -- The bits of rules 12 to 15, added.
-use Rattle.cell_rules.specs.Word.{one-bit, more-bits}
-use Rattle.cell_rules.specs.Tests.{offTests}
+use Rattle.cell_bounds.specs.Word.{one-bit, more-bits}
+use Rattle.cell_bounds.specs.Tests.{offTests}
 use borrow.Author.Needs.{needs}
 use Rattle.cell_rules.proofs.off_rules.Statement.{statement}
 use Rattle.cell_rules.proofs.off_rules.Tie as tie

@@ -1,6 +1,6 @@
 -- The bits of rules 7 to 11, added.
-use Rattle.cell_rules.specs.Word.{one-bit, more-bits}
-use Rattle.cell_rules.specs.Tests.{onTests}
+use Rattle.cell_bounds.specs.Word.{one-bit, more-bits}
+use Rattle.cell_bounds.specs.Tests.{onTests}
 use borrow.Author.Needs.{needs}
 use Rattle.cell_rules.proofs.on_rules.Statement.{statement}
 use Rattle.cell_rules.proofs.on_rules.Tie as tie

@@ -1,6 +1,6 @@
 -- The bits of rules 16 to 19, added.
-use Rattle.cell_rules.specs.Word.{one-bit, more-bits}
-use Rattle.cell_rules.specs.Tests.{powerTests}
+use Rattle.cell_bounds.specs.Word.{one-bit, more-bits}
+use Rattle.cell_bounds.specs.Tests.{powerTests}
 use borrow.Author.Needs.{needs}
 use Rattle.cell_rules.proofs.power_rules.Statement.{statement}
 use Rattle.cell_rules.proofs.power_rules.Tie as tie

@@ -1,6 +1,6 @@
 -- The bits of rules 5 and 6, added.
-use Rattle.cell_rules.specs.Word.{one-bit, more-bits}
-use Rattle.cell_rules.specs.Tests.{rampTests}
+use Rattle.cell_bounds.specs.Word.{one-bit, more-bits}
+use Rattle.cell_bounds.specs.Tests.{rampTests}
 use borrow.Author.Needs.{needs}
 use Rattle.cell_rules.proofs.ramp_rules.Statement.{statement}
 use Rattle.cell_rules.proofs.ramp_rules.Tie as tie

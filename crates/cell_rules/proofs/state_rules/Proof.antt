@@ -1,7 +1,7 @@
 -- The bits of rules 1 to 4, added.
 use mathlib.Core.Path.{refl}
-use Rattle.cell_rules.specs.Word.{one-bit, more-bits}
-use Rattle.cell_rules.specs.Tests.{stateTests}
+use Rattle.cell_bounds.specs.Word.{one-bit, more-bits}
+use Rattle.cell_bounds.specs.Tests.{stateTests}
 use borrow.Author.Needs.{needs}
 use Rattle.cell_rules.proofs.state_rules.Statement.{statement}
 use Rattle.cell_rules.proofs.state_rules.Tie as tie

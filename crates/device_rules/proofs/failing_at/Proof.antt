@@ -3,8 +3,8 @@ use mathlib.Core.Path.{ap, _∙_}
 use mathlib.Core.List.{List}
 use mathlib.Core.Bool.{Bool}
 use Prim.Native.Nat.{ℕ}
-use Rattle.cell_rules.specs.Word.{failingWord}
-use Rattle.device_rules.specs.Moments.{testsAt, same-sizes, same-tests}
+use Rattle.cell_bounds.specs.Word.{failingWord}
+use Rattle.moments.specs.Moments.{testsAt, same-sizes, same-tests}
 use borrow.Author.Needs.{needs}
 use Rattle.device_rules.proofs.failing_at.Statement.{statement}
 use Rattle.device_rules.proofs.failing_at.Tie as tie

@@ -4,7 +4,7 @@ use mathlib.Core.List.{List, []}
 use mathlib.Core.Bool.{Bool}
 use Prim.Native.Nat.{ℕ}
 use Rattle.model.specs.Breaches.{failing}
-use Rattle.device_rules.specs.Moments.{testsAt, same-sizes, same-tests}
+use Rattle.moments.specs.Moments.{testsAt, same-sizes, same-tests}
 use borrow.Author.Needs.{needs}
 use Rattle.device_rules.proofs.held_at.Statement.{statement}
 use Rattle.device_rules.proofs.held_at.Tie as tie

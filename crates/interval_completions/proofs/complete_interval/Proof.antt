@@ -5,7 +5,7 @@ use native.Mathlib.Omega.{arith}
 use lib.ListN.{length}
 use Rattle.records.specs.Ranged.{half-small}
 use Rattle.records.specs.Views.{mostDevices}
-use Rattle.slacks.specs.Sides.{powered}
+use Rattle.mismatches.specs.Sides.{powered}
 use Rattle.model.specs.Editions.{mostZones}
 use Rattle.money.specs.Bounds.{cellMost, zoneMost, mismatchCostMost, intervalMost}
 use Rattle.money.specs.Entries.{spare-after, spare-less, spare-room}

@@ -5,7 +5,7 @@ use native.Mathlib.Omega.{arith}
 use lib.ListN.{length}
 use Rattle.pen.specs.Runs.{room-at}
 use Rattle.row_places.specs.declared.Front.{Front}
-use Rattle.slacks.specs.Sums.{zoned}
+use Rattle.zone_totals.specs.Sums.{zoned}
 use Rattle.model.specs.Editions.{mostZones}
 use Rattle.money.specs.Bounds.{zoneMost}
 use Rattle.money.specs.Entries.{spare-after, spare-room}

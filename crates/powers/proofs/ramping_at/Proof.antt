@@ -1,7 +1,7 @@
 -- Four of the device's figures.
 use mathlib.Core.Path.{ap}
 use Rattle.row_places.specs.declared.Device.{Device}
-use Rattle.powers.specs.Changes.{rampingOf}
+use Rattle.ramped_powers.specs.Changes.{rampingOf}
 use borrow.Author.Needs.{needs}
 use Rattle.powers.proofs.ramping_at.Statement.{statement}
 use Rattle.powers.proofs.ramping_at.Tie as tie

@@ -1,4 +1,0 @@
-pub mod Sides
-pub mod Sums
-pub mod Needs
-pub mod Energies
