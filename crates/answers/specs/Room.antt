@@ -18,7 +18,7 @@ use Rattle.model.specs.Editions.{batch}
 use Rattle.model.specs.Ours.{ours}
 use Rattle.model.specs.Judgement.{energyWindows, ourSurplus, completionBytes, accepts, verdict, judged, withPlan}
 use Rattle.model.specs.Batch.{planVerdict}
-use Rattle.completion_writer.specs.Size.{intervalWidth, written-needed}
+use Rattle.completion_size.specs.Size.{intervalWidth, written-needed}
 
 abbrev pub resultRoom : ℕ
 resultRoom = 12288

@@ -27,8 +27,8 @@ use Rattle.model.specs.Judgement.{completionIn}
 use Rattle.pen.specs.declared.Pen.{Pen}
 use Rattle.pen.specs.Pens.{Ready, Pushes, Finishes, pushes-then}
 use Rattle.pen.specs.Runs.{run, fresh, Room, pushes-as, pushes-whole, run-none, run-more}
-use Rattle.completion_writer.specs.Fields.{choiceIn, sixOf}
-use Rattle.completion_writer.specs.Size.{frontWidth, deviceWidth, zoneWidth, mismatchWidth, overrunWidth, surplusWidth, intervalWidth, needed}
+use Rattle.field_groups.specs.Fields.{choiceIn, sixOf}
+use Rattle.completion_size.specs.Size.{frontWidth, deviceWidth, zoneWidth, mismatchWidth, overrunWidth, surplusWidth, intervalWidth, needed}
 
 -- ---- lists written one element behind the other
 

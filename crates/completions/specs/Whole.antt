@@ -19,8 +19,8 @@ use Rattle.pen.specs.Runs.{fresh, Room, run, pushes-as}
 use Rattle.row_places.specs.declared.Front.{Front}
 use Rattle.records.specs.Views.{systemIn, caseIn, planIn, CaseRows}
 use Rattle.records.specs.Viewed as Viewed
-use Rattle.completion_writer.specs.Fields.{countsIn}
-use Rattle.completion_writer.specs.Size.{frontWidth, surplusWidth, overrunWidth, intervalWidth, needed, written-needed}
+use Rattle.field_groups.specs.Fields.{countsIn}
+use Rattle.completion_size.specs.Size.{frontWidth, surplusWidth, overrunWidth, intervalWidth, needed, written-needed}
 use Rattle.completion_writer.specs.Whole as W
 use Rattle.completion_writer.specs.Whole.{intervalBits, overrunBits, windowsTo}
 use Rattle.completions.specs.Windows.{windowsUpTo, windows-up-to, windows-whole}

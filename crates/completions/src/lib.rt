@@ -1,8 +1,8 @@
 // Our completion of a plan that breaks no rule, as its message: the intervals, the overruns, and the surplus behind them.
-use completion_writer::bytes_needed;
-use completion_writer::put_front;
+use completion_size::bytes_needed;
 use completion_writer::put_surplus;
 use device_rows::energies_at;
+use front_writer::put_front;
 use grains::empty_ledger;
 use interval_completions::complete_intervals;
 use overrun_completions::complete_overruns;

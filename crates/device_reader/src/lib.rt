@@ -5,9 +5,9 @@ use fields::Went;
 use grains::Grains;
 use kilowatts::Kw;
 use layouts::Place;
-use list_reader::ItemsRead;
-use list_reader::Listed;
 use row_places::Device;
+use window_ends::ItemsRead;
+use window_ends::Listed;
 ghost use mathlib.Core.Path.{_≡_};
 ghost use mathlib.Core.Bool.{true};
 ghost use Prim.Native.Nat.{_-_, _*_, _%_, _^_, _≤_};
@@ -252,9 +252,9 @@ fn device_of(
     let ramps = figures.ramps;
     let costs = figures.costs;
     let limits = limits_of(figures);
-    let state_items = list_reader::states_of(states);
-    let start_items = list_reader::starts_of(starts);
-    let energy_items = list_reader::energies_of(energies);
+    let state_items = list_records::states_of(states);
+    let start_items = list_records::starts_of(starts);
+    let energy_items = list_records::energies_of(energies);
     Device {
         side: sides.side,
         zonebits: sides.zonebits,

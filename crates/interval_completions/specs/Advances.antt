@@ -14,7 +14,7 @@ use Rattle.records.specs.Views.{systemIn, caseIn, planIn}
 use Rattle.money.specs.Bounds.{cellMost, zoneMost, intervalMost}
 use Rattle.money.specs.Terms.{our, cellBalance}
 use Rattle.slack_money.specs.Day.{intervalBalance}
-use Rattle.completion_writer.specs.Size.{deviceWidth, zoneWidth, intervalWidth}
+use Rattle.completion_size.specs.Size.{deviceWidth, zoneWidth, intervalWidth}
 use Rattle.completion_writer.specs.Whole.{deviceBits, zoneBits, intervalBits}
 use Rattle.progress.specs.declared.Progress.{Progress}
 use Rattle.progress.specs.Advances.{Advances}

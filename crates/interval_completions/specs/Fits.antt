@@ -19,7 +19,7 @@ use Rattle.records.specs.Viewed as Viewed
 use Rattle.choices.specs.declared.Choice.{Choice}
 use Rattle.choices.specs.Here.{OurChoice}
 use Rattle.money.specs.Unbroken.{Unbroken, plan-range, system-range, few-devices}
-use Rattle.completion_writer.specs.Fields.{choiceIn, sixOf}
+use Rattle.field_groups.specs.Fields.{choiceIn, sixOf}
 use Rattle.completion_writer.specs.Whole.{deviceAt, sixAt, choice-at, six-at}
 
 module _ {front : Front} {halves : List ℕ} {zones minima devices cells settings : List (List ℕ)} {starts powers : List ℕ}

@@ -43,8 +43,8 @@ use Rattle.money.specs.Terms.{cellBalance, CellEntered}
 use Rattle.money.specs.Here as Cells
 use Rattle.slack_money.specs.Charges.{ZoneOf, ZoneEntered, IntervalOf, MismatchEntered}
 use Rattle.slack_money.specs.Here as Here
-use Rattle.completion_writer.specs.Fields.{choiceIn, sixOf}
-use Rattle.completion_writer.specs.Size.{deviceWidth, zoneWidth, mismatchWidth}
+use Rattle.field_groups.specs.Fields.{choiceIn, sixOf}
+use Rattle.completion_size.specs.Size.{deviceWidth, zoneWidth, mismatchWidth}
 use Rattle.completion_writer.specs.Whole.{deviceBits, zoneBits, interval-pushes}
 use Rattle.progress.specs.declared.Progress.{Progress}
 use Rattle.progress.specs.Advances.{Advances, along}

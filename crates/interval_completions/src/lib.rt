@@ -1,7 +1,7 @@
 // The intervals of our completion: each figure is computed once, its money entered in a ledger and its bits written behind those before it.
 use cell_rows::cell_at;
+use choice_writer::put_choice;
 use choices::choose;
-use completion_writer::put_choice;
 use completion_writer::put_mismatch;
 use completion_writer::put_shortfalls;
 use kilowatts::Kw;
@@ -30,7 +30,7 @@ ghost use Rattle.model.specs.Editions.{mostZones};
 ghost use Rattle.money.specs.Bounds.{cellMost, zoneMost, intervalMost};
 ghost use Rattle.money.specs.Entries.{Spare};
 ghost use Rattle.money.specs.Unbroken.{Unbroken};
-ghost use Rattle.completion_writer.specs.Size.{deviceWidth, zoneWidth, intervalWidth};
+ghost use Rattle.completion_size.specs.Size.{deviceWidth, zoneWidth, intervalWidth};
 ghost use Rattle.interval_completions.specs.Advances.{DevicesAdvance, ZonesAdvance, IntervalAdvances, IntervalsAdvance};
 
 // The devices of interval t: "per device started, stopped, startup state, four block powers".

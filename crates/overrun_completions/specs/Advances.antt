@@ -18,7 +18,7 @@ use Rattle.money.specs.Bounds.{overrunCostMost, windowsCostMost}
 use Rattle.money.specs.Entries.{entered-as, entries-none, entries-next}
 use Rattle.slack_money.specs.Charges.{overrunBalance}
 use Rattle.slack_money.specs.Day.{windowsBalance}
-use Rattle.completion_writer.specs.Size.{overrunWidth}
+use Rattle.completion_size.specs.Size.{overrunWidth}
 use Rattle.completion_writer.specs.Whole as W
 use Rattle.completion_writer.specs.Whole.{overrunBits, windowsOf, windowsTo}
 use Rattle.progress.specs.declared.Progress.{Progress}

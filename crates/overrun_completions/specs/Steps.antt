@@ -27,7 +27,7 @@ use Rattle.money.specs.Unbroken.{Unbroken}
 use Rattle.slack_money.specs.Charges.{OverrunOf, OverrunEntered, overrunBalance}
 use Rattle.slack_money.specs.Day.{windows-entered}
 use Rattle.slack_money.specs.Here as Here
-use Rattle.completion_writer.specs.Size.{overrunWidth}
+use Rattle.completion_size.specs.Size.{overrunWidth}
 use Rattle.completion_writer.specs.Whole.{overrunBits, windowsOf, windowsTo, overruns-room}
 use Rattle.progress.specs.declared.Progress.{Progress}
 use Rattle.progress.specs.Advances.{Advances, along}

@@ -21,7 +21,7 @@ ghost use Rattle.records.specs.Views.{mostDevices, systemIn};
 ghost use Rattle.money.specs.Bounds.{windowsCostMost};
 ghost use Rattle.money.specs.Entries.{Spare};
 ghost use Rattle.money.specs.Unbroken.{Unbroken};
-ghost use Rattle.completion_writer.specs.Size.{overrunWidth};
+ghost use Rattle.completion_size.specs.Size.{overrunWidth};
 ghost use Rattle.completion_writer.specs.Whole.{windowsOf};
 ghost use Rattle.overrun_completions.specs.Advances.{WindowsAdvance, OverrunsAdvance};
 

@@ -23,10 +23,10 @@ use Rattle.field_rows.specs.Each.{list-natural}
 use Rattle.numbers.specs.Rows.{rows-same}
 use Rattle.field_rows.specs.Going.{Reading, reading-none, reading-more, reading-off, reading-done}
 use Rattle.fields.specs.Got.{good, got, told, told-off, went-good, went-bad}
-use Rattle.plan_reader.specs.Settings.{settingHeld}
+use Rattle.setting_words.specs.Settings.{settingHeld}
 use Rattle.plan_reader.specs.Rows.{rowAt, intervalAt, IntervalDone}
-use Rattle.plan_reader.specs.Plans.{PlanRoom}
-use Rattle.plan_reader.proofs.Steps.{setting-natural}
+use Rattle.plan_header.specs.Plans.{PlanRoom}
+use Rattle.setting_reader.proofs.Steps.{setting-natural}
 
 -- rows of two devices or two intervals are two
 apart : (m j i u t : ℕ) → u < m → t < m → (j ≡ i → u ≡ t → ⊥) → j * m + u ≡ i * m + t → ⊥

@@ -28,8 +28,8 @@ use Rattle.numbers.specs.Rows.{rows-same}
 use Rattle.fields.specs.Got.{good, bad, got, figured, placed, placed-off, told, told-off, Natural, nat-natural, then-natural, held-natural, goes-on, goes-off, mapped}
 use Rattle.fields.proofs.Steps.{figure-on, figure-off}
 use Rattle.plan_reader.specs.Rows.{rowAt, intervalAt}
-use Rattle.plan_reader.specs.Plans.{header, PlanDone}
-use Rattle.plan_reader.proofs.Steps.{setting-natural}
+use Rattle.plan_header.specs.Plans.{header, PlanDone}
+use Rattle.setting_reader.proofs.Steps.{setting-natural}
 
 planned-natural : (e n m : ℕ) → Natural (list m (planned e n))
 planned-natural e n m = list-natural m (list-natural n (setting-natural e))

@@ -21,7 +21,7 @@ use Rattle.row_places.specs.declared.Front.{Front}
 use Rattle.row_places.specs.declared.Counts.{Counts}
 use Rattle.records.specs.Views.{planIn}
 use Rattle.records.specs.Viewed.{devices-are, intervals-are, zones-are}
-use Rattle.plan_reader.specs.Plans.{PlanDone}
+use Rattle.plan_header.specs.Plans.{PlanDone}
 use Rattle.case_reader.specs.Whole.{CaseDone}
 use Rattle.plan_unit.specs.declared.Inspected.the-variants as I
 use Rattle.plan_unit.specs.Decoded.{Decoded, Work, Planned, statedRows, statedFirst, DecodedFirst}

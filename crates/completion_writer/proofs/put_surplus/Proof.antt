@@ -3,7 +3,7 @@ use mir.Syntax.{w64}
 use mir.ValLaws.{toZ-ofZ}
 use Rattle.bits.specs.Twos.{toTwos}
 use Rattle.pen.specs.Runs.{pushes-as}
-use Rattle.completion_writer.specs.Groups.{both-pushed}
+use Rattle.field_groups.specs.Groups.{both-pushed}
 use Rattle.completion_writer.proofs.Parts.{surplus-is}
 use borrow.Author.Needs.{needs}
 use Rattle.completion_writer.proofs.put_surplus.Statement.{statement}

@@ -3,7 +3,7 @@ use mathlib.Core.Path.{ap, _∙_}
 use native.Mathlib.Omega.{arith}
 use Prim.Native.Nat.{ℕ}
 use lib.ListN.{length}
-use Rattle.completion_writer.specs.Size.{needed}
+use Rattle.completion_size.specs.Size.{needed}
 use Rattle.completions.specs.Windows.{few-windows}
 use Rattle.completions.proofs.completion_bytes.Statement.{statement}
 use Rattle.completions.proofs.completion_bytes.Tie as tie

@@ -9,7 +9,7 @@ use Rattle.money.specs.Bounds.{cellMost}
 use Rattle.records.specs.Views.{mostDevices}
 use Rattle.money.specs.Entries.{spare-after, spare-room}
 use Rattle.money.specs.Unbroken.{Unbroken, part-of}
-use Rattle.completion_writer.specs.Size.{deviceWidth}
+use Rattle.completion_size.specs.Size.{deviceWidth}
 use Rattle.progress.specs.Advances.{advances-none, advances-next, advances-done}
 use Rattle.interval_completions.specs.Advances.{DevicesAdvance}
 use Rattle.interval_completions.specs.Steps.{place-of, cell-of, device-fits, ruled, device-done}

@@ -6,7 +6,7 @@ use Rattle.pen.specs.Runs.{room-at}
 use Rattle.records.specs.Views.{mostIntervals}
 use Rattle.money.specs.Bounds.{intervalMost}
 use Rattle.money.specs.Entries.{spare-after}
-use Rattle.completion_writer.specs.Size.{intervalWidth}
+use Rattle.completion_size.specs.Size.{intervalWidth}
 use Rattle.progress.specs.Advances.{advances-none, advances-next, advances-done}
 use Rattle.interval_completions.specs.Advances.{IntervalsAdvance}
 use Rattle.interval_completions.proofs.complete_intervals.Statement.{statement}

@@ -10,7 +10,7 @@ use Rattle.model.specs.Editions.{mostZones}
 use Rattle.money.specs.Bounds.{zoneMost}
 use Rattle.money.specs.Entries.{spare-after, spare-room}
 use Rattle.money.specs.Unbroken.{Unbroken}
-use Rattle.completion_writer.specs.Size.{zoneWidth}
+use Rattle.completion_size.specs.Size.{zoneWidth}
 use Rattle.progress.specs.Advances.{advances-none, advances-next, advances-done}
 use Rattle.interval_completions.specs.Advances.{ZonesAdvance}
 use Rattle.interval_completions.specs.Steps.{in-minima, next-small, shares-small, zone-fits, zone-of, zone-done}

@@ -5,7 +5,7 @@ use Rattle.pen.specs.Runs.{room-at}
 use Rattle.money.specs.Bounds.{overrunCostMost, windowsCostMost}
 use Rattle.money.specs.Unbroken.{part-of}
 use Rattle.money.specs.Entries.{spare-after, spare-room}
-use Rattle.completion_writer.specs.Size.{overrunWidth}
+use Rattle.completion_size.specs.Size.{overrunWidth}
 use Rattle.overrun_completions.specs.Fits.{windows-are}
 use Rattle.progress.specs.Advances.{advances-none, advances-next, advances-done}
 use Rattle.overrun_completions.specs.Advances.{FirstWindowsAdvance}

@@ -1,0 +1,115 @@
+// A plan's setting of every edition, read against its layout: quickly where that answers, else field by field.
+ghost use mathlib.Core.Path.{_≡_};
+ghost use Prim.Native.Nat.{_+_};
+ghost use Rattle.model.specs.ByEdition.{setting};
+ghost use Rattle.records.specs.Views.{eightIn};
+ghost use Rattle.ranges.specs.Kept.{reservesOf};
+ghost use Rattle.fields.specs.Got.{got, placed, told};
+ghost use Rattle.setting_words.specs.Settings.{active, activeIn, settingHeld};
+use fields::Figure;
+use fields::Went;
+use kilowatts::Kw;
+use layouts::Place;
+use row_places::Reserves;
+use row_places::Setting;
+use setting_words::ACTIVE_BITS;
+use setting_words::Active;
+use setting_words::KW_BITS;
+use setting_words::MOST_KW;
+use setting_words::no_active;
+use setting_words::quick_active;
+
+pub struct ActiveRead {
+    pub went: Went,
+    pub active: Active,
+}
+
+pub struct SettingRead {
+    pub went: Went,
+    pub setting: Setting,
+}
+
+// "The eight, in order".
+fn reserves_of(v: [u32; 8]) -> Reserves
+    ensures { λ r. ⌜ eightIn r ≡ reservesOf v ⌝ }
+{
+    Reserves {
+        rgu: Kw(v[0]),
+        rgd: Kw(v[1]),
+        scr: Kw(v[2]),
+        nsc: Kw(v[3]),
+        rruon: Kw(v[4]),
+        rruoff: Kw(v[5]),
+        rrdon: Kw(v[6]),
+        rrdoff: Kw(v[7]),
+    }
+}
+
+// A field that was refused.
+fn refused(f: Figure) -> ActiveRead
+    ensures { λ r. ⌜ r .went ≡ placed f ⌝ }
+{
+    let went = fields::place_of(f);
+    let active = no_active();
+    ActiveRead { went, active }
+}
+
+// Field by field: from here comes every refusal.
+fn exact_active(s: &[u8], p: Place) -> ActiveRead
+    ensures { λ r. ⌜ told (r .went) (activeIn (r .active)) ≡ got active (now (s .entry)) p ⌝ }
+{
+    let first = fields::read_figure(s, p, 1, 0, 1);
+    let Figure::Good(on, p1) = first else {
+        return refused(first);
+    };
+    let second = fields::read_figure(s, p1, KW_BITS, 0, MOST_KW);
+    let Figure::Good(online, p2) = second else {
+        return refused(second);
+    };
+    let eight = field_rows::read_eight(s, p2, KW_BITS, MOST_KW);
+    let values = eight.values;
+    let reserves = reserves_of(values);
+    let active = Active {
+        on,
+        online: Kw(online),
+        reserves,
+    };
+    let went = eight.went;
+    ActiveRead { went, active }
+}
+
+// Quickly where that answers, else exactly.
+fn read_active(s: &[u8], p: Place) -> ActiveRead
+    ensures { λ r. ⌜ told (r .went) (activeIn (r .active)) ≡ got active (now (s .entry)) p ⌝ }
+{
+    let at = p.at;
+    let clash = p.clash;
+    let quick = quick_active(s, at);
+    if quick.ok {
+        let active = quick.active;
+        let went = Went::On(Place {
+            at: at + ACTIVE_BITS,
+            clash,
+        });
+        return ActiveRead { went, active };
+    }
+    exact_active(s, p)
+}
+
+// A setting of an edition: the figures that every edition has.
+pub fn read_setting(s: &[u8], p: Place, edition: u32) -> SettingRead
+    ensures { λ r. ⌜ told (r .went) (settingHeld (r .setting)) ≡ got (setting edition) (now (s .entry)) p ⌝ }
+{
+    let read = read_active(s, p);
+    let active = read.active;
+    let on = active.on;
+    let online = active.online;
+    let reserves = active.reserves;
+    let setting = Setting {
+        on,
+        online,
+        reserves,
+    };
+    let went = read.went;
+    SettingRead { went, setting }
+}
