@@ -31,7 +31,7 @@ use Rattle.numbers.specs.Rows.{rows-same, rows-map}
 use Rattle.zone_reader.proofs.ZoneSteps.{zone-natural}
 use Rattle.device_reader.specs.Devices.{device-natural}
 use Rattle.front_reader.specs.Fronts.{frontIn, Halves}
-use Rattle.case_reader.specs.Tables.{Fits, zonesIn, devicesIn, DevicesDone}
+use Rattle.zone_table.specs.Tables.{Fits, zonesIn, devicesIn, DevicesDone}
 use Rattle.case_reader.specs.Whole.{caseOf, madeOf, bodyGot, BodyRoom, BodyDone}
 
 -- what is read is within its ranges

@@ -1,4 +1,2 @@
-pub mod PartSteps
-pub mod DeviceSteps
 pub mod Body
 pub mod Ends

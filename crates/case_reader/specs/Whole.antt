@@ -25,7 +25,7 @@ use Rattle.fields.specs.declared.Ending.the-variants.{Passes, Fails}
 use Rattle.fields.specs.Got.{Got, good, bad, got, told}
 use Rattle.fields.specs.Ended.{ended}
 use Rattle.front_reader.specs.Fronts.{largest, Within, frontIn}
-use Rattle.case_reader.specs.Tables.{Fits, Manned}
+use Rattle.zone_table.specs.Tables.{Fits, Manned}
 
 -- tables with room for so many devices and intervals
 pub record CaseRoom (devices intervals : ℕ) (halves : List ℕ) (zoneRows minimaRows deviceRows cellRows : List (List ℕ)) : Type 0 where

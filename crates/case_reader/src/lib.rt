@@ -1,7 +1,4 @@
 // A case message of every edition, read once into the rows of lent tables. The largest counts that are taken are the caller's.
-mod devices;
-mod zones;
-
 use fields::Ending;
 use fields::Went;
 use front_reader::FrontRead;
@@ -49,11 +46,11 @@ fn read_body(
         return durations;
     };
     let last = front_reader::last_end(halves, m);
-    let zoned = zones::read_zones(s, at_zones, edition, counts.zones, m, zones, minima);
+    let zoned = zone_table::read_zones(s, at_zones, edition, counts.zones, m, zones, minima);
     let Went::On(at_devices) = zoned else {
         return zoned;
     };
-    devices::read_devices(
+    device_table::read_devices(
         s,
         at_devices,
         edition,

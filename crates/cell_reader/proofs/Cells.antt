@@ -28,13 +28,13 @@ use Rattle.fields.specs.Got.{goes-on, goes-off, mapped, told-off, went-good, we
 use Rattle.field_rows.specs.Each.{counted-natural}
 use Rattle.field_rows.specs.Going.{Storing, storing-none, storing-more, storing-off, storing-done}
 use Rattle.field_rows.proofs.Steps.{eight-natural}
-use Rattle.cell_reader.specs.declared.LimitsRead.{LimitsRead}
-use Rattle.cell_reader.specs.declared.Block.{Block}
-use Rattle.cell_reader.specs.declared.BlocksRead.{BlocksRead}
-use Rattle.cell_reader.specs.Groups.{limits, blocks, reservePrices, limitsIn, blockIn, noBlock, BlocksDone, pricesOf, cellWith}
+use Rattle.cell_groups.specs.declared.LimitsRead.{LimitsRead}
+use Rattle.cell_groups.specs.declared.Block.{Block}
+use Rattle.cell_groups.specs.declared.BlocksRead.{BlocksRead}
+use Rattle.cell_groups.specs.Groups.{limits, blocks, reservePrices, limitsIn, blockIn, noBlock, BlocksDone, pricesOf, cellWith}
 use Rattle.cell_reader.specs.Cells.{CellDone, CellsDone}
-use Rattle.cell_reader.proofs.Limits.{limits-natural}
-use Rattle.cell_reader.proofs.Blocks.{block-natural}
+use Rattle.cell_groups.proofs.Limits.{limits-natural}
+use Rattle.blocks_reader.proofs.Blocks.{block-natural}
 
 -- ---- the layout
 

@@ -1,0 +1,92 @@
+-- One block, and the turns of the loop that reads a cell's blocks.
+use mathlib.Core.Path.{_≡_, refl, sym, ap, _∙_}
+use mathlib.Core.List.{List}
+use Prim.Native.Nat.{ℕ, zero, suc, _+_, _≤_, _<_}
+use native.Mathlib.Omega.{arith}
+use lib.IntN.{ℤ}
+use lib.ListN.{length, getD, set, length-set, replicate}
+use lib.Seq.{getD-set-other}
+use Rattle.layouts.specs.declared.Fault.{Fault}
+use Rattle.layouts.specs.declared.Place.{Place}
+use Rattle.layouts.specs.Layout.{nat, int, countOf}
+use Rattle.model.specs.Messages.{kW}
+use Rattle.fields.specs.declared.Figure.{Figure}
+use Rattle.fields.specs.declared.Figure.the-variants as F
+use Rattle.fields.specs.declared.Went.{Went}
+use Rattle.fields.specs.declared.Went.the-variants as W
+use Rattle.records.specs.Views.{less, priceOffset}
+use Rattle.fields.specs.Got.{good, got, told, figured, kept, placed, Natural, nat-natural, int-natural, then-natural}
+use Rattle.fields.specs.Got.{nat-within, counted-on, counted-off, placed-off, told-off, went-good, went-bad}
+use Rattle.field_rows.specs.Going.{Storing, storing-none, storing-more, storing-off, storing-done}
+use Rattle.fields.proofs.Steps.{figure-on, figure-off, pair-no-first, pair-no-second, pair-both}
+use Rattle.cell_groups.specs.declared.Block.{Block}
+use Rattle.cell_groups.specs.Groups.{block, blockIn, noBlock, BlocksDone}
+
+-- ---- one block
+
+pub block-natural : (e : ℕ) → Natural (block e)
+block-natural e = then-natural (nat-natural _) (λ a. int-natural 15 10000)
+
+module _ (e : ℕ) (s : List ℕ) (p : Place) {r : Figure} (c : figured r ≡ got kW s p) where
+  pub no-cap : {w v : Went} (b : ℕ × ℤ) {f : Fault} → r ≡ F.Bad f → v ≡ placed r → w ≡ v → told w b ≡ got (block e) s p
+  no-cap b t d o = told-off b (o ∙ placed-off d t) (pair-no-first 17 0 100000 15 10000 s p c t)
+
+  module _ {cap : ℕ} {q : Place} (t : r ≡ F.Good cap q) {x : Figure} (h : kept 10000 x ≡ got (int 15 10000) s q) where
+    pub no-price : {w v : Went} (b : ℕ × ℤ) {f : Fault} → x ≡ F.Bad f → v ≡ placed x → w ≡ v → told w b ≡ got (block e) s p
+    no-price b g d o = told-off b (o ∙ placed-off d g) (pair-no-second 17 0 100000 15 10000 s p c t h g)
+
+    pub block-done : {price : ℕ} {z : Place} → x ≡ F.Good price z → good (cap, less priceOffset price) z ≡ got (block e) s p
+    block-done g = sym (pair-both 17 0 100000 15 10000 s p c t h g)
+
+-- ---- the blocks
+
+-- i of n blocks have been read, and the others have cap 0
+pub record Blocking (e : ℕ) (s : List ℕ) (n : ℕ) (start : Place) (i : ℕ) (bs : List Block) (p : Place) : Type 0 where
+  pub few : n ≤ 4
+  pub long : length bs ≡ 4
+  pub storing : Storing (block e) blockIn s n start i bs p
+  pub rest : (k : ℕ) → i ≤ k → k < 4 → getD bs k noBlock .cap .0 ≡ 0
+
+none-there : (k : ℕ) → k < 4 → getD (replicate 4 noBlock) k noBlock .cap .0 ≡ 0
+none-there zero h = refl
+none-there (suc zero) h = refl
+none-there (suc (suc zero)) h = refl
+none-there (suc (suc (suc zero))) h = refl
+none-there (suc (suc (suc (suc k)))) h = absurd (omega arith)
+
+module _ (e : ℕ) (s : List ℕ) (p : Place) where
+  pub no-count : {w : Went} (bs : List Block) {c : Figure} {f : Fault} → length bs ≡ 4 → figured c ≡ got (nat (countOf 3 0 4)) s p → c ≡ F.Bad f → w ≡ placed c
+      → BlocksDone e s p (record { went = w; count = 0; blocks = bs })
+  no-count bs l h t d = record {
+    is = told-off _ (placed-off d t) (counted-off (countOf 3 0 4) (block e) s p (figure-off h t));
+    long = l;
+    absent = λ q k. absurd (let o = placed-off d t in let z : _≡_ {A = ℕ} 0 1 = cc in omega (arith, z));
+  }
+
+  pub blocking-none : {c : Figure} {n : ℕ} {start : Place} → figured c ≡ got (nat (countOf 3 0 4)) s p → c ≡ F.Good n start
+      → Blocking e s n start 0 (replicate 4 noBlock) start
+  blocking-none h t = let few = nat-within (countOf 3 0 4) s p (figure-on h t) .1 in record { few = few; long = refl; storing = storing-none (omega arith); rest = λ k l m. none-there k m }
+
+module _ {e : ℕ} {s : List ℕ} {n : ℕ} {start : Place} {i : ℕ} {bs : List Block} {p : Place} (u : Blocking e s n start i bs p) where
+  pub blocking-more : {w : Went} (b : Block) {q : Place} → i < n → told w (blockIn b) ≡ got (block e) s p → w ≡ W.On q → Blocking e s n start (i + 1) (set bs i b) q
+  blocking-more b h g t = record {
+    few = u .few;
+    long = simp length-set (u .long);
+    storing = storing-more (u .storing) (block-natural e) h (went-good (blockIn b) g t);
+    rest = λ k l m. ap (λ (x : Block). x .cap .0) (getD-set-other bs i k b noBlock (λ z. omega (arith, z))) ∙ u .rest k (omega arith) m;
+  }
+
+  module _ (o : Place) {c : Figure} (h : figured c ≡ got (nat (countOf 3 0 4)) s o) (t : c ≡ F.Good n start) where
+    pub blocking-off : {w : Went} (b : Block) {f : Fault} → i < n → told w (blockIn b) ≡ got (block e) s p → w ≡ W.Off f → BlocksDone e s o (record { went = w; count = 0; blocks = bs })
+    blocking-off b l g d = record {
+      is = told-off _ d (counted-on (countOf 3 0 4) (block e) s o (figure-on h t) ∙ storing-off (u .storing) (block-natural e) l (went-bad (blockIn b) g d));
+      long = u .long;
+      absent = λ q k. absurd (let z : _≡_ {A = ℕ} 0 1 = cc in omega (arith, z));
+    }
+
+    pub blocking-done : n ≤ i → BlocksDone e s o (record { went = W.On p; count = n; blocks = bs })
+    blocking-done l = record {
+      is = sym (counted-on (countOf 3 0 4) (block e) s o (figure-on h t) ∙ storing-done (u .storing) l);
+      long = u .long;
+      absent = λ q k. record { few = u .few; rest = λ k m o. u .rest k (omega (arith, u .storing .within)) o };
+    }

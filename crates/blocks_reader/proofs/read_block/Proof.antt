@@ -1,0 +1,61 @@
+use borrow.Author.Needs.{needs}
+use Rattle.blocks_reader.proofs.Blocks.{no-cap, no-price, block-done}
+use Rattle.blocks_reader.proofs.read_block.Statement.{statement}
+use Rattle.blocks_reader.proofs.read_block.Tie as tie
+
+read-figure-requires : tie.Need-read-figure-requires
+read-figure-requires c κs = search needs
+
+enum-known-cap : tie.Need-enum-known-cap
+enum-known-cap c = search needs
+
+enum-told : tie.Need-enum-told
+enum-told c = search needs
+
+place-of-requires : tie.Need-place-of-requires
+place-of-requires c κs = search needs
+
+no-block-requires : tie.Need-no-block-requires
+no-block-requires c κs = search needs
+
+returns : tie.Need-returns
+returns c = search no-cap
+
+read-offset-requires : tie.Need-read-offset-requires
+read-offset-requires c κs = search needs
+
+enum-known-price : tie.Need-enum-known-price
+enum-known-price c = search needs
+
+enum-told-2 : tie.Need-enum-told-2
+enum-told-2 c = search needs
+
+place-of-requires-2 : tie.Need-place-of-requires-2
+place-of-requires-2 c κs = search needs
+
+no-block-requires-2 : tie.Need-no-block-requires-2
+no-block-requires-2 c κs = search needs
+
+returns-2 : tie.Need-returns-2
+returns-2 c = search no-price
+
+returns-3 : tie.Need-returns-3
+returns-3 c = search block-done
+
+pub read-block-spec : {M : Type 1} → statement M
+read-block-spec =
+    tie.close
+    (tie.spec
+    read-figure-requires
+    enum-known-cap
+    enum-told
+    place-of-requires
+    no-block-requires
+    returns
+    read-offset-requires
+    enum-known-price
+    enum-told-2
+    place-of-requires-2
+    no-block-requires-2
+    returns-2
+    returns-3)

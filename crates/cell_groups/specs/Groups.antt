@@ -1,0 +1,76 @@
+-- The groups of a cell's fields: limits, blocks, the prices of the eight; and the cell that they make.
+use mathlib.Core.Path.{_≡_}
+use mathlib.Core.List.{List, [], _∷_, map}
+use Prim.Native.Nat.{ℕ, _≤_, _<_}
+use lib.Dec.{leb}
+use lib.IntN.{ℤ}
+use lib.ListN.{length, getD, take}
+use Rattle.layouts.specs.declared.Place.{Place}
+use Rattle.layouts.specs.Layout.{Layout, int, _then_, _▸_, such, counted, figure, countOf}
+use Rattle.model.specs.Case as M
+use Rattle.model.specs.Messages.{kW, eight}
+use Rattle.kilowatts.specs.Power.{kw}
+use Rattle.row_places.specs.declared.Cell.{Cell}
+use Rattle.row_places.specs.declared.ReservePrices.{ReservePrices}
+use Rattle.row_places.specs.Figures.{eightPrices}
+use Rattle.records.specs.Views.{less, priceOffset}
+use Rattle.fields.specs.declared.Went.{Went}
+use Rattle.fields.specs.declared.Went.the-variants.{On}
+use Rattle.fields.specs.Got.{got, told}
+use Rattle.cell_groups.specs.declared.LimitsRead.{LimitsRead}
+use Rattle.cell_groups.specs.declared.Block.{Block}
+use Rattle.cell_groups.specs.declared.BlocksRead.{BlocksRead}
+
+-- ---- the layouts, by edition
+
+-- "status 2 (0 free, 1 on, 2 off); pmin, pmax 17 each"; "pmin above pmax"
+abbrev pub limits : Layout (ℕ × (ℕ × ℕ))
+limits = figure 2 0 2 ▸ (kW then (λ low. such (λ high. leb low high) kW))
+
+-- "each cap 17 and price 15 (±10,000)"
+abbrev pub block : ℕ → Layout (ℕ × ℤ)
+block e = kW ▸ int 15 10000
+
+-- "blocks 3 (0..4)"
+abbrev pub blocks : ℕ → Layout (List (ℕ × ℤ))
+blocks e = counted (countOf 3 0 4) (block e)
+
+-- "eight reserve prices 14 each (0..10,000)"
+abbrev pub reservePrices : Layout M.Reserves
+reservePrices = eight (figure 14 0 10000)
+
+-- ---- what the code's records hold of them
+
+abbrev pub limitsIn : LimitsRead → ℕ × (ℕ × ℕ)
+limitsIn r = (r .status, (r .pmin .0, r .pmax .0))
+
+abbrev pub blockIn : Block → ℕ × ℤ
+blockIn b = (b .cap .0, less priceOffset (b .price))
+
+abbrev pub noBlock : Block
+noBlock = record { cap = kw 0; price = 0 }
+
+-- at most four blocks, and from block n on cap 0
+pub record Absent (bs : List Block) (n : ℕ) : Type 0 where
+  pub few : n ≤ 4
+  pub rest : (k : ℕ) → n ≤ k → k < 4 → getD bs k noBlock .cap .0 ≡ 0
+
+pub record BlocksDone (e : ℕ) (s : List ℕ) (p : Place) (r : BlocksRead) : Type 0 where
+  pub is : told (r .went) (map blockIn (take (r .count) (r .blocks))) ≡ got (blocks e) s p
+  pub long : length (r .blocks) ≡ 4
+  pub absent : (q : Place) → r .went ≡ On q → Absent (r .blocks) (r .count)
+
+abbrev pub pricesOf : List ℕ → ReservePrices
+pricesOf v = eightPrices v 0
+
+-- the cell of its groups
+abbrev pub cellWith : LimitsRead → ℕ → List Block → ReservePrices → Cell
+cellWith l n bs reserves = record {
+  status = l .status;
+  pmin = l .pmin;
+  pmax = l .pmax;
+  blocks = n;
+  caps = getD bs 0 noBlock .cap ∷ getD bs 1 noBlock .cap ∷ getD bs 2 noBlock .cap ∷ getD bs 3 noBlock .cap ∷ [];
+  prices = getD bs 0 noBlock .price ∷ getD bs 1 noBlock .price ∷ getD bs 2 noBlock .price ∷ getD bs 3 noBlock .price ∷ [];
+  reserves = reserves;
+}
