@@ -22,17 +22,17 @@ use Rattle.fields.specs.declared.Went.the-variants as W
 use Rattle.fields.specs.Got.{good, bad, got, told, Natural, nat-natural, then-natural, such-natural, mapped, told-off, goes-off}
 use Rattle.field_rows.specs.Each.{each, eachRead, row, row-natural, counted-natural}
 use Rattle.field_rows.proofs.Steps.{eight-natural}
-use Rattle.window_ends.specs.declared.Item.{Item}
-use Rattle.window_ends.specs.declared.Listed.{Listed}
-use Rattle.window_ends.specs.declared.Listed.the-variants.{States, Starts, Energies}
+use Rattle.item_reader.specs.declared.Item.{Item}
+use Rattle.item_reader.specs.declared.Listed.{Listed}
+use Rattle.item_reader.specs.declared.Listed.the-variants.{States, Starts, Energies}
 use Rattle.device_reader.specs.declared.SidesRead.{SidesRead}
 use Rattle.device_reader.specs.declared.FiguresRead.{FiguresRead}
-use Rattle.window_ends.specs.declared.ItemsRead.{ItemsRead}
+use Rattle.item_reader.specs.declared.ItemsRead.{ItemsRead}
 use Rattle.model.specs.Editions.{mostStates}
-use Rattle.window_ends.specs.Items.{itemIn, items, itemsIn, threes, fours, stateFrom, startFrom, energyFrom, ItemsDone, EnergiesMade}
+use Rattle.item_reader.specs.Items.{itemIn, items, itemsIn, threes, fours, stateFrom, startFrom, energyFrom, ItemsDone, EnergiesMade}
 use Rattle.device_reader.specs.Parts.{Figures, sides, initialRow, rampRow, costRow, figures, figuresIn, MoneyMade, limitsFrom, deviceWith, deviceFrom, DeviceMade}
 use Rattle.device_reader.specs.Heads.{Ahead, ahead, aheadOf, HeadDone}
-use Rattle.window_ends.specs.Naturals.{item-natural}
+use Rattle.item_reader.specs.Naturals.{item-natural}
 
 -- ---- the parts
 

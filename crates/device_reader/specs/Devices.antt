@@ -17,8 +17,8 @@ use Rattle.fields.specs.declared.Went.{Went}
 use Rattle.fields.specs.Got.{good, bad, got, told, Natural, nat-natural, int-natural, then-natural, such-natural, held-natural, goes-on, goes-off, mapped}
 use Rattle.field_rows.specs.Each.{list-natural, counted-natural}
 use Rattle.field_rows.proofs.Steps.{eight-natural}
-use Rattle.window_ends.specs.declared.Listed.the-variants.{States, Starts, Energies}
-use Rattle.window_ends.specs.Naturals.{item-natural}
+use Rattle.item_reader.specs.declared.Listed.the-variants.{States, Starts, Energies}
+use Rattle.item_reader.specs.Naturals.{item-natural}
 use Rattle.device_reader.specs.Heads.{Ahead, ahead, aheadOf}
 
 -- ---- any reader goes on from its parts

@@ -17,7 +17,7 @@ use Rattle.records.specs.Views.{less, costOffset, limitsIn, startIn, energyIn, 
 use Rattle.fields.specs.declared.Went.{Went}
 use Rattle.fields.specs.declared.Went.the-variants.{On}
 use Rattle.fields.specs.Got.{got, told}
-use Rattle.window_ends.specs.Items.{state}
+use Rattle.item_reader.specs.Items.{state}
 
 abbrev pub states : Layout (List ℕ × List ℤ)
 states = apart (counted (countOf 3 0 mostStates) state)

@@ -19,8 +19,8 @@ use Rattle.row_places.specs.Figures.{EnergiesSmall}
 use Rattle.field_rows.specs.Each.{row}
 use Rattle.device_reader.specs.declared.SidesRead.{SidesRead}
 use Rattle.device_reader.specs.declared.FiguresRead.{FiguresRead}
-use Rattle.window_ends.specs.declared.ItemsRead.{ItemsRead}
-use Rattle.window_ends.specs.Items.{threes, fours, stateFrom, startFrom, energyFrom}
+use Rattle.item_reader.specs.declared.ItemsRead.{ItemsRead}
+use Rattle.item_reader.specs.Items.{threes, fours, stateFrom, startFrom, energyFrom}
 
 -- "side 1; zone bits 4, zone 1 first"
 abbrev pub sides : ℕ → Layout (ℕ × ℕ)

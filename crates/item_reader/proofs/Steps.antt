@@ -6,9 +6,9 @@ use Rattle.layouts.specs.declared.Place.{Place}
 use Rattle.layouts.specs.Layout.{figure}
 use Rattle.fields.specs.declared.Went.{Went}
 use Rattle.fields.specs.Got.{Got, got, told}
-use Rattle.window_ends.specs.declared.Item.{Item}
-use Rattle.window_ends.specs.declared.Listed.{Listed}
-use Rattle.window_ends.specs.Items.{item, itemIn}
+use Rattle.item_reader.specs.declared.Item.{Item}
+use Rattle.item_reader.specs.declared.Listed.{Listed}
+use Rattle.item_reader.specs.Items.{item, itemIn}
 
 -- ---- a width and a limit that were chosen
 

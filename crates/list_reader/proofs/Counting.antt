@@ -15,12 +15,12 @@ use Rattle.fields.specs.declared.Went.the-variants as W
 use Rattle.fields.specs.Got.{bad, got, told, figured, placed, nat-within, counted-on, counted-off, placed-off, told-off, went-good, went-bad}
 use Rattle.field_rows.specs.Going.{Storing, storing-none, storing-more, storing-off, storing-done}
 use Rattle.fields.proofs.Steps.{figure-on, figure-off}
-use Rattle.window_ends.specs.declared.Item.{Item}
-use Rattle.window_ends.specs.declared.ItemsRead.{ItemsRead}
-use Rattle.window_ends.specs.declared.Listed.{Listed}
-use Rattle.window_ends.specs.declared.Listed.the-variants.{States, Starts, Energies}
-use Rattle.window_ends.specs.Items.{mostItems, item, itemIn, items, itemsIn, ItemsNone, ItemsDone}
-use Rattle.window_ends.specs.Naturals.{item-natural}
+use Rattle.item_reader.specs.declared.Item.{Item}
+use Rattle.item_reader.specs.declared.ItemsRead.{ItemsRead}
+use Rattle.item_reader.specs.declared.Listed.{Listed}
+use Rattle.item_reader.specs.declared.Listed.the-variants.{States, Starts, Energies}
+use Rattle.item_reader.specs.Items.{mostItems, item, itemIn, items, itemsIn, ItemsNone, ItemsDone}
+use Rattle.item_reader.specs.Naturals.{item-natural}
 
 abbrev count : Listed → Field
 count k = countOf 3 0 (mostItems k)

@@ -1,13 +1,13 @@
 // The lists of a device: startup states, start windows, energy windows, each as a count and that many, in every edition.
 ghost use mathlib.Core.Path.{_≡_};
-ghost use Rattle.window_ends.specs.Items.{mostItems, item, ItemsNone, ItemsDone};
+ghost use Rattle.item_reader.specs.Items.{mostItems, item, ItemsNone, ItemsDone};
 use fields::Figure;
 use fields::Went;
+use item_reader::Item;
+use item_reader::ItemsRead;
+use item_reader::Listed;
 use item_reader::read_item;
 use layouts::Place;
-use window_ends::Item;
-use window_ends::ItemsRead;
-use window_ends::Listed;
 
 // "startup states 3 (0..3)"; "start windows 3 (0..4)"; "energy windows 3 (0..4)"
 const MOST_STATES: u32 = 3;

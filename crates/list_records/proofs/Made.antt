@@ -6,8 +6,8 @@ use native.Mathlib.Omega.{arith}
 use lib.ListN.{getD}
 use Rattle.row_places.specs.declared.EnergyWindow.{EnergyWindow}
 use Rattle.row_places.specs.Figures.{noEnergy}
-use Rattle.window_ends.specs.declared.Item.{Item}
-use Rattle.window_ends.specs.Items.{noItem, EnergyMade, EnergiesMade}
+use Rattle.item_reader.specs.declared.Item.{Item}
+use Rattle.item_reader.specs.Items.{noItem, EnergyMade, EnergiesMade}
 
 pub energies-made : (l : List Item) {a b c d : EnergyWindow}
     → EnergyMade (getD l 0 noItem) a → EnergyMade (getD l 1 noItem) b → EnergyMade (getD l 2 noItem) c → EnergyMade (getD l 3 noItem) d → EnergiesMade l (a ∷ b ∷ c ∷ d ∷ [])

@@ -1,12 +1,12 @@
 // The records of a device's lists as they were read.
 ghost use mathlib.Core.Path.{_≡_};
-ghost use Rattle.window_ends.specs.Items.{threes, stateFrom, startFrom, fours, EnergyMade, EnergiesMade};
+ghost use Rattle.item_reader.specs.Items.{threes, stateFrom, startFrom, fours, EnergyMade, EnergiesMade};
 use energy::KwMin;
+use item_reader::Item;
+use item_reader::ItemsRead;
 use row_places::EnergyWindow;
 use row_places::StartWindow;
 use row_places::State;
-use window_ends::Item;
-use window_ends::ItemsRead;
 
 fn state_of(x: Item) -> State
     ensures { λ r. ⌜ r ≡ stateFrom x ⌝ }

@@ -1,6 +1,6 @@
 -- `device_reader::read_head`, part by part. Assumes nothing.
 use Rattle.fields.specs.Got.{went-good, went-bad}
-use Rattle.window_ends.specs.declared.Listed.the-variants.{States, Starts, Energies}
+use Rattle.item_reader.specs.declared.Listed.the-variants.{States, Starts, Energies}
 use Rattle.device_reader.proofs.HeadSteps.{sides-natural, figures-natural, items-natural, windows-natural, lists-natural, rest-natural, partsIn, head-none, head-done}
 use Rattle.fields.proofs.Chains.{then-off, then-late, then-told}
 use borrow.Author.Needs.{needs}

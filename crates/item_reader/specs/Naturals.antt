@@ -5,9 +5,9 @@ use Rattle.model.specs.Editions.{startsBits, mostStarts}
 use Rattle.model.specs.Messages.{windowEnds, energyWindow}
 use Rattle.model.specs.ByEdition.{startWindow}
 use Rattle.fields.specs.Got.{Natural, nat-natural, int-natural, then-natural, such-natural, held-natural}
-use Rattle.window_ends.specs.declared.Listed.{Listed}
-use Rattle.window_ends.specs.declared.Listed.the-variants.{States, Starts, Energies}
-use Rattle.window_ends.specs.Items.{item}
+use Rattle.item_reader.specs.declared.Listed.{Listed}
+use Rattle.item_reader.specs.declared.Listed.the-variants.{States, Starts, Energies}
+use Rattle.item_reader.specs.Items.{item}
 
 pub ends-natural : (last : ℕ) → Natural (windowEnds last)
 unfolding windowEnds

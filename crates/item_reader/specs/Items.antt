@@ -17,10 +17,10 @@ use Rattle.row_places.specs.Figures.{windowOf, EnergiesSmall}
 use Rattle.records.specs.Views.{less, costOffset}
 use Rattle.fields.specs.declared.Went.{Went}
 use Rattle.fields.specs.Got.{got, told}
-use Rattle.window_ends.specs.declared.Item.{Item}
-use Rattle.window_ends.specs.declared.ItemsRead.{ItemsRead}
-use Rattle.window_ends.specs.declared.Listed.{Listed}
-use Rattle.window_ends.specs.declared.Listed.the-variants.{States, Starts, Energies}
+use Rattle.item_reader.specs.declared.Item.{Item}
+use Rattle.item_reader.specs.declared.ItemsRead.{ItemsRead}
+use Rattle.item_reader.specs.declared.Listed.{Listed}
+use Rattle.item_reader.specs.declared.Listed.the-variants.{States, Starts, Energies}
 
 -- "startup states 3 (0..3)"; "start windows 3 (0..4)"; "energy windows 3 (0..4)"
 abbrev pub mostItems : Listed → ℕ

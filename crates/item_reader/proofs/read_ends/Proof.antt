@@ -5,8 +5,8 @@ use Rattle.fields.specs.Got.{nat-natural, such-natural}
 use Rattle.fields.proofs.Steps.{figure-on, figure-off}
 use Rattle.fields.proofs.Chains.{stop, then-off, then-late, then-on, such-off, such-on}
 use borrow.Author.Needs.{needs}
-use Rattle.window_ends.proofs.read_ends.Statement.{statement}
-use Rattle.window_ends.proofs.read_ends.Tie as tie
+use Rattle.item_reader.proofs.read_ends.Statement.{statement}
+use Rattle.item_reader.proofs.read_ends.Tie as tie
 
 read-figure-requires : tie.Need-read-figure-requires
 read-figure-requires c κs = search needs

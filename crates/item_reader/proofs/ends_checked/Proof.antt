@@ -1,8 +1,8 @@
 -- By the two tests.
-use Rattle.window_ends.proofs.Ends.{ends-crossed, ends-late, ends-fine}
+use Rattle.item_reader.proofs.Ends.{ends-crossed, ends-late, ends-fine}
 use borrow.Author.Needs.{needs}
-use Rattle.window_ends.proofs.ends_checked.Statement.{statement}
-use Rattle.window_ends.proofs.ends_checked.Tie as tie
+use Rattle.item_reader.proofs.ends_checked.Statement.{statement}
+use Rattle.item_reader.proofs.ends_checked.Tie as tie
 
 note-requires : tie.Need-note-requires
 note-requires c κs = search needs
