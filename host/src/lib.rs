@@ -1,4 +1,11 @@
-//! Safe wrappers of the plan unit's exported functions (`include/kadunfo.h`).
+//! Safe wrappers of the plan unit's exported functions (`include/kadunfo.h`), and the figures and
+//! sentences of the desk program.
+
+mod comparison;
+pub mod day;
+pub mod describe;
+pub mod explain;
+pub mod message;
 
 extern "C" {
     fn kadunfo_judge(
@@ -11,6 +18,16 @@ extern "C" {
         figures: *mut u64,
         figures_length: usize,
     ) -> u64;
+    fn kadunfo_breaches(
+        case: *const u8,
+        case_length: usize,
+        plan: *const u8,
+        plan_length: usize,
+        list: *mut u8,
+        list_length: usize,
+        figures: *mut u64,
+        figures_length: usize,
+    ) -> u64;
     fn kadunfo_inspect(
         case: *const u8,
         case_length: usize,
@@ -18,6 +35,24 @@ extern "C" {
         figures_length: usize,
     ) -> u64;
 }
+
+/// The words of the header.
+pub mod word {
+    pub const ACCEPTED: u64 = 0;
+    /// The same word from `breaches`.
+    pub const LISTED: u64 = 0;
+    /// The same word from `inspect`; the header has no name of its own for it.
+    pub const INSPECTED: u64 = 0;
+    pub const BROKEN: u64 = 1;
+    pub const CASE_REFUSED: u64 = 2;
+    pub const PLAN_REFUSED: u64 = 3;
+    pub const RESULT_REFUSED: u64 = 4;
+    pub const FIGURES_SHORT: u64 = 5;
+}
+
+/// Bytes that hold every list of breaches: four for each of 19 rules of 16 devices in 48 intervals,
+/// and of 4 windows of each device.
+pub const LONGEST_LIST: usize = 4 * (16 * 48 * 19 + 16 * 4);
 
 /// A word and four numbers, as the header lists them.
 #[derive(Clone, Copy, PartialEq, Eq, Debug)]
@@ -28,16 +63,38 @@ pub struct Told {
 
 /// Judges one plan against one case; acceptance alone writes to `result`.
 pub fn judge(case: &[u8], plan: &[u8], result: &mut [u8]) -> Told {
+    told_of_pair(kadunfo_judge, case, plan, result)
+}
+
+/// Lists every broken rule of one plan in `list`, four bytes each (rule, interval, device, window),
+/// in the order of judging; nothing is written where `list` is too short or a message is refused.
+pub fn breaches(case: &[u8], plan: &[u8], list: &mut [u8]) -> Told {
+    told_of_pair(kadunfo_breaches, case, plan, list)
+}
+
+/// An exported function of a case, a plan, a lent buffer and figures.
+type OfPair = unsafe extern "C" fn(
+    *const u8,
+    usize,
+    *const u8,
+    usize,
+    *mut u8,
+    usize,
+    *mut u64,
+    usize,
+) -> u64;
+
+fn told_of_pair(function: OfPair, case: &[u8], plan: &[u8], buffer: &mut [u8]) -> Told {
     let mut figures = [0u64; 4];
     // SAFETY: each pointer comes with the length of its slice, and the slices do not overlap.
     let word = unsafe {
-        kadunfo_judge(
+        function(
             case.as_ptr(),
             case.len(),
             plan.as_ptr(),
             plan.len(),
-            result.as_mut_ptr(),
-            result.len(),
+            buffer.as_mut_ptr(),
+            buffer.len(),
             figures.as_mut_ptr(),
             figures.len(),
         )

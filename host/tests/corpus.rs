@@ -1,12 +1,30 @@
-//! The corpus through the static library: every verdict, every completion's bytes, and the rest of the buffer, beside the reference.
+//! The corpus through the static library, beside the reference: every verdict and every completion's
+//! bytes, every list of breaches, and the rest of the buffers.
 
-use host::{inspect, judge, Told};
-use reference::batch::messages;
+mod common;
+
+use common::{each_batch, each_pair};
+use host::{breaches, inspect, judge, word, Told, LONGEST_LIST};
+use reference::breaches::breaches as expected_list;
 use reference::case::read_case;
 use reference::judge::{judge as expected, Refusal, Verdict};
-use reference::packed::unpack;
 
 const ROOM: usize = 12_288;
+/// What a buffer holds before a call.
+const BEFORE: u8 = 0xa5;
+
+/// The reference's refusal in the words of the header.
+fn refused(refusal: Refusal) -> Told {
+    let (word, number, place) = match refusal {
+        Refusal::Case(fault) => (2, fault.number.figure(), fault.bit),
+        Refusal::Plan(fault) => (3, fault.number.figure(), fault.bit),
+        Refusal::BufferTooShort { bytes_needed } => (4, 7, bytes_needed),
+    };
+    Told {
+        word,
+        figures: [u64::from(number), place as u64, 0, 0],
+    }
+}
 
 /// The reference's verdict in the words of the header.
 fn told(verdict: Verdict) -> Told {
@@ -21,22 +39,14 @@ fn told(verdict: Verdict) -> Told {
                 place.window as u64,
             ],
         ),
-        Verdict::Refused(Refusal::Case(fault)) => {
-            (2, [fault.number.figure() as u64, fault.bit as u64, 0, 0])
-        }
-        Verdict::Refused(Refusal::Plan(fault)) => {
-            (3, [fault.number.figure() as u64, fault.bit as u64, 0, 0])
-        }
-        Verdict::Refused(Refusal::BufferTooShort { bytes_needed }) => {
-            (4, [7, bytes_needed as u64, 0, 0])
-        }
+        Verdict::Refused(refusal) => return refused(refusal),
     };
     Told { word, figures }
 }
 
 /// Both sides on one pair and one buffer's length: verdict and buffer alike.
 fn agree(case: &[u8], plan: &[u8], room: usize) -> Told {
-    let mut ours = vec![0xa5u8; room];
+    let mut ours = vec![BEFORE; room];
     let mut theirs = ours.clone();
     let answer = judge(case, plan, &mut ours);
     assert_eq!(answer, told(expected(case, plan, &mut theirs)));
@@ -46,14 +56,8 @@ fn agree(case: &[u8], plan: &[u8], room: usize) -> Told {
 
 #[test]
 fn corpus_agrees_in_every_verdict_and_byte() {
-    let path = concat!(env!("CARGO_MANIFEST_DIR"), "/../crates/corpus/stdin");
-    let corpus = std::fs::read(path).expect("the corpus is committed");
     let (mut pairs, mut accepted, mut short) = (0u32, 0u32, 0u32);
-    for batch in unpack(&corpus).expect("a packed stream") {
-        let found = messages(batch);
-        let Some((case, plans)) = found.split_first() else {
-            continue;
-        };
+    each_batch(|case, plans| {
         let counts = inspect(case);
         match read_case(case) {
             Ok(read) => {
@@ -77,7 +81,63 @@ fn corpus_agrees_in_every_verdict_and_byte() {
                 short += 1;
             }
         }
-    }
+    });
     println!("{pairs} pairs, {accepted} accepted, {short} tried with short buffers");
     assert!(accepted > 500 && pairs > 2_000);
+}
+
+/// Both sides on one pair and one list's length: answer and list alike, and the list's bytes.
+fn agree_in_list(case: &[u8], plan: &[u8], room: usize) -> (Told, Vec<u8>) {
+    let mut ours = vec![BEFORE; room];
+    let mut theirs = ours.clone();
+    let answer = breaches(case, plan, &mut ours);
+    let expected = match expected_list(case, plan, &mut theirs) {
+        Ok(count) => Told {
+            word: word::LISTED,
+            figures: [count as u64, 0, 0, 0],
+        },
+        Err(refusal) => refused(refusal),
+    };
+    assert_eq!(answer, expected);
+    assert_eq!(ours, theirs);
+    (answer, ours)
+}
+
+/// A list that has breaches: its first is the one that judging names, it just fits in its bytes,
+/// and one byte fewer is refused with the bytes needed.
+fn try_around_length(case: &[u8], plan: &[u8], list: &[u8]) {
+    let judged = judge(case, plan, &mut []);
+    assert_eq!(judged.word, word::BROKEN);
+    assert_eq!(judged.figures, [0, 1, 2, 3].map(|k| u64::from(list[k])));
+    let (fitting, exact) = agree_in_list(case, plan, list.len());
+    assert_eq!((fitting.word, exact.as_slice()), (word::LISTED, list));
+    let (short, untouched) = agree_in_list(case, plan, list.len() - 1);
+    assert_eq!(short.word, word::RESULT_REFUSED);
+    assert_eq!(short.figures, [7, list.len() as u64, 0, 0]);
+    assert!(untouched.iter().all(|&byte| byte == BEFORE));
+}
+
+#[test]
+fn corpus_agrees_in_every_list() {
+    let (mut none, mut listed, mut refused, mut longest) = (0u32, 0u32, 0u32, 0);
+    each_pair(|case, plan| {
+        let (answer, list) = agree_in_list(case, plan, LONGEST_LIST);
+        if answer.word != word::LISTED {
+            assert_eq!(answer, judge(case, plan, &mut [0; ROOM]));
+            refused += 1;
+        } else if answer.figures[0] == 0 {
+            // An empty list fits where there is no room at all.
+            assert_eq!(agree_in_list(case, plan, 0).0.word, word::LISTED);
+            assert_eq!(judge(case, plan, &mut [0; ROOM]).word, word::ACCEPTED);
+            none += 1;
+        } else {
+            let length = 4 * answer.figures[0] as usize;
+            try_around_length(case, plan, &list[..length]);
+            longest = longest.max(length);
+            listed += 1;
+        }
+    });
+    println!("{none} without a breach, {listed} with, {refused} refused; longest {longest} bytes");
+    assert!(none > 500 && listed > 1_000 && refused > 500);
+    assert!(longest > 50_000 && longest <= LONGEST_LIST);
 }

@@ -2,6 +2,7 @@
 
 use std::fmt;
 
+use crate::breaches::{breaches_of, bytes_of};
 use crate::case::{read_case, Case};
 use crate::fault::{Fault, Number};
 use crate::judge::{find, Finding};
@@ -77,6 +78,8 @@ pub enum Line {
     Broken {
         index: usize,
         place: Place,
+        /// The list of every broken rule, in bytes; no part of the printed line.
+        breaches: Vec<u8>,
     },
     Refused {
         index: usize,
@@ -97,7 +100,7 @@ impl fmt::Display for Line {
                 zones,
             } => write!(out, "{index} case {devices} {intervals} {zones}"),
             Line::Accepted { index, surplus, .. } => write!(out, "{index} accepted {surplus}"),
-            Line::Broken { index, place } => write!(
+            Line::Broken { index, place, .. } => write!(
                 out,
                 "{index} broken {} {} {} {}",
                 place.rule, place.interval, place.device, place.window
@@ -164,7 +167,11 @@ fn judge_message(case: &Case, index: usize, message: &[u8]) -> Line {
     match read_plan(case, message) {
         Err(fault) => Line::Refused { index, fault },
         Ok(plan) => match find(case, &plan) {
-            Finding::Broken(place) => Line::Broken { index, place },
+            Finding::Broken(place) => Line::Broken {
+                index,
+                place,
+                breaches: bytes_of(&breaches_of(case, &plan)),
+            },
             Finding::Accepted { surplus, message } => Line::Accepted {
                 index,
                 surplus,

@@ -3,6 +3,7 @@
 use std::fmt;
 
 use crate::batch::Line;
+use crate::breaches::BREACH_BYTES;
 
 /// Counts of lines.
 #[derive(Clone, PartialEq, Eq, Debug, Default)]
@@ -11,8 +12,11 @@ pub struct Census {
     pub empty_batches: usize,
     pub cases: usize,
     pub accepted: usize,
-    /// By rule, 1 to 20.
+    /// Plans by the first rule that they break, 1 to 20.
     pub broken: [usize; 21],
+    /// Entries in the lists of breaches, by rule.
+    pub listed: [usize; 21],
+    pub longest_list: usize,
     /// By number, 1 to 6.
     pub refused_cases: [usize; 7],
     pub refused_plans: [usize; 7],
@@ -54,7 +58,12 @@ impl Census {
                 let greatest = self.greatest_surplus.get_or_insert(*surplus);
                 *greatest = (*greatest).max(*surplus);
             }
-            Line::Broken { place, .. } => self.broken[usize::from(place.rule)] += 1,
+            Line::Broken {
+                place, breaches, ..
+            } => {
+                self.broken[usize::from(place.rule)] += 1;
+                self.add_list(breaches);
+            }
             Line::Refused { index: 0, fault } => {
                 self.refused_cases[usize::from(fault.number.figure())] += 1;
             }
@@ -62,6 +71,14 @@ impl Census {
                 self.refused_plans[usize::from(fault.number.figure())] += 1;
             }
             Line::Framing { number } => self.framing[usize::from(number.figure())] += 1,
+        }
+    }
+
+    fn add_list(&mut self, breaches: &[u8]) {
+        let entries = breaches.chunks_exact(BREACH_BYTES);
+        self.longest_list = self.longest_list.max(entries.len());
+        for entry in entries {
+            self.listed[usize::from(entry[0])] += 1;
         }
     }
 
@@ -85,6 +102,12 @@ impl fmt::Display for Census {
         )?;
         writeln!(out, "accepted {}", self.accepted)?;
         writeln!(out, "broken by rule: {}", numbered(&self.broken[1..]))?;
+        writeln!(
+            out,
+            "breaches by rule: {}; at most {} of a plan",
+            numbered(&self.listed[1..]),
+            self.longest_list
+        )?;
         writeln!(
             out,
             "cases refused by number: {}",

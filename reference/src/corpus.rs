@@ -10,14 +10,14 @@ use crate::census::Census;
 use crate::edges::Edges;
 use crate::encode::{encode_case, encode_plan, Encoded, Field};
 use crate::generate::batches::{random_batch, spoil_framing};
-use crate::generate::breaks::{break_at, plan_breaking};
+use crate::generate::breaks::{break_at, metered_plan, plan_breaking};
 use crate::generate::damage::{
     contradict, cut_at, give_states, values_out_of_range, with_fill_bit, with_surplus_bytes,
     with_value, Contradiction, CONTRADICTIONS, MOST_STATES_SAID,
 };
 use crate::generate::device::Scale;
-use crate::generate::extreme::{very_high_surplus_day, very_low_surplus_day};
-use crate::generate::plans::good_plan;
+use crate::generate::extreme::{most_breaches_day, very_high_surplus_day, very_low_surplus_day};
+use crate::generate::plans::{good_plan, wild_plan};
 use crate::generate::sample::{random_sample, sample_of, Sample};
 use crate::generate::schedule::Schedule;
 use crate::generate::shape::{Shape, Size};
@@ -102,7 +102,7 @@ struct Part {
 type Maker = fn(&mut Rng) -> Vec<Vec<u8>>;
 
 /// Every part, made from its own random numbers so that none depends on the others.
-const PARTS: [(&str, Maker); 11] = [
+const PARTS: [(&str, Maker); 12] = [
     ("the paper's example batch and days (a) to (m)", |_| {
         worked_days()
     }),
@@ -128,6 +128,7 @@ const PARTS: [(&str, Maker); 11] = [
         "cases with as many startup states as may be, and with more",
         cases_with_many_states,
     ),
+    ("metered days: plans with many breaches", metered_days),
 ];
 
 fn parts_of(seed: u64) -> Vec<Part> {
@@ -531,6 +532,28 @@ fn cases_with_many_states(rng: &mut Rng) -> Vec<Vec<u8>> {
     batches
 }
 
+/// "Dispatchers load yesterday's meters as a plan and want all the breaches": plans with many, wild
+/// ones, and the one with the most that there can be.
+fn metered_days(rng: &mut Rng) -> Vec<Vec<u8>> {
+    let mut batches = Vec::new();
+    for (size, count, plans) in [
+        (Size::Tiny, 6, 8),
+        (Size::Small, 8, 8),
+        (Size::Medium, 4, 5),
+        (Size::Full, 1, 2),
+    ] {
+        for _ in 0..count {
+            let sample = random_sample(rng, size);
+            let mut metered: Vec<Plan> = (0..plans).map(|_| metered_plan(rng, &sample)).collect();
+            metered.push(wild_plan(rng, &sample.case));
+            batches.push(batch_of(&sample.case, &metered));
+        }
+    }
+    let most = most_breaches_day();
+    batches.push(batch_of(&most.case, &[most.plan]));
+    batches
+}
+
 fn census_of<B: AsRef<[u8]>>(batches: &[B]) -> Census {
     let mut census = Census::default();
     for batch in batches {
@@ -557,7 +580,7 @@ fn readme(seed: u64, parts: &[Part], stdin: &[u8], stdout: &str) -> String {
         ),
         totals_paragraph(&census),
         table(
-            "| Rule | Plans |",
+            "| Rule | Plans, by the first rule broken | Breaches listed |",
             (1..=20).map(|rule| rule_row(&census, rule)),
         ),
         table(
@@ -594,14 +617,17 @@ fn totals_paragraph(census: &Census) -> String {
     format!(
         "Batches {} (empty {}), cases read {}, plans {}, of these accepted {}.\n\
          Largest: {devices} devices, {intervals} intervals, {zones} zones. \
-         Surplus from {} to {}.\n",
+         Surplus from {} to {}.\n\
+         Breaches {}, at most {} of a plan.\n",
         census.batches,
         census.empty_batches,
         census.cases,
         census.plans(),
         census.accepted,
         census.least_surplus.unwrap_or(0),
-        census.greatest_surplus.unwrap_or(0)
+        census.greatest_surplus.unwrap_or(0),
+        census.listed.iter().sum::<usize>(),
+        census.longest_list
     )
 }
 
@@ -611,7 +637,10 @@ fn part_row(part: &Part) -> String {
 }
 
 fn rule_row(census: &Census, rule: usize) -> String {
-    format!("| {rule} | {} |", census.broken[rule])
+    format!(
+        "| {rule} | {} | {} |",
+        census.broken[rule], census.listed[rule]
+    )
 }
 
 fn number_row(census: &Census, number: usize) -> String {
@@ -633,7 +662,9 @@ Batches with the output that the product and the reference are both held to.
 - `stdin`: all batches, each behind a 32-bit byte length, most significant byte first.
 - `stdout`: for each batch, numbered K from 0, a line `batch K`, then the lines of the batch program
   of paper 01; directly after each accepted plan a line `completion BYTES CRC` with the length of
-  its completion message and the CRC-32 of it (as zlib's), in decimal.
+  its completion message and the CRC-32 of it (as zlib's), in decimal; directly after each broken
+  plan a line `breaches N CRC` with the number of its breaches and the CRC-32 of their list, four
+  bytes each (rule, interval, device, window), in the order of A.5.
 ";
 
 const NUMBERS_NOTE: &str = "\

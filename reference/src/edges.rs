@@ -10,7 +10,10 @@ use crate::energy::EnergyRule;
 use crate::forced::{forced, Forced};
 use crate::ours::{complete, complete_by, downtime};
 use crate::plan::{read_plan, Plan};
-use crate::rules::{first_broken, most_fall, most_rise};
+use crate::rules::{broken_rules, most_fall, most_rise, Place};
+
+/// An edge's name, and whether a day shows it.
+type Edge<D> = (&'static str, fn(&D) -> bool);
 
 /// Counts of edges: how many plans show each.
 #[derive(Clone, PartialEq, Eq, Debug, Default)]
@@ -22,9 +25,9 @@ impl Edges {
     /// Every edge with its count, 0 included.
     pub fn in_order(&self) -> Vec<(&'static str, usize)> {
         let of_accepted = ACCEPTED_EDGES.iter().map(|(name, _)| *name);
-        let of_any = ANY_PLAN_EDGES.iter().map(|(name, _)| *name);
+        let of_broken = BROKEN_EDGES.iter().map(|(name, _)| *name);
         of_accepted
-            .chain(of_any)
+            .chain(of_broken)
             .map(|name| (name, self.counts.get(name).copied().unwrap_or(0)))
             .collect()
     }
@@ -50,27 +53,39 @@ impl Edges {
     }
 
     fn add_plan(&mut self, case: &Case, plan: &Plan) {
-        let spans = spans(&case.durations);
-        let forced = forced(case, &spans, plan);
-        for (name, shows) in ANY_PLAN_EDGES {
-            if shows(case, &spans, &forced) {
-                *self.counts.entry(name).or_default() += 1;
-            }
+        let spans = &spans(&case.durations);
+        let forced = &forced(case, spans, plan);
+        let breaches: Vec<Place> = broken_rules(case, spans, plan, forced).collect();
+        if breaches.is_empty() {
+            let ours = complete(case, spans, plan, forced);
+            self.count(
+                ACCEPTED_EDGES,
+                &Day {
+                    case,
+                    spans,
+                    plan,
+                    forced,
+                    completion: &ours.completion,
+                    surplus: ours.surplus,
+                },
+            );
+        } else {
+            self.count(
+                BROKEN_EDGES,
+                &BrokenDay {
+                    case,
+                    spans,
+                    plan,
+                    forced,
+                    breaches,
+                },
+            );
         }
-        if first_broken(case, &spans, plan, &forced).is_some() {
-            return;
-        }
-        let ours = complete(case, &spans, plan, &forced);
-        let day = Day {
-            case,
-            spans: &spans,
-            plan,
-            forced: &forced,
-            completion: &ours.completion,
-            surplus: ours.surplus,
-        };
-        for (name, shows) in ACCEPTED_EDGES {
-            if shows(&day) {
+    }
+
+    fn count<D>(&mut self, edges: &[Edge<D>], day: &D) {
+        for (name, shows) in edges {
+            if shows(day) {
                 *self.counts.entry(name).or_default() += 1;
             }
         }
@@ -651,46 +666,121 @@ const ACCEPTED_EDGES: &[AcceptedEdge] = &[
     }),
 ];
 
-type AnyPlanEdge = (&'static str, fn(&Case, &[Span], &[Forced]) -> bool);
-
-/// What only plans that break a rule can show: rule 18 lets no trajectory pass an on interval.
-const ANY_PLAN_EDGES: &[AnyPlanEdge] = &[
-    (
-        "(broken) psu of two starts in one interval",
-        |case, spans, forced| {
-            any_device_interval(forced, |j, t| {
-                let device = &case.devices[j];
-                let gives_power = |later: usize| {
-                    let lead = spans[later].end - spans[t].end;
-                    forced[j].commitment.started[later]
-                        && device.terms[later].pmin > device.ramps.starting * lead
-                };
-                (t + 1..spans.len())
-                    .filter(|&later| gives_power(later))
-                    .count()
-                    > 1
-            })
-        },
-    ),
-    (
-        "(broken) psd of two stops in one interval",
-        |case, spans, forced| {
-            any_device_interval(forced, |j, t| {
-                let device = &case.devices[j];
-                let gives_power = |stop: usize| {
-                    let before = match stop {
-                        0 => device.initial_power,
-                        _ => device.terms[stop - 1].pmin,
-                    };
-                    let lag = spans[t].end - spans[stop].start;
-                    forced[j].commitment.stopped[stop] && before > device.ramps.stopping * lag
-                };
-                (0..=t).filter(|&stop| gives_power(stop)).count() > 1
-            })
-        },
-    ),
-];
-
-fn any_device_interval(forced: &[Forced], shows: impl Fn(usize, usize) -> bool) -> bool {
-    (0..forced.len()).any(|j| (0..forced[j].power.len()).any(|t| shows(j, t)))
+/// A plan that breaks rules, with all that follows from it.
+struct BrokenDay<'a> {
+    case: &'a Case,
+    spans: &'a [Span],
+    plan: &'a Plan,
+    forced: &'a [Forced],
+    /// Every broken rule, in the paper's order.
+    breaches: Vec<Place>,
 }
+
+impl BrokenDay<'_> {
+    fn any_device_interval(&self, shows: impl Fn(usize, usize) -> bool) -> bool {
+        (0..self.forced.len()).any(|j| (0..self.spans.len()).any(|t| shows(j, t)))
+    }
+
+    fn keeps_all(&self, j: usize, t: usize) -> bool {
+        let at = |place: &Place| (place.device, place.interval) == (j + 1, t + 1);
+        !self.breaches.iter().any(at)
+    }
+
+    fn breaks(&self, rule: u8, j: usize, t: usize) -> bool {
+        let at = |place: &Place| (place.rule, place.device, place.interval) == (rule, j + 1, t + 1);
+        self.breaches.iter().any(at)
+    }
+
+    /// Whether two breaches that follow one another are related so.
+    fn any_two_in_a_row(&self, related: impl Fn(&Place, &Place) -> bool) -> bool {
+        self.breaches
+            .windows(2)
+            .any(|pair| related(&pair[0], &pair[1]))
+    }
+
+    /// How many earlier switches lie less than `minimum` minutes before interval `t`.
+    fn too_near(&self, earlier: &[bool], t: usize, minimum: i128) -> usize {
+        let start = |t: usize| self.spans[t].start;
+        (0..t)
+            .filter(|&before| earlier[before] && start(t) - start(before) < minimum)
+            .count()
+    }
+
+    fn startup_powers(&self, j: usize, t: usize) -> usize {
+        let device = &self.case.devices[j];
+        let gives_power = |later: usize| {
+            let lead = self.spans[later].end - self.spans[t].end;
+            self.forced[j].commitment.started[later]
+                && device.terms[later].pmin > device.ramps.starting * lead
+        };
+        (t + 1..self.spans.len())
+            .filter(|&later| gives_power(later))
+            .count()
+    }
+
+    fn shutdown_powers(&self, j: usize, t: usize) -> usize {
+        let device = &self.case.devices[j];
+        let gives_power = |stop: usize| {
+            let before = match stop {
+                0 => device.initial_power,
+                _ => device.terms[stop - 1].pmin,
+            };
+            let lag = self.spans[t].end - self.spans[stop].start;
+            self.forced[j].commitment.stopped[stop] && before > device.ramps.stopping * lag
+        };
+        (0..=t).filter(|&stop| gives_power(stop)).count()
+    }
+}
+
+type BrokenEdge = (&'static str, fn(&BrokenDay) -> bool);
+
+/// What only plans that break a rule can show; rule 18 lets no trajectory pass an on interval.
+const BROKEN_EDGES: &[BrokenEdge] = &[
+    ("(broken) psu of two starts in one interval", |day| {
+        day.any_device_interval(|j, t| day.startup_powers(j, t) > 1)
+    }),
+    ("(broken) psd of two stops in one interval", |day| {
+        day.any_device_interval(|j, t| day.shutdown_powers(j, t) > 1)
+    }),
+    ("(broken) at one rule alone", |day| day.breaches.len() == 1),
+    ("(broken) several rules at one place", |day| {
+        day.any_two_in_a_row(|a, b| {
+            a.interval > 0 && (a.interval, a.device) == (b.interval, b.device)
+        })
+    }),
+    ("(broken) a later device in an earlier interval", |day| {
+        day.any_two_in_a_row(|a, b| a.interval < b.interval && a.device > b.device)
+    }),
+    ("(broken) at each device in each interval", |day| {
+        !day.any_device_interval(|j, t| day.keeps_all(j, t))
+    }),
+    ("(broken) rule 20 behind other rules", |day| {
+        day.any_two_in_a_row(|a, b| a.rule < 20 && b.rule == 20)
+    }),
+    ("(broken) rule 20 in two windows of a device", |day| {
+        day.any_two_in_a_row(|a, b| a.interval == 0 && a.device == b.device)
+    }),
+    ("(broken) rule 20 at two devices", |day| {
+        day.any_two_in_a_row(|a, b| a.interval == 0 && a.device < b.device)
+    }),
+    ("(broken) rule 3 by two earlier stops", |day| {
+        day.any_device_interval(|j, t| {
+            let minimum = day.case.devices[j].minimum_down;
+            let stops = &day.forced[j].commitment.stopped;
+            day.breaks(3, j, t) && day.too_near(stops, t, minimum) > 1
+        })
+    }),
+    ("(broken) rule 4 by two earlier starts", |day| {
+        day.any_device_interval(|j, t| {
+            let minimum = day.case.devices[j].minimum_up;
+            let starts = &day.forced[j].commitment.started;
+            day.breaks(4, j, t) && day.too_near(starts, t, minimum) > 1
+        })
+    }),
+    ("(broken) rule 15 by nsc and rru_off both", |day| {
+        day.any_device_interval(|j, t| {
+            let r = &day.plan.intervals[t][j].reserves;
+            day.case.devices[j].side == Side::Consuming && r.nsc > 0 && r.rru_off > 0
+        })
+    }),
+];

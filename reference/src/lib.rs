@@ -1,5 +1,5 @@
 //! An independent reading of paper 01, "Plan unit: judging a day's commitment", with requests A.4
-//! (three startup states) and A.3 (energy by the minute) of paper 02.
+//! (three startup states), A.3 (energy by the minute) and A.5 (every broken rule) of paper 02.
 //!
 //! Written from the papers alone, it shares no code and no tables with the product that it is held
 //! against. Every figure is an `i128` and arithmetic is checked in every profile, so that nothing
@@ -8,10 +8,11 @@
 //! The reading itself:
 //!
 //! - [`fault`], [`bits`], [`case`], [`plan`]: messages and every refusal of them.
-//! - [`clock`], [`forced`], [`rules`]: times, forced figures, the first broken rule.
+//! - [`clock`], [`forced`], [`rules`]: times, forced figures, the rules that a plan breaks.
 //! - [`energy`]: which minutes count in an energy window, by A.3 or by the formulation's midpoint.
 //! - [`completion`], [`ours`]: the completion message, our completion and its surplus.
 //! - [`judge`], [`batch`]: the judgement, the splitter, the batch program's lines.
+//! - [`breaches`]: every broken rule of a plan, as A.5 lists them.
 //! - [`meets`]: what it is for any completion to meet every rule, and its surplus, stated again
 //!   without any of the modules above but the case, the plan and the completion as data.
 //!
@@ -29,6 +30,7 @@
 pub mod arguments;
 pub mod batch;
 pub mod bits;
+pub mod breaches;
 pub mod busiest;
 pub mod case;
 pub mod census;

@@ -34,6 +34,16 @@ pub fn keeps_every_rule(case: &Case, plan: &Plan) -> bool {
     Day { case, plan }.keeps_every_rule()
 }
 
+/// The numbers of rules 1 to 19 that a device breaks in an interval, both counted from 1.
+pub fn broken_rules_at(case: &Case, plan: &Plan, interval: usize, device: usize) -> Vec<u8> {
+    Day { case, plan }.broken_rules_at(device, interval)
+}
+
+/// The start windows, from 1, in which a device breaks rule 20.
+pub fn windows_broken(case: &Case, plan: &Plan, device: usize) -> Vec<usize> {
+    Day { case, plan }.windows_broken(device)
+}
+
 /// The "surplus of a completion, by its own choices".
 ///
 /// A choice that names no block or no state of the case has no price, and adds nothing. Choices so
@@ -160,17 +170,30 @@ impl Day<'_> {
 impl Day<'_> {
     fn keeps_every_rule(&self) -> bool {
         self.devices().all(|j| {
-            self.intervals().all(|t| {
-                self.commitment_rules_hold(j, t)
-                    && self.ramping_rules_hold(j, t)
-                    && self.reserve_rules_hold(j, t)
-                    && self.power_rules_hold(j, t)
-            }) && self.rule_20_holds(j)
+            self.intervals()
+                .all(|t| self.broken_rules_at(j, t).is_empty())
+                && self.windows_broken(j).is_empty()
         })
     }
 
-    /// Rules 1 to 4.
-    fn commitment_rules_hold(&self, j: usize, t: usize) -> bool {
+    /// The numbers of rules 1 to 19 that device `j` breaks in interval `t`.
+    fn broken_rules_at(&self, j: usize, t: usize) -> Vec<u8> {
+        let kept = [
+            &self.commitment_rules(j, t)[..],
+            &self.ramping_rules(j, t),
+            &self.reserve_rules(j, t),
+            &self.power_rules(j, t),
+        ]
+        .concat();
+        (1..)
+            .zip(kept)
+            .filter(|(_, kept)| !kept)
+            .map(|(number, _)| number)
+            .collect()
+    }
+
+    /// Whether rules 1 to 4 hold.
+    fn commitment_rules(&self, j: usize, t: usize) -> [bool; 4] {
         let device = self.device(j);
         let u = self.u(j, t);
         let rule_1 = match self.terms(j, t).status {
@@ -191,65 +214,78 @@ impl Day<'_> {
             self.sd(j, t) * self.su(j, before) == 0
                 || self.s(t) - self.s(before) >= device.minimum_up
         });
-        rule_1 && rule_2 && rule_3 && rule_4
+        [rule_1, rule_2, rule_3, rule_4]
     }
 
-    /// Rules 5 and 6.
-    fn ramping_rules_hold(&self, j: usize, t: usize) -> bool {
+    /// Whether rules 5 and 6 hold.
+    fn ramping_rules(&self, j: usize, t: usize) -> [bool; 2] {
         let ramps = &self.device(j).ramps;
         let (u, su, d) = (self.u(j, t), self.su(j, t), self.d(t));
         let rise = self.p(j, t) - self.p(j, t - 1);
-        rise <= d * (ramps.up * (u - su) + ramps.starting * (su + 1 - u))
-            && -rise <= d * (ramps.down * u + ramps.stopping * (1 - u))
+        [
+            rise <= d * (ramps.up * (u - su) + ramps.starting * (su + 1 - u)),
+            -rise <= d * (ramps.down * u + ramps.stopping * (1 - u)),
+        ]
     }
 
-    /// Rules 7 to 15.
-    fn reserve_rules_hold(&self, j: usize, t: usize) -> bool {
+    /// Whether rules 7 to 15 hold.
+    fn reserve_rules(&self, j: usize, t: usize) -> [bool; 9] {
         let limit = &self.device(j).reserve_limits;
         let r = self.reserves(j, t);
         let u = self.u(j, t);
-        r.rgu <= limit.rgu * u
-            && r.rgd <= limit.rgd * u
-            && r.rgu + r.scr <= limit.scr * u
-            && r.rgu + r.scr + r.rru_on <= limit.rru_on * u
-            && r.rgd + r.rrd_on <= limit.rrd_on * u
-            && r.nsc <= limit.nsc * (1 - u)
-            && r.nsc + r.rru_off <= limit.rru_off * (1 - u)
-            && r.rrd_off <= limit.rrd_off * (1 - u)
-            && (self.consumes(j) || r.rrd_off == 0)
-            && (self.produces(j) || r.nsc == 0)
-            && (self.produces(j) || r.rru_off == 0)
+        [
+            r.rgu <= limit.rgu * u,
+            r.rgd <= limit.rgd * u,
+            r.rgu + r.scr <= limit.scr * u,
+            r.rgu + r.scr + r.rru_on <= limit.rru_on * u,
+            r.rgd + r.rrd_on <= limit.rrd_on * u,
+            r.nsc <= limit.nsc * (1 - u),
+            r.nsc + r.rru_off <= limit.rru_off * (1 - u),
+            r.rrd_off <= limit.rrd_off * (1 - u),
+            (self.consumes(j) || r.rrd_off == 0)
+                && (self.produces(j) || r.nsc == 0)
+                && (self.produces(j) || r.rru_off == 0),
+        ]
     }
 
-    /// Rules 16 to 19.
-    fn power_rules_hold(&self, j: usize, t: usize) -> bool {
+    /// Whether rules 16 to 19 hold.
+    fn power_rules(&self, j: usize, t: usize) -> [bool; 4] {
         let terms = self.terms(j, t);
         let r = self.reserves(j, t);
         let u = self.u(j, t);
         let online = self.setting(j, t).online_power;
         let off_power = self.psu(j, t) + self.psd(j, t);
-        let rules_16_17_18 = if self.produces(j) {
-            online + r.rgu + r.scr + r.rru_on <= terms.pmax * u
-                && online - r.rgd - r.rrd_on >= terms.pmin * u
-                && off_power + r.nsc + r.rru_off <= terms.pmax * (1 - u)
+        let [rule_16, rule_17, rule_18] = if self.produces(j) {
+            [
+                online + r.rgu + r.scr + r.rru_on <= terms.pmax * u,
+                online - r.rgd - r.rrd_on >= terms.pmin * u,
+                off_power + r.nsc + r.rru_off <= terms.pmax * (1 - u),
+            ]
         } else {
-            online + r.rgd + r.rrd_on <= terms.pmax * u
-                && online - r.rgu - r.scr - r.rru_on >= terms.pmin * u
-                && off_power + r.rrd_off <= terms.pmax * (1 - u)
+            [
+                online + r.rgd + r.rrd_on <= terms.pmax * u,
+                online - r.rgu - r.scr - r.rru_on >= terms.pmin * u,
+                off_power + r.rrd_off <= terms.pmax * (1 - u),
+            ]
         };
         let rule_19 = self.p(j, t) <= terms.blocks.iter().map(|block| block.cap).sum();
-        rules_16_17_18 && rule_19
+        [rule_16, rule_17, rule_18, rule_19]
     }
 
-    fn rule_20_holds(&self, j: usize) -> bool {
-        self.device(j).start_windows.iter().all(|window| {
-            let starts: i128 = self
-                .intervals()
-                .filter(|&t| window.start <= self.s(t) && self.s(t) < window.end)
-                .map(|t| self.su(j, t))
-                .sum();
-            starts <= window.most_starts
-        })
+    /// The start windows, from 1, in which device `j` breaks rule 20.
+    fn windows_broken(&self, j: usize) -> Vec<usize> {
+        (1..)
+            .zip(&self.device(j).start_windows)
+            .filter(|(_, window)| {
+                let starts: i128 = self
+                    .intervals()
+                    .filter(|&t| window.start <= self.s(t) && self.s(t) < window.end)
+                    .map(|t| self.su(j, t))
+                    .sum();
+                starts > window.most_starts
+            })
+            .map(|(number, _)| number)
+            .collect()
     }
 }
 

@@ -3,11 +3,13 @@
 //! A packed stream holds each batch behind a 32-bit byte length, most significant byte first. The
 //! output is, for batch K from 0, a line `batch K`, then the batch program's lines; directly after
 //! each accepted plan comes `completion BYTES CRC`, the length and the CRC-32 of its completion
-//! message.
+//! message, and directly after each broken one `breaches N CRC`, the length of the list of its
+//! breaches (A.5) and the CRC-32 of the list's 4·N bytes.
 
 use std::fmt::Write;
 
 use crate::batch::{run, Line};
+use crate::breaches::BREACH_BYTES;
 use crate::crc::crc32;
 
 /// Appends one batch behind its length.
@@ -51,12 +53,16 @@ pub fn append_output(output: &mut String, number: usize, lines: &[Line]) {
     print(&format_args!("batch {number}"));
     for line in lines {
         print(line);
-        if let Line::Accepted { message, .. } = line {
-            print(&format_args!(
-                "completion {} {}",
-                message.len(),
-                crc32(message)
-            ));
+        match line {
+            Line::Accepted { message, .. } => {
+                let bytes = message.len();
+                print(&format_args!("completion {bytes} {}", crc32(message)));
+            }
+            Line::Broken { breaches, .. } => {
+                let count = breaches.len() / BREACH_BYTES;
+                print(&format_args!("breaches {count} {}", crc32(breaches)));
+            }
+            _ => {}
         }
     }
 }

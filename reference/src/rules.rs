@@ -1,4 +1,4 @@
-//! "Rules, by number": the first one that a plan breaks.
+//! "Rules, by number": those that a plan breaks, and the first of them.
 
 use crate::case::{Case, Device, Side, StartWindow, Status, Terms};
 use crate::clock::Span;
@@ -14,35 +14,67 @@ pub struct Place {
     pub window: usize,
 }
 
-/// "Checked by interval, then device, then number. Rule 20 comes after all intervals, by device,
-/// then window."
+/// The rules of one device in one interval.
+const RULES_OF_A_POINT: std::ops::RangeInclusive<u8> = 1..=19;
+/// The rule of a device's start windows.
+const RULE_OF_WINDOWS: u8 = 20;
+
+/// Every broken rule: "Checked by interval, then device, then number. Rule 20 comes after all
+/// intervals, by device, then window."
+pub fn broken_rules<'a>(
+    case: &'a Case,
+    spans: &'a [Span],
+    plan: &'a Plan,
+    forced: &'a [Forced],
+) -> impl Iterator<Item = Place> + 'a {
+    let at_points = (0..spans.len()).flat_map(move |t| {
+        (0..case.devices.len()).flat_map(move |j| {
+            let setting = &plan.intervals[t][j];
+            broken_at_point(
+                Point::new(&case.devices[j], spans, setting, &forced[j], t),
+                j,
+            )
+        })
+    });
+    let in_windows = (0..case.devices.len())
+        .flat_map(move |j| broken_in_windows(&case.devices[j], spans, &forced[j].commitment, j));
+    at_points.chain(in_windows)
+}
+
+/// The first broken rule: the one that the judgement names.
 pub fn first_broken(case: &Case, spans: &[Span], plan: &Plan, forced: &[Forced]) -> Option<Place> {
-    for t in 0..spans.len() {
-        for (j, device) in case.devices.iter().enumerate() {
-            let point = Point::new(device, spans, &plan.intervals[t][j], &forced[j], t);
-            if let Some(rule) = (1..=19).find(|&rule| !point.keeps(rule)) {
-                return Some(Place {
-                    rule,
-                    interval: t + 1,
-                    device: j + 1,
-                    window: 0,
-                });
-            }
-        }
-    }
-    for (j, device) in case.devices.iter().enumerate() {
-        for (w, window) in device.start_windows.iter().enumerate() {
-            if !keeps_start_window(window, spans, &forced[j].commitment) {
-                return Some(Place {
-                    rule: 20,
-                    interval: 0,
-                    device: j + 1,
-                    window: w + 1,
-                });
-            }
-        }
-    }
-    None
+    broken_rules(case, spans, plan, forced).next()
+}
+
+/// The broken rules of device `j` in one interval, by number.
+fn broken_at_point(point: Point<'_>, j: usize) -> impl Iterator<Item = Place> + '_ {
+    let interval = point.t + 1;
+    RULES_OF_A_POINT
+        .filter(move |&rule| !point.keeps(rule))
+        .map(move |rule| Place {
+            rule,
+            interval,
+            device: j + 1,
+            window: 0,
+        })
+}
+
+/// The start windows of device `j` in which rule 20 is broken.
+fn broken_in_windows<'a>(
+    device: &'a Device,
+    spans: &'a [Span],
+    commitment: &'a Commitment,
+    j: usize,
+) -> impl Iterator<Item = Place> + 'a {
+    (1..)
+        .zip(&device.start_windows)
+        .filter(move |(_, window)| !keeps_start_window(window, spans, commitment))
+        .map(move |(window, _)| Place {
+            rule: RULE_OF_WINDOWS,
+            interval: 0,
+            device: j + 1,
+            window,
+        })
 }
 
 /// One device in one interval: all that rules 1 to 19 speak of.

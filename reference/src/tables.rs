@@ -2,8 +2,10 @@
 //!
 //! A row reads `case-bytes-hex plan-bytes-hex expected`, where expected is one of
 //! `accepted SURPLUS COMPLETION-HEX`, `broken RULE INTERVAL DEVICE WINDOW` and
-//! `refused case|plan NUMBER BIT`.
+//! `refused case|plan NUMBER BIT`. Where lists are asked for, the bytes of every breach follow the
+//! first: `broken RULE INTERVAL DEVICE WINDOW LIST-HEX`.
 
+use crate::breaches::{breaches, BREACH_BYTES};
 use crate::case::{
     Block, Case, Device, EnergyKind, EnergyWindow, Reserves, Side, StartWindow, StartupState,
     Status, Terms, Zone,
@@ -70,6 +72,29 @@ impl Row {
             }
         };
         format!("{} {} {expected}", hex(&self.case), hex(&self.plan))
+    }
+}
+
+impl Row {
+    /// The bytes of the list of breaches; none of a plan that is accepted or refused.
+    pub fn list(&self) -> Vec<u8> {
+        match breaches(&self.case, &self.plan, &mut []) {
+            Err(Refusal::BufferTooShort { bytes_needed }) => {
+                let mut list = vec![0; bytes_needed];
+                let written = breaches(&self.case, &self.plan, &mut list);
+                assert_eq!(written, Ok(bytes_needed / BREACH_BYTES));
+                list
+            }
+            _ => Vec::new(),
+        }
+    }
+
+    /// The row as it is printed where lists are asked for.
+    pub fn printed_with_list(&self) -> String {
+        match self.list().as_slice() {
+            [] => self.printed(),
+            list => format!("{} {}", self.printed(), hex(list)),
+        }
     }
 }
 
@@ -294,6 +319,7 @@ pub fn written_rows() -> Vec<Row> {
     rows.extend(energy_window_rows());
     rows.extend(trajectory_rows());
     rows.extend(order_rows());
+    rows.extend(breach_rows());
     rows
 }
 
@@ -697,8 +723,42 @@ fn order_rows() -> Vec<Row> {
     vec![
         by_device.row("device 1 breaks rule 17, device 2 rule 7: rule 17 first"),
         by_interval.row("interval 1 breaks rule 19, interval 2 rule 1: rule 19 first"),
-        by_number.row("rules 8, 9 and 12 broken at one place: rule 8 first"),
+        by_number.row("rules 8 to 13, 17 and 18 broken at one place: rule 8 first"),
         rule_20_last.row("rule 16 in the last interval comes before rule 20"),
         second_window.row("rule 20 in the second window"),
+    ]
+}
+
+/// Lists of breaches: "each breach exactly once, in document 01's order".
+fn breach_rows() -> Vec<Row> {
+    let mut switched = draft(Side::Producing, true, 10, &[false, true, false, true]);
+    switched.device().minutes_already_so = 100;
+    (switched.device().minimum_up, switched.device().minimum_down) = (100, 100);
+    let mut other_sides = draft(Side::Consuming, false, 10, &[false]);
+    (
+        other_sides.setting(1).reserves.nsc,
+        other_sides.setting(1).reserves.rru_off,
+    ) = (1, 1);
+    let mut by_interval = draft(Side::Producing, true, 10, &[true, true]);
+    by_interval.add_twin();
+    by_interval.device().terms[1].status = Status::Off;
+    by_interval.plan.intervals[0][1].reserves.rgu = 21;
+    let window = |most_starts| StartWindow {
+        start: 0,
+        end: 10,
+        most_starts,
+    };
+    let mut windows_last = draft(Side::Producing, false, 10, &[true, true]);
+    windows_last.device().start_windows = vec![window(0), window(1), window(0)];
+    windows_last.setting(2).online_power = 101;
+    windows_last.add_twin();
+    let mut everywhere = draft(Side::Producing, true, 10, &[true]);
+    everywhere.setting(1).reserves = Reserves::from_order([100; 8]);
+    vec![
+        switched.row("rules 3, 4 and 3 again, that by two earlier stops: once each"),
+        other_sides.row("rule 15 by nsc and rru_off: once"),
+        by_interval.row("device 2 in interval 1 before device 1 in interval 2"),
+        windows_last.row("rules 16 and 19 of two devices, then rule 20 by device and window"),
+        everywhere.row("rules 7 to 18 at one place"),
     ]
 }

@@ -69,6 +69,27 @@ fn the_first_difference_stops_the_run_and_is_told() {
     assert!(!earlier.contains("broken 7 "));
 }
 
+/// A list with another count or other bytes is told at its line; so is a list that is not printed.
+#[test]
+fn lists_of_breaches_are_compared() {
+    let changes: [fn(&str) -> String; 3] = [
+        |line| line.replacen("breaches ", "breaches 1", 1),
+        |line| line.replacen('\n', "1\n", 1),
+        |_| String::new(),
+    ];
+    for change in changes {
+        let difference = difference_when(|output| {
+            let mut lines: Vec<String> = output.split_inclusive('\n').map(String::from).collect();
+            let is_list = |line: &String| line.starts_with("breaches ");
+            let first = lines.iter().position(is_list).expect("a plan is broken");
+            lines[first] = change(&lines[first]);
+            lines.concat()
+        });
+        let expected = difference.and_then(|difference| difference.expected);
+        assert!(expected.is_some_and(|line| line.starts_with("breaches ")));
+    }
+}
+
 #[test]
 fn lines_that_miss_or_exceed_are_differences() {
     let missing = difference_when(|output| {

@@ -24,6 +24,11 @@ fn reference_is_held_to_the_corpus() {
         "{census}"
     );
     assert!(
+        census.listed[1..].iter().all(|&count| count >= 300),
+        "{census}"
+    );
+    assert_eq!(census.longest_list, 12_720);
+    assert!(
         census.refused_cases[1..].iter().all(|&count| count >= 5),
         "{census}"
     );
@@ -54,7 +59,11 @@ fn output_has_the_lines_of_the_example() {
         ["batch 0", "batch 1", "0 case 2 2 0", "1 accepted 167860"]
     );
     assert!(lines[4].starts_with("completion 53 "));
-    assert_eq!(lines[5..], ["2 broken 5 2 1 0", "3 refused 1 8"]);
+    // The list of plan (b) is one breach, the bytes 5, 2, 1, 0.
+    assert_eq!(
+        lines[5..],
+        ["2 broken 5 2 1 0", "breaches 1 201705985", "3 refused 1 8"]
+    );
 }
 
 #[test]

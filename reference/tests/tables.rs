@@ -2,12 +2,13 @@
 
 use std::collections::BTreeSet;
 
+use reference::breaches::bytes_of;
 use reference::judge::{Refusal, Verdict};
 use reference::tables::{rows, written_rows};
 
 /// What each written row must give, in order. One interval of 10 minutes or more of 60 (10 in the
 /// rows about trajectories), block price 7 unless given, mismatch price 1, overrun price 3.
-const VERDICTS: [&str; 71] = [
+const VERDICTS: [&str; 76] = [
     // Consuming reserves: 90 or 60 kW at 7 − 1 for 10 minutes.
     "accepted 5400",
     "broken 17 1 1 0",
@@ -94,6 +95,57 @@ const VERDICTS: [&str; 71] = [
     "broken 8 1 1 0",
     "broken 16 2 1 0",
     "broken 20 0 1 2",
+    // Lists.
+    "broken 3 2 1 0",
+    "broken 15 1 1 0",
+    "broken 7 1 2 0",
+    "broken 16 2 1 0",
+    "broken 7 1 1 0",
+];
+
+/// The lists of the last ten rows, those about order and about lists.
+const LISTS: [&[[u8; 4]]; 10] = [
+    &[[17, 1, 1, 0], [7, 1, 2, 0], [9, 1, 2, 0], [10, 1, 2, 0]],
+    &[[19, 1, 1, 0], [1, 2, 1, 0]],
+    &[
+        [8, 1, 1, 0],
+        [9, 1, 1, 0],
+        [10, 1, 1, 0],
+        [11, 1, 1, 0],
+        [12, 1, 1, 0],
+        [13, 1, 1, 0],
+        [17, 1, 1, 0],
+        [18, 1, 1, 0],
+    ],
+    &[[16, 2, 1, 0], [19, 2, 1, 0], [20, 0, 1, 1]],
+    &[[20, 0, 1, 2]],
+    &[[3, 2, 1, 0], [4, 3, 1, 0], [3, 4, 1, 0]],
+    &[[15, 1, 1, 0]],
+    &[[7, 1, 2, 0], [9, 1, 2, 0], [10, 1, 2, 0], [1, 2, 1, 0]],
+    &[
+        [16, 2, 1, 0],
+        [19, 2, 1, 0],
+        [16, 2, 2, 0],
+        [19, 2, 2, 0],
+        [20, 0, 1, 1],
+        [20, 0, 1, 3],
+        [20, 0, 2, 1],
+        [20, 0, 2, 3],
+    ],
+    &[
+        [7, 1, 1, 0],
+        [8, 1, 1, 0],
+        [9, 1, 1, 0],
+        [10, 1, 1, 0],
+        [11, 1, 1, 0],
+        [12, 1, 1, 0],
+        [13, 1, 1, 0],
+        [14, 1, 1, 0],
+        [15, 1, 1, 0],
+        [16, 1, 1, 0],
+        [17, 1, 1, 0],
+        [18, 1, 1, 0],
+    ],
 ];
 
 #[test]
@@ -109,10 +161,39 @@ fn written_rows_give_what_was_worked_out() {
 }
 
 #[test]
+fn lists_of_written_rows_are_what_was_worked_out() {
+    let rows = written_rows();
+    for (row, list) in rows[rows.len() - LISTS.len()..].iter().zip(LISTS) {
+        assert_eq!(row.list(), list.concat(), "{}", row.about);
+        let list_hex: String = list.iter().flatten().map(|b| format!("{b:02x}")).collect();
+        let printed = format!("{} {list_hex}", row.printed());
+        assert_eq!(row.printed_with_list(), printed);
+    }
+}
+
+/// Only a broken row has a list, and it begins with the breach that the verdict names.
+#[test]
+fn lists_begin_with_the_verdict() {
+    for row in rows(1, 8) {
+        let list = row.list();
+        let named = match row.judged().0 {
+            Verdict::Broken(place) => bytes_of(&[place]),
+            _ => Vec::new(),
+        };
+        assert!(list.starts_with(&named) && list.is_empty() == named.is_empty());
+        let is_longer = row.printed_with_list() != row.printed();
+        assert_eq!(is_longer, !list.is_empty());
+    }
+}
+
+/// Small enough to be worked out by hand; the paper's worked case has 210 bytes.
+const MOST_CASE_BYTES: usize = 220;
+
+#[test]
 fn rows_reach_every_rule_and_every_refusal() {
     let mut reached = BTreeSet::new();
     for row in rows(1, 8) {
-        assert!(row.case.len() <= 152 && !row.case.is_empty() && !row.plan.is_empty());
+        assert!((1..=MOST_CASE_BYTES).contains(&row.case.len()) && !row.plan.is_empty());
         reached.insert(match row.judged().0 {
             Verdict::Accepted { .. } => ("accepted", 0),
             Verdict::Broken(place) => ("rule", place.rule),

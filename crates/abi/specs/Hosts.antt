@@ -5,13 +5,15 @@ use Prim.Native.Nat.{ℕ, _≤_, _<_}
 use native.Mathlib.Omega.{arith}
 use lib.ListN.{length, drop}
 use Rattle.model.specs.declared.Verdict.{Verdict}
+use Rattle.model.specs.declared.Listing.{Listing}
 use Rattle.model.specs.Editions.{batch}
 use Rattle.model.specs.ByEdition.{statedIn}
 use Rattle.tellings.specs.declared.Told.{Told}
 use Rattle.plan_unit.specs.declared.Inspected.{Inspected}
 use Rattle.plan_unit.specs.Judges.{Judges}
 use Rattle.plan_unit.specs.Inspection.{inspectedOf}
-use Rattle.tellings.specs.Told.{toldOf, toldCase, figuresOf}
+use Rattle.tellings.specs.Told.{toldOf, toldCase, toldList, figuresOf}
+use Rattle.breach_unit.specs.Breaches.{ListsBreaches}
 
 -- four numbers stored at the front of a lent slice; nothing is done, and 5 is answered, where it has fewer places
 pub record HostJudges (cs ps before after figures told : List ℕ) (r : ℕ) : Type 0 where
@@ -21,6 +23,10 @@ pub record HostJudges (cs ps before after figures told : List ℕ) (r : ℕ) : T
 pub record HostInspects (cs figures told : List ℕ) (r : ℕ) : Type 0 where
   pub short : length figures < 4 → (r ≡ 5) × (told ≡ figures)
   pub inspects : 4 ≤ length figures → (r ≡ toldCase (inspectedOf (statedIn batch cs)) .word) × (told ≡ figuresOf (toldCase (inspectedOf (statedIn batch cs))) ++ drop 4 figures)
+
+pub record HostLists (cs ps before after figures told : List ℕ) (r : ℕ) : Type 0 where
+  pub short : length figures < 4 → (r ≡ 5) × (after ≡ before) × (told ≡ figures)
+  pub lists : 4 ≤ length figures → (x : Listing) × ListsBreaches batch cs ps before after x × (r ≡ toldList x .word) × (told ≡ figuresOf (toldList x) ++ drop 4 figures)
 
 -- ---- from what the code answers
 
@@ -33,6 +39,17 @@ module _ (cs ps before figures : List ℕ) where
   judges-told v h j e f = record {
     short = λ k. absurd (omega (arith, h, k));
     judges = λ _. (v, j, ap (λ (x : Told). x .word) e, f ∙ ap (λ (x : Told). figuresOf x ++ drop 4 figures) e);
+  }
+
+module _ (cs ps before figures : List ℕ) where
+  pub lists-short : length figures < 4 → HostLists cs ps before before figures figures 5
+  lists-short h = record { short = λ _. (refl, refl, refl); lists = λ k. absurd (omega (arith, h, k)) }
+
+  pub lists-told : {after told : List ℕ} {t : Told} (x : Listing) → 4 ≤ length figures → ListsBreaches batch cs ps before after x → t ≡ toldList x
+      → told ≡ figuresOf t ++ drop 4 figures → HostLists cs ps before after figures told (t .word)
+  lists-told x h j e f = record {
+    short = λ k. absurd (omega (arith, h, k));
+    lists = λ _. (x, j, ap (λ (x : Told). x .word) e, f ∙ ap (λ (x : Told). figuresOf x ++ drop 4 figures) e);
   }
 
 module _ (cs figures : List ℕ) where

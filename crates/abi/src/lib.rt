@@ -2,7 +2,8 @@
 use tellings::store;
 use tellings::tell;
 use tellings::tell_case;
-ghost use Rattle.abi.specs.Hosts.{HostJudges, HostInspects};
+use tellings::tell_list;
+ghost use Rattle.abi.specs.Hosts.{HostJudges, HostInspects, HostLists};
 
 // `judge` for hosts: the word and the figures of the verdict; 5, with nothing done, where `figures` has fewer than four places.
 #[no_mangle]
@@ -34,6 +35,26 @@ pub extern "C" fn kadunfo_inspect(case: &[u8], figures: &mut [u64]) -> u64
     }
     let x = plan_unit::inspect(case);
     let t = tell_case(x);
+    let word = t.word;
+    store(figures, t);
+    word
+}
+
+// `breaches` for hosts: 0 and how many were listed, or the refusal; 5, with nothing done, where `figures` has fewer than four places.
+#[no_mangle]
+pub extern "C" fn kadunfo_breaches(
+    case: &[u8],
+    plan: &[u8],
+    list: &mut [u8],
+    figures: &mut [u64],
+) -> u64
+    ensures { λ r. ⌜ HostLists (now (case .entry)) (now (plan .entry)) (now (list .entry)) (now (list .exit)) (now (figures .entry)) (now (figures .exit)) r ⌝ }
+{
+    if figures.len() < 4 {
+        return 5;
+    }
+    let x = breach_unit::breaches(case, plan, list);
+    let t = tell_list(x);
     let word = t.word;
     store(figures, t);
     word

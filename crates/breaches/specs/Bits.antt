@@ -6,14 +6,15 @@ use Prim.Native.Nat.{ℕ, suc, _+_, _-_, _/_, _%_, _≤_, _<_}
 use native.Mathlib.Omega.{arith}
 use borrow.Author.Tests.{eq-eqb, ne-eqb}
 use lib.Dec.{eqb}
+use Rattle.model.specs.Rules.{cellBreach}
 use Rattle.model.specs.Breaches.{unless}
 use Rattle.cell_bounds.specs.Word.{bitsFrom, numbersIn}
-use Rattle.breaches.specs.First.{first, breachAt}
+use Rattle.breaches.specs.First.{first}
 use Rattle.breaches.specs.declared.Check.{Check}
 use Rattle.breaches.specs.declared.Check.the-variants.{Held, Broken}
 
 unfoldable pub firstOf : ℕ → ℕ → List ℕ → Check
-firstOf t i ns = first (map (breachAt t i) ns)
+firstOf t i ns = first (map (cellBreach t i) ns)
 
 module _ (t i word : ℕ) where
   -- the bits from number k on give what all give
@@ -28,7 +29,7 @@ module _ (t i word : ℕ) where
     one-more : 32 - k ≡ suc (32 - (k + 1))
     one-more = omega arith
 
-    pub bits-found : rest % 2 ≡ 1 → Broken (breachAt t i k) ≡ firstOf t i (numbersIn word)
+    pub bits-found : rest % 2 ≡ 1 → Broken (cellBreach t i k) ≡ firstOf t i (numbersIn word)
     unfolding firstOf first bitsFrom
     bits-found e = let z : eqb (rest % 2) 0 ≡ false = ne-eqb (rest % 2) 0 (λ x. omega arith) in (rw (one-more, z) refl) ∙ left .same
 

@@ -1,4 +1,4 @@
--- The breaches of an interval, of the day's cells and of its windows; the loops over them, and a day without any.
+-- The loops over the breaches of an interval, of the day's cells and of its windows, and a day without any.
 use mathlib.Core.Path.{_≡_, refl, sym, _∙_}
 use mathlib.Core.List.{List, [], _++_}
 use Prim.Native.Nat.{ℕ, _+_, _≤_, _<_}
@@ -10,30 +10,21 @@ use Rattle.numbers.specs.Gather.{gather-none}
 use Rattle.model.specs.Case.{System, Plan}
 use Rattle.model.specs.Forced.{intervals, devices}
 use Rattle.model.specs.Breaches.{cellBreaches, windowBreaches, breaches}
+use Rattle.failing_rules.specs.Day.{intervalBreaches, dayBreaches, dayWindows, day-is}
 use Rattle.model.specs.declared.Breach.{Breach}
 use Rattle.breaches.specs.First.{first, orElse, first-append, else-stop, else-pass, Left, loop-start, loop-held, loop-broken, loop-done}
 use Rattle.breaches.specs.declared.Check.{Check}
 use Rattle.breaches.specs.declared.Check.the-variants.{Held, Broken}
 
 module _ (q : System) (p : Plan) where
-  unfoldable pub intervalBreaches : ℕ → List Breach
-  intervalBreaches t = gather (cellBreaches q p t) (upTo (devices q))
-
-  unfoldable pub dayBreaches : List Breach
-  dayBreaches = gather intervalBreaches (upTo (intervals q))
-
-  unfoldable pub dayWindows : List Breach
-  dayWindows = gather (windowBreaches q p) (upTo (devices q))
-
   -- the cells' breaches, then the windows'
-  pub day-first : first (breaches q p) ≡ orElse (first dayBreaches) (first dayWindows)
-  unfolding breaches intervalBreaches dayBreaches dayWindows
-  day-first = first-append (gather (λ t. gather (cellBreaches q p t) (upTo (devices q))) (upTo (intervals q))) (gather (windowBreaches q p) (upTo (devices q)))
+  day-first : first (breaches q p) ≡ orElse (first (dayBreaches q p)) (first (dayWindows q p))
+  day-first = rw (day-is q p) (first-append (dayBreaches q p) (dayWindows q p))
 
-  pub day-stop : {x : Check} {y : Breach} → x ≡ first dayBreaches → x ≡ Broken y → x ≡ first (breaches q p)
-  day-stop e b = rw day-first (else-stop (first dayWindows) e b)
+  pub day-stop : {x : Check} {y : Breach} → x ≡ first (dayBreaches q p) → x ≡ Broken y → x ≡ first (breaches q p)
+  day-stop e b = rw day-first (else-stop (first (dayWindows q p)) e b)
 
-  pub day-pass : {x y : Check} → x ≡ first dayBreaches → x ≡ Held → y ≡ first dayWindows → y ≡ first (breaches q p)
+  pub day-pass : {x y : Check} → x ≡ first (dayBreaches q p) → x ≡ Held → y ≡ first (dayWindows q p) → y ≡ first (breaches q p)
   day-pass e b f = rw day-first (else-pass e b f)
 
   -- ---- the loops over devices, intervals, and devices again: what is left gives what the whole gives
@@ -42,7 +33,7 @@ module _ (q : System) (p : Plan) where
     pub left : Left (cellBreaches q p t) (devices q) i
 
   pub record IntervalsLeft (t : ℕ) : Type 0 where
-    pub left : Left intervalBreaches (intervals q) t
+    pub left : Left (intervalBreaches q p) (intervals q) t
 
   pub record WindowsLeft (i : ℕ) : Type 0 where
     pub left : Left (windowBreaches q p) (devices q) i
@@ -51,7 +42,7 @@ module _ (q : System) (p : Plan) where
   cells-start t = record { left = loop-start (cellBreaches q p t) (devices q) }
 
   pub intervals-start : IntervalsLeft 0
-  intervals-start = record { left = loop-start intervalBreaches (intervals q) }
+  intervals-start = record { left = loop-start (intervalBreaches q p) (intervals q) }
 
   pub windows-start : WindowsLeft 0
   windows-start = record { left = loop-start (windowBreaches q p) (devices q) }
@@ -61,11 +52,11 @@ module _ (q : System) (p : Plan) where
       pub cells-held : x ≡ Held → CellsLeft t (i + 1)
       cells-held b = record { left = loop-held _ (omega arith) (left .left) e b }
 
-      pub cells-broken : {y : Breach} → x ≡ Broken y → x ≡ first (intervalBreaches t)
+      pub cells-broken : {y : Breach} → x ≡ Broken y → x ≡ first (intervalBreaches q p t)
       unfolding intervalBreaches
       cells-broken b = loop-broken _ (omega arith) (left .left) e b
 
-    pub cells-done : {t i : ℕ} → n ≤ i → CellsLeft t i → Held ≡ first (intervalBreaches t)
+    pub cells-done : {t i : ℕ} → n ≤ i → CellsLeft t i → Held ≡ first (intervalBreaches q p t)
     unfolding intervalBreaches
     cells-done l left = loop-done _ (omega arith) (left .left)
 
@@ -73,24 +64,24 @@ module _ (q : System) (p : Plan) where
       pub windows-held : x ≡ Held → WindowsLeft (i + 1)
       windows-held b = record { left = loop-held _ (omega arith) (left .left) e b }
 
-      pub windows-broken : {y : Breach} → x ≡ Broken y → x ≡ first dayWindows
+      pub windows-broken : {y : Breach} → x ≡ Broken y → x ≡ first (dayWindows q p)
       unfolding dayWindows
       windows-broken b = loop-broken _ (omega arith) (left .left) e b
 
-    pub windows-done : {i : ℕ} → n ≤ i → WindowsLeft i → Held ≡ first dayWindows
+    pub windows-done : {i : ℕ} → n ≤ i → WindowsLeft i → Held ≡ first (dayWindows q p)
     unfolding dayWindows
     windows-done l left = loop-done _ (omega arith) (left .left)
 
   module _ {m : ℕ} (many : intervals q ≡ m) where
-    module _ {t : ℕ} {x : Check} (l : t < m) (left : IntervalsLeft t) (e : x ≡ first (intervalBreaches t)) where
+    module _ {t : ℕ} {x : Check} (l : t < m) (left : IntervalsLeft t) (e : x ≡ first (intervalBreaches q p t)) where
       pub intervals-held : x ≡ Held → IntervalsLeft (t + 1)
       intervals-held b = record { left = loop-held _ (omega arith) (left .left) e b }
 
-      pub intervals-broken : {y : Breach} → x ≡ Broken y → x ≡ first dayBreaches
+      pub intervals-broken : {y : Breach} → x ≡ Broken y → x ≡ first (dayBreaches q p)
       unfolding dayBreaches
       intervals-broken b = loop-broken _ (omega arith) (left .left) e b
 
-    pub intervals-done : {t : ℕ} → m ≤ t → IntervalsLeft t → Held ≡ first dayBreaches
+    pub intervals-done : {t : ℕ} → m ≤ t → IntervalsLeft t → Held ≡ first (dayBreaches q p)
     unfolding dayBreaches
     intervals-done l left = loop-done _ (omega arith) (left .left)
 

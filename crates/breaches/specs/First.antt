@@ -1,9 +1,10 @@
 -- The first breach of a list, as the code answers it.
 use mathlib.Core.Path.{_≡_, refl, sym, _∙_}
 use mathlib.Core.List.{List, [], _∷_, _++_}
-use Prim.Native.Nat.{ℕ, suc, _+_, _-_, _≤_, _<_}
+use Prim.Native.Nat.{ℕ, _+_, _≤_, _<_}
 use native.Mathlib.Omega.{arith}
-use Rattle.numbers.specs.Base.{range, upTo, gather}
+use Rattle.numbers.specs.Base.{upTo, gather}
+use Rattle.numbers.specs.Gather.{from, from-all, from-end, gather-next}
 use Rattle.model.specs.declared.Breach.{Breach}
 use Rattle.breaches.specs.declared.Check.{Check}
 use Rattle.breaches.specs.declared.Check.the-variants.{Held, Broken}
@@ -36,29 +37,10 @@ pub else-pass : {a c x rest : Check} → c ≡ a → c ≡ Held → x ≡ rest �
 unfolding orElse
 else-pass q h e = rw (sym q ∙ h) e
 
--- the places from k on, below n
-abbrev pub from : ℕ → ℕ → List ℕ
-from k n = range k (n - k)
-
-pub from-all : (n : ℕ) → from 0 n ≡ upTo n
-from-all n = let e : n - 0 ≡ n = omega arith in rw e
-
-pub from-next : (k n : ℕ) → k < n → from k n ≡ k ∷ from (k + 1) n
-unfolding range
-from-next k n h =
-    let e : n - k ≡ suc (n - (k + 1)) = omega arith in
-    let s : suc k ≡ k + 1 = omega arith in
-    rw e (rw s refl)
-
-pub from-end : (k n : ℕ) → n ≤ k → from k n ≡ []
-unfolding range
-from-end k n h = let e : n - k ≡ 0 = omega arith in rw e
-
 -- a loop with an early return, against the head of a gathered list
 module _ (f : ℕ → List Breach) where
   next : (k n : ℕ) → k < n → first (gather f (from k n)) ≡ orElse (first (f k)) (first (gather f (from (k + 1) n)))
-  unfolding gather
-  next k n h = rw (from-next k n h) (first-append (f k) (gather f (from (k + 1) n)))
+  next k n h = rw (gather-next f k n h) (first-append (f k) (gather f (from (k + 1) n)))
 
   -- the loop has come to place k of n: what is left gives what the whole list gives
   pub record Left (n k : ℕ) : Type 0 where
@@ -76,7 +58,3 @@ module _ (f : ℕ → List Breach) where
   pub loop-done : {n k : ℕ} → n ≤ k → Left n k → Held ≡ first (gather f (upTo n))
   unfolding first gather
   loop-done {n} {k} h e = sym (rw (from-end k n h) refl) ∙ e .same
-
--- a broken rule of device i in interval t
-abbrev pub breachAt : ℕ → ℕ → ℕ → Breach
-breachAt t i n = record { rule = n; interval = suc t; device = suc i; window = 0 }

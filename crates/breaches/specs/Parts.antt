@@ -1,139 +1,36 @@
--- A device's parts as the code cuts them, from a on: they lie within the tables, and their tests and windows are the model's.
+-- The first of a cell's breaches and of a device's windows, from the word of failing rules and from the window's test.
 use mathlib.Core.Path.{_≡_, refl, sym, ap, _∙_}
 use mathlib.Core.Bool.{Bool, true, false, not}
-use mathlib.Core.List.{List, [], _∷_, map}
-use Prim.Native.Nat.{ℕ, suc, _+_, _-_, _*_, _≤_, _<_}
-use native.Mathlib.Omega.{arith}
-use native.Mathlib.Nat.{mul-le-mul}
+use mathlib.Core.List.{List, map}
+use Prim.Native.Nat.{ℕ}
 use borrow.Author.Tests.{not-true, not-false}
 use lib.Dec.{leb}
-use lib.ListN.{getD, length, take, drop}
-use Rattle.numbers.specs.Base.{upTo, gather}
-use Rattle.numbers.specs.Every.{all-upTo}
-use Rattle.numbers.specs.Gather.{gather-cong}
+use lib.ListN.{getD}
 use Rattle.model.specs.Case.{System, Plan}
-use Rattle.model.specs.Forced as F
-use Rattle.model.specs.Breaches.{failing, cellTests, cellBreaches, oneWindow, windowBreaches}
-use Rattle.model.specs.declared.Breach.{Breach}
-use Rattle.row_places.specs.Figures.{deviceOf}
-use Rattle.numbers.specs.Parts.{part, part-cut, part-inside, part-long}
-use Rattle.records.specs.Views.{systemIn, planIn, mostWindows, mostDevices, mostIntervals, Ready}
-use Rattle.records.specs.Viewed as W
+use Rattle.model.specs.Rules.{cellBreach, windowBreach}
+use Rattle.model.specs.Breaches.{failing, cellTests, cellBreaches}
 use Rattle.row_places.specs.Figures.{noStart}
 use Rattle.row_places.specs.declared.Device.{Device}
-use Rattle.row_places.specs.declared.Front.{Front}
-use Rattle.cell_bounds.specs.declared.Bounds.{Bounds}
-use Rattle.cell_bounds.specs.Word.{failingWord, numbersIn}
-use Rattle.cell_bounds.specs.Tests.{boundsOf}
-use Rattle.moments.specs.Moments.{testsAt, Fits}
-use Rattle.device_rules.specs.Tie.{tests-here, bits-here, fits-here}
-use Rattle.device_rules.specs.Whole.{AllFit, HeldTo}
-use Rattle.start_windows.specs.Windows.{startsAt, starts-are}
-use Rattle.breaches.specs.First.{first, breachAt}
+use Rattle.cell_bounds.specs.Word.{numbersIn}
+use Rattle.start_windows.specs.Windows.{startsAt}
+use Rattle.failing_rules.specs.Parts.{windowHere}
+use Rattle.breaches.specs.First.{first}
 use Rattle.breaches.specs.Bits.{firstOf}
 use Rattle.breaches.specs.declared.Check.{Check}
 use Rattle.breaches.specs.declared.Check.the-variants.{Held, Broken}
 
--- ---- rule 20 of a device's windows
+-- the word's first rule is the first of the cell's breaches
+pub word-first : (q : System) (p : Plan) (t i word : ℕ) {x : Check} → numbersIn word ≡ failing (cellTests q p t i) → x ≡ firstOf t i (numbersIn word) → x ≡ first (cellBreaches q p t i)
+unfolding firstOf cellBreaches
+word-first q p t i word e f = f ∙ rw e refl
 
-abbrev pub windowAt : ℕ → ℕ → Breach
-windowAt i w = record { rule = 20; interval = 0; device = suc i; window = suc w }
+-- the test of one window, as the code makes it
+module _ (d : Device) (settings : List (List ℕ)) (starts : List ℕ) (i : ℕ) (w : ℕ)
+    {b : Bool} (e : b ≡ leb (startsAt (getD (d .starts) w noStart) (d .on0) settings starts) (getD (d .starts) w noStart .most)) where
+  pub window-held : not b ≡ false → Held ≡ first (windowHere d settings starts i w)
+  unfolding windowHere failing first
+  window-held h = rw (sym e ∙ not-false b h) refl
 
-module _ (d : Device) (settings : List (List ℕ)) (starts : List ℕ) (i : ℕ) where
-  abbrev counted : ℕ → ℕ
-  counted w = startsAt (getD (d .starts) w noStart) (d .on0) settings starts
-
-  unfoldable pub windowHere : ℕ → List Breach
-  windowHere w = map (λ r. record { rule = r; interval = 0; device = suc i; window = suc w }) (failing ((20, leb (counted w) (getD (d .starts) w noStart .most)) ∷ []))
-
-  unfoldable pub windowsHere : List Breach
-  windowsHere = gather windowHere (upTo (d .nstarts))
-
-  -- the test of one window, as the code makes it
-  module _ (w : ℕ) {b : Bool} (e : b ≡ leb (startsAt (getD (d .starts) w noStart) (d .on0) settings starts) (getD (d .starts) w noStart .most)) where
-    pub window-held : not b ≡ false → Held ≡ first (windowHere w)
-    unfolding windowHere failing first
-    window-held h = rw (sym e ∙ not-false b h) refl
-
-    pub window-broken : not b ≡ true → Broken (windowAt i w) ≡ first (windowHere w)
-    unfolding windowHere failing first
-    window-broken h = rw (sym e ∙ not-true b h) refl
-
--- ---- places
-
-pub record Place (a m : ℕ) (cells settings : List (List ℕ)) (powers : List ℕ) : Type 0 where
-  pub in-cells : a + m ≤ length cells
-  pub in-settings : a + m ≤ length settings
-  pub in-powers : a + m ≤ length powers
-  pub small : a + m ≤ mostDevices * mostIntervals
-
-module _ {front : Front} {halves : List ℕ} {zones minima devices cells settings : List (List ℕ)} {starts powers : List ℕ}
-    (ready : Ready front halves zones minima devices cells settings starts powers) (i a : ℕ) (l : i < length devices) (e : a ≡ i * length halves) where
-  pub place : Place a (length halves) cells settings powers
-  place = let h = part-inside (length halves) i (length devices) l in record {
-    in-cells = omega (arith, h, ready .case-rows .cells-full);
-    in-settings = omega (arith, h, ready .plan-rows .full);
-    in-powers = omega (arith, h, ready .forced-rows .powers-full);
-    small = omega (arith, h, mul-le-mul (ready .case-rows .few-devices) (ready .case-rows .few-intervals));
-  }
-
-  abbrev q : System
-  q = systemIn halves zones minima devices cells
-
-  abbrev p : Plan
-  p = planIn (length devices) (length halves) settings
-
-  abbrev m : ℕ
-  m = length halves
-
-  abbrev ownCells : List (List ℕ)
-  ownCells = take (a + length halves - a) (drop a cells)
-
-  abbrev ownSettings : List (List ℕ)
-  ownSettings = take (a + length halves - a) (drop a settings)
-
-  abbrev ownPowers : List ℕ
-  ownPowers = take (a + length halves - a) (drop a powers)
-
-  module _ {d : Device} {b : Bounds} (is : d ≡ deviceOf (getD devices i [])) (at : b ≡ boundsOf d) where
-    pub fits-cut : (t : ℕ) → t < length halves → Fits b (d .power0 .0) halves ownCells ownSettings starts ownPowers t
-    fits-cut t h = rw (at, is, part-cut m i a cells e, part-cut m i a settings e, part-cut m i a powers e) (fits-here ready i l t h)
-
-    pub all-fit : AllFit b (d .power0 .0) halves ownCells ownSettings starts ownPowers
-    all-fit = record { at = fits-cut }
-
-    tests-cut : (t : ℕ) → t < length halves → testsAt b (d .power0 .0) halves ownCells ownSettings starts ownPowers t ≡ cellTests q p t i
-    tests-cut t h = rw (at, is, part-cut m i a cells e, part-cut m i a settings e, part-cut m i a powers e) (tests-here ready i l t h)
-
-    -- the word's first rule is the first of the cell's breaches
-    pub word-first : (t : ℕ) → t < length halves → {word : ℕ} {x : Check}
-        → word ≡ failingWord (testsAt b (d .power0 .0) halves ownCells ownSettings starts ownPowers t) → x ≡ firstOf t i (numbersIn word) → x ≡ first (cellBreaches q p t i)
-    unfolding firstOf cellBreaches
-    word-first t h {word} f g = g ∙ rw (bits-here ready i l t h {word = word} (rw (at, is, part-cut m i a cells e, part-cut m i a settings e, part-cut m i a powers e) at f)) refl
-
-    -- no test fails
-    pub none-here : HeldTo b (d .power0 .0) halves ownCells ownSettings starts ownPowers (length halves) → (t : ℕ) → t < length halves → cellBreaches q p t i ≡ []
-    unfolding cellBreaches
-    none-here k t h = rw (← tests-cut t h, k .at t h) refl
-
-  abbrev there : Device
-  there = deviceOf (getD devices i [])
-
-  here-is : (w : ℕ) → w < there .nstarts → windowHere there (part m i settings) starts i w ≡ oneWindow q p i w
-  unfolding windowHere oneWindow
-  here-is w h = rw (starts-are ready i l w h, W.start-window-is halves zones minima devices cells i l w h) refl
-
-  all-here : windowsHere there (part m i settings) starts i ≡ windowBreaches q p i
-  unfolding windowsHere windowBreaches
-  all-here = rw (W.start-windows-are halves zones minima devices cells i l (ready .case-rows .counted i l .few-starts))
-      (gather-cong (windowHere there (part m i settings) starts i) (oneWindow q p i) (upTo (there .nstarts)) (all-upTo _ _ here-is))
-
-  -- the device's windows in turn
-  pub windows-are : {d : Device} → d ≡ deviceOf (getD devices i []) → windowsHere d ownSettings starts i ≡ windowBreaches q p i
-  windows-are is = rw (is, part-cut m i a settings e) all-here
-
-  pub own-long : length ownSettings ≡ length halves
-  own-long = rw (part-cut m i a settings e) (part-long m i (length devices) settings l (ready .plan-rows .full))
-
-  pub few-windows : {d : Device} → d ≡ deviceOf (getD devices i []) → d .nstarts ≤ mostWindows
-  few-windows is = rw is (ready .case-rows .counted i l .few-starts)
+  pub window-broken : {y : Check} → not b ≡ true → y ≡ Broken (windowBreach i w 20) → y ≡ first (windowHere d settings starts i w)
+  unfolding windowHere failing first
+  window-broken h f = f ∙ rw (sym e ∙ not-true b h) refl

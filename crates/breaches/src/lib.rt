@@ -7,14 +7,17 @@ ghost use lib.ListN.{length};
 ghost use Rattle.model.specs.Breaches.{cellBreaches, windowBreaches, breaches};
 ghost use Rattle.records.specs.Views.{systemIn, planIn, mostWindows, mostDevices, mostIntervals, Ready};
 ghost use Rattle.cell_bounds.specs.Word.{numbersIn};
-ghost use Rattle.breaches.specs.First.{first, breachAt};
+ghost use Rattle.breaches.specs.First.{first};
 ghost use Rattle.breaches.specs.Bits.{firstOf};
-ghost use Rattle.breaches.specs.Parts.{windowAt, windowsHere};
-ghost use Rattle.breaches.specs.Day.{intervalBreaches, dayBreaches, dayWindows, DeviceHolds};
+ghost use Rattle.failing_rules.specs.Parts.{windowsHere};
+ghost use Rattle.failing_rules.specs.Day.{intervalBreaches, dayBreaches, dayWindows};
+ghost use Rattle.breaches.specs.Day.{DeviceHolds};
 use cell_bounds::bounds_of;
 use device_rows::device_at;
-use device_rules::failing_at;
 use device_rules::held_all;
+use failing_rules::cell_breach;
+use failing_rules::failing_in;
+use failing_rules::window_breach;
 use model::Breach;
 use row_places::CellRow;
 use row_places::Device;
@@ -32,21 +35,6 @@ pub enum Check {
     Broken(Breach),
 }
 
-// "A place is interval, device, window from 1, else 0."
-fn broken(rule: u64, t: usize, i: usize) -> Check
-    requires { ⌜ (t < mostIntervals) × (i < mostDevices) ⌝ }
-    ensures { λ r. ⌜ r ≡ Check.Broken (breachAt t i rule) ⌝ }
-{
-    let interval = t as u64 + 1;
-    let device = i as u64 + 1;
-    Check::Broken(Breach {
-        rule,
-        interval,
-        device,
-        window: 0,
-    })
-}
-
 // The first of the rules that a word names, bit n for rule n.
 fn first_in(word: u32, t: usize, i: usize) -> Check
     requires { ⌜ (t < mostIntervals) × (i < mostDevices) ⌝ }
@@ -56,7 +44,7 @@ fn first_in(word: u32, t: usize, i: usize) -> Check
     let mut rule = 0;
     while rule < 32 {
         if rest % 2 == 1 {
-            return broken(rule, t, i);
+            return Check::Broken(cell_breach(rule, t, i));
         }
         rest /= 2;
         rule += 1;
@@ -84,17 +72,18 @@ fn cell_check(
     ensures { λ r. ⌜ r ≡ first (cellBreaches (systemIn (now (halves .entry)) (now (zones .entry)) (now (minima .entry)) (now (devices .entry))
         (now (cells .entry))) (planIn (length (now (devices .entry))) (length (now (halves .entry))) (now (settings .entry))) t i) ⌝ }
 {
-    let d = device_at(devices, i);
-    let b = bounds_of(d);
-    let e = a + halves.len();
-    let word = failing_at(
-        b,
-        d.power0,
+    let word = failing_in(
+        front,
         halves,
-        &cells[a..e],
-        &settings[a..e],
+        zones,
+        minima,
+        devices,
+        cells,
+        settings,
         starts,
-        &powers[a..e],
+        powers,
+        i,
+        a,
         t,
     );
     first_in(word, t, i)
@@ -181,20 +170,6 @@ fn day_rules(
     Check::Held
 }
 
-fn window_broken(i: usize, w: usize) -> Check
-    requires { ⌜ (i < mostDevices) × (w < mostWindows) ⌝ }
-    ensures { λ r. ⌜ r ≡ Check.Broken (windowAt i w) ⌝ }
-{
-    let device = i as u64 + 1;
-    let window = w as u64 + 1;
-    Check::Broken(Breach {
-        rule: 20,
-        interval: 0,
-        device,
-        window,
-    })
-}
-
 // Rule 20 of a device's windows, from its part of the settings.
 fn device_windows(d: Device, settings: &[SettingRow], starts: &[u32], i: usize) -> Check
     requires { ⌜ (d .nstarts ≤ mostWindows) × (i < mostDevices) × (length (now settings) ≤ mostIntervals) × (length (now settings) ≤ length (now starts)) ⌝ }
@@ -205,7 +180,7 @@ fn device_windows(d: Device, settings: &[SettingRow], starts: &[u32], i: usize) 
     while w < d.nstarts {
         let window = d.starts[w];
         if !window_kept(window, all, d.on0, settings, starts) {
-            return window_broken(i, w);
+            return Check::Broken(window_breach(i, w));
         }
         w += 1;
     }

@@ -1,5 +1,7 @@
-// Runs the batches of a corpus, each behind a 32-bit byte length, with a line on each completion's bytes.
+// Runs the batches of a corpus, each behind a 32-bit byte length, with a line on each completion's bytes and on each list of breaches.
+use frames::LIMIT;
 use libc::STDOUT_FILENO;
+use model::Listing;
 use plan_unit::CELLS;
 use plan_unit::DEVICES;
 use plan_unit::INTERVALS;
@@ -71,6 +73,68 @@ fn print_completion(needed: u64, result: &[u8]) {
     print(b"", crc(bytes) as u64, b"\n");
 }
 
+// The most bytes that a list of breaches takes at 16 devices and 48 intervals.
+const LIST: usize = 58624;
+
+// The bytes of a breach in the list.
+const ENTRY: usize = 4;
+
+fn list_buffer() -> [u8; LIST] {
+    [0u8; LIST]
+}
+
+// How many rules a plan breaks and the checksum of their list; nothing where it breaks none.
+fn print_list(n: u64, list: &[u8]) {
+    if n == 0 {
+        return;
+    }
+    let entries = least(n, (list.len() / ENTRY) as u64) as usize;
+    let e = ENTRY * entries;
+    let bytes = &list[0..e];
+    print(b"breaches ", n, b" ");
+    print(b"", crc(bytes) as u64, b"\n");
+}
+
+// The rules that a frame's plan breaks, where it is not accepted; nothing of a plan that is refused.
+fn print_breaches(
+    accepted: bool,
+    front: Front,
+    halves: &[u32],
+    zones: &[ZoneRow],
+    minima: &[MinimaRow],
+    devices: &[DeviceRow],
+    cells: &[CellRow],
+    settings: &mut [SettingRow],
+    starts: &mut [u32],
+    powers: &mut [u32],
+    frame: &[u8],
+)
+    requires { ⌜ Decoded front (now halves) (now zones) (now minima) (now devices) (now cells)
+        × Work (now halves) (now devices) (now settings) (now starts) (now powers) ⌝ }
+{
+    if accepted {
+        return;
+    }
+    let message = layouts::message_at(frame, 0, LIMIT);
+    let mut list = list_buffer();
+    match breach_lists::breaches_of_plan(
+        front,
+        halves,
+        zones,
+        minima,
+        devices,
+        cells,
+        message,
+        settings,
+        starts,
+        powers,
+        &mut list,
+    ) {
+        Listing::Listed(n) => print_list(n, &list),
+        Listing::Refused(_, _) => {}
+    }
+}
+
 // The plans of a batch of which `left` bytes are not read yet; answers how many were not read.
 fn run_plans(
     front: Front,
@@ -116,6 +180,19 @@ fn run_plans(
         if !turn.more {
             return turn.rest;
         }
+        print_breaches(
+            turn.accepted,
+            front,
+            halves,
+            zones,
+            minima,
+            devices,
+            cells,
+            settings,
+            starts,
+            powers,
+            frame,
+        );
         rest = turn.rest;
         index += 1;
     }

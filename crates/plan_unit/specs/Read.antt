@@ -40,7 +40,7 @@ module _ {front : Front} {halves : List ℕ} {zones minima devices cells : List 
   abbrev p : Plan
   p = planIn (length devices) (length halves) settings
 
-  plan-read : ended p e ≡ readPlan x ps
+  pub plan-read : ended p e ≡ readPlan x ps
   unfolding plannedIn
   plan-read = h .reads ∙ layout-same (sym (devices-are halves zones minima devices cells)) (sym (intervals-are halves zones minima devices cells))
     where
@@ -78,8 +78,11 @@ module _ (cs halves : List ℕ) (zones minima devices cells : List (List ℕ)) (
   abbrev held : Stated
   held = statedFirst front n halves zones minima devices cells
 
-  passed : e ≡ Passes → statedIn batch cs ≡ passes held
+  pub passed : e ≡ Passes → statedIn batch cs ≡ passes held
   passed t = sym (h .is) ∙ ap (ended held) t
+
+  pub failed : {f : Fault} → e ≡ Fails f → statedIn batch cs ≡ fails f
+  failed t = sym (h .is) ∙ ap (ended held) t
 
   -- its rows are decoded
   pub decoded-first : e ≡ Passes → DecodedFirst front n halves zones minima devices cells batch
@@ -93,7 +96,7 @@ module _ (cs halves : List ℕ) (zones minima devices cells : List (List ℕ)) (
 
   pub case-fails : (ps before : List ℕ) {f : Fault} → e ≡ Fails f → Judges batch cs ps before before (Refused S.Case f)
   case-fails ps before {f} t =
-      let off = case-off batch cs ps before f (sym (h .is) ∙ ap (ended held) t) in
+      let off = case-off batch cs ps before f (failed t) in
       judges batch (omega arith) (omega arith) (off .0) (off .1)
 
   pub inspect-fails : {f : Fault} → e ≡ Fails f → I.Refused f ≡ inspectedOf (statedIn batch cs)

@@ -1,4 +1,4 @@
--- What hosts in other languages are told: a word and four numbers for each verdict, and for each case that is inspected.
+-- What hosts in other languages are told: a word and four numbers for each verdict, for each case that is inspected, and for each list of breaches.
 use mathlib.Core.List.{List, [], _∷_}
 use Prim.Native.Nat.{ℕ}
 use Rattle.layouts.specs.Faults.{numberOf, returnedBy}
@@ -7,11 +7,13 @@ use Rattle.model.specs.declared.Subject.{Subject}
 use Rattle.model.specs.declared.Subject.the-variants as S
 use Rattle.model.specs.declared.Verdict.{Verdict}
 use Rattle.model.specs.declared.Verdict.the-variants.{Accepted, Broken, Refused}
+use Rattle.model.specs.declared.Listing.{Listing}
+use Rattle.model.specs.declared.Listing.the-variants as L
 use Rattle.tellings.specs.declared.Told.{Told}
 use Rattle.plan_unit.specs.declared.Inspected.{Inspected}
 use Rattle.plan_unit.specs.declared.Inspected.the-variants as I
 
--- 2 a refused case, 3 a refused plan, 4 a result buffer too short
+-- 2 a refused case, 3 a refused plan, 4 a lent buffer too short
 abbrev pub wordOf : Subject → ℕ
 wordOf S.Case = 2
 wordOf S.Plan = 3
@@ -27,6 +29,11 @@ toldOf (Refused s f) = record { word = wordOf s; first = numberOf f; second = re
 abbrev pub toldCase : Inspected → Told
 toldCase (I.Counts d n z) = record { word = 0; first = d; second = n; third = z; fourth = 0 }
 toldCase (I.Refused f) = record { word = 2; first = numberOf f; second = returnedBy f; third = 0; fourth = 0 }
+
+-- 0 listed: how many breaches; 2 to 4 refused: number, bit or bytes
+abbrev pub toldList : Listing → Told
+toldList (L.Listed n) = record { word = 0; first = n; second = 0; third = 0; fourth = 0 }
+toldList (L.Refused s f) = record { word = wordOf s; first = numberOf f; second = returnedBy f; third = 0; fourth = 0 }
 
 abbrev pub figuresOf : Told → List ℕ
 figuresOf t = t .first ∷ t .second ∷ t .third ∷ t .fourth ∷ []

@@ -1,4 +1,5 @@
 // What hosts in other languages are told: a word and four numbers.
+use model::Listing;
 use model::Subject;
 use model::Verdict;
 use plan_unit::Inspected;
@@ -6,7 +7,7 @@ ghost use mathlib.Core.Path.{_≡_};
 ghost use mathlib.Core.List.{_++_};
 ghost use Prim.Native.Nat.{_≤_};
 ghost use lib.ListN.{length, drop};
-ghost use Rattle.tellings.specs.Told.{wordOf, toldOf, toldCase, figuresOf};
+ghost use Rattle.tellings.specs.Told.{wordOf, toldOf, toldCase, toldList, figuresOf};
 
 pub struct Told {
     pub word: u64,
@@ -82,6 +83,33 @@ pub fn tell_case(x: Inspected) -> Told
             let returned = layouts::returned_by(f);
             Told {
                 word: 2,
+                first: number,
+                second: returned,
+                third: 0,
+                fourth: 0,
+            }
+        }
+    }
+}
+
+// A list of breaches.
+pub fn tell_list(x: Listing) -> Told
+    ensures { λ r. ⌜ r ≡ toldList x ⌝ }
+{
+    match x {
+        Listing::Listed(n) => Told {
+            word: 0,
+            first: n,
+            second: 0,
+            third: 0,
+            fourth: 0,
+        },
+        Listing::Refused(s, f) => {
+            let word = word_of(s);
+            let number = layouts::number_of(f);
+            let returned = layouts::returned_by(f);
+            Told {
+                word,
                 first: number,
                 second: returned,
                 third: 0,

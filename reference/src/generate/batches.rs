@@ -3,7 +3,7 @@
 use crate::batch::{append_length, append_message, LONGEST_MESSAGE};
 use crate::encode::{encode_case, encode_plan};
 use crate::generate::breaks::{
-    nudged_plan, plan_breaking, plan_broken_severally, recommitted_plan,
+    metered_plan, nudged_plan, plan_breaking, plan_broken_severally, recommitted_plan,
 };
 use crate::generate::damage::{contradict, damaged, give_too_many_states, CONTRADICTIONS};
 use crate::generate::plans::{good_plan, wild_plan};
@@ -49,7 +49,8 @@ pub fn random_plan_message(rng: &mut Rng, sample: &Sample) -> Vec<u8> {
         4..=11 => nudged_plan(rng, sample),
         12..=16 => recommitted_plan(rng, sample),
         17..=18 => wild_plan(rng, &sample.case),
-        19..=52 => {
+        19..=22 => metered_plan(rng, sample),
+        23..=52 => {
             let rule = rng.from_to(1, 20) as u8;
             plan_breaking(rng, sample, rule).unwrap_or_else(|| nudged_plan(rng, sample))
         }

@@ -295,6 +295,25 @@ pub fn plan_broken_severally(rng: &mut Rng, sample: &Sample) -> Plan {
     plan
 }
 
+/// A good plan as meters tell it the day after: powers that drifted, reserves that were held or
+/// not, now and then a device that was switched otherwise.
+pub fn metered_plan(rng: &mut Rng, sample: &Sample) -> Plan {
+    let mut plan = good_plan(rng, sample);
+    let drift = rng.pick(&[1, 30, 1_000]);
+    let metered =
+        |rng: &mut Rng, figure: i128| (figure + rng.from_to(-drift, drift)).clamp(0, HIGHEST_POWER);
+    for setting in plan.intervals.iter_mut().flatten() {
+        setting.online_power = metered(rng, setting.online_power);
+        if rng.chance(20) {
+            let eight = setting.reserves.in_order();
+            let drifted = eight.map(|reserve| metered(rng, reserve));
+            setting.reserves = Reserves::from_order(drifted);
+        }
+        setting.on ^= rng.chance(3);
+    }
+    plan
+}
+
 /// A good plan in which one device follows any commitment at all, at pmin while on.
 pub fn recommitted_plan(rng: &mut Rng, sample: &Sample) -> Plan {
     let mut plan = good_plan(rng, sample);

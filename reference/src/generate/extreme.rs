@@ -1,4 +1,5 @@
-//! Days with the greatest figures that messages can say: a very low and a very high surplus.
+//! Days with the greatest figures that messages can say: a very low and a very high surplus, and
+//! the most breaches.
 
 use crate::case::{
     Block, Case, Device, EnergyKind, EnergyWindow, Ramps, Reserves, Side, StartWindow,
@@ -59,6 +60,73 @@ pub fn very_high_surplus_day() -> Day {
         ]
         .concat(),
     })
+}
+
+/// The most breaches that a plan can have: 16 devices that are switched in every interval, so that
+/// each breaks 15 rules in each of 48 intervals, rule 2 in the 24 in which it is on, rule 3 or 4 in
+/// all but the first, and rule 20 in four windows.
+///
+/// No plan has more. Rules 5 and 6 are never broken at one place, nor rules 3 and 4; each interval
+/// more away from the initial state breaks rule 2 once more and is two switches less.
+pub fn most_breaches_day() -> Day {
+    const POWER_ON: i128 = 50_000;
+    const POWER_OFF: i128 = 25_000;
+    let is_on = |t: usize| t.is_multiple_of(2);
+    let terms = |t: usize| Terms {
+        status: if is_on(t) { Status::Off } else { Status::On },
+        pmin: 0,
+        pmax: 0,
+        blocks: Vec::new(),
+        reserve_prices: Reserves::default(),
+    };
+    let setting = |t: usize| Setting {
+        on: is_on(t),
+        online_power: if is_on(t) { POWER_ON } else { POWER_OFF },
+        reserves: Reserves::from_order([HIGHEST_POWER; 8]),
+    };
+    let device = |number: usize| {
+        let side = [Side::Producing, Side::Consuming][number % 2];
+        never_allowed(side, (0..MOST_INTERVALS).map(terms).collect())
+    };
+    Day {
+        case: Case {
+            mismatch_price: 1,
+            overrun_price: 1,
+            durations: vec![SHORTEST; MOST_INTERVALS],
+            zones: Vec::new(),
+            devices: (0..MOST_DEVICES).map(device).collect(),
+        },
+        plan: Plan {
+            intervals: (0..MOST_INTERVALS)
+                .map(|t| vec![setting(t); MOST_DEVICES])
+                .collect(),
+        },
+    }
+}
+
+/// The shortest interval, in minutes.
+const SHORTEST: i128 = 2;
+
+/// Off, with the longest minima, the slowest ramps, no reserve limits and no start allowed.
+fn never_allowed(side: Side, terms: Vec<Terms>) -> Device {
+    let no_start = StartWindow {
+        start: 0,
+        end: SHORTEST * MOST_INTERVALS as i128,
+        most_starts: 0,
+    };
+    Device {
+        minimum_up: 60_000,
+        minimum_down: 60_000,
+        ramps: Ramps {
+            up: 1,
+            down: 1,
+            starting: 1,
+            stopping: 1,
+        },
+        reserve_limits: Reserves::default(),
+        start_windows: vec![no_start; MOST_ITEMS],
+        ..Device::plain(side, terms)
+    }
 }
 
 /// Initially off, without costs; every block at one price, every state at one cost.

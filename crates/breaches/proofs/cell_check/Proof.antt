@@ -1,96 +1,21 @@
--- The parts are those of device i.
-use native.Mathlib.Omega.{arith}
-use Rattle.breaches.specs.Parts.{place, fits-cut, word-first}
+-- The first of the rules that fail.
+use lib.ListN.{length}
+use Rattle.records.specs.Views.{systemIn, planIn}
+use Rattle.breaches.specs.Parts.{word-first}
 use borrow.Author.Needs.{needs}
 use Rattle.breaches.proofs.cell_check.Statement.{statement}
 use Rattle.breaches.proofs.cell_check.Tie as tie
 
-device-at-requires : tie.Need-device-at-requires
-device-at-requires c κs = search needs
-
-bounds-of-requires : tie.Need-bounds-of-requires
-bounds-of-requires c κs = search needs
-
-add-e : tie.Need-add-e
-add-e c = let a : _ = c .before .before .before .before .before .args in
-    omega (arith, place (c .before .before .before .before .before .pre .0) (a .i) (a .a) (c .before .before .before .before .before .pre .1) (c .before .before .before .before .before .pre .2))
-
-mul-failing-at : tie.Need-mul-failing-at
-mul-failing-at c = let a : _ = c .before .before .before .before .before .args in
-    omega (arith, place (c .before .before .before .before .before .pre .0) (a .i) (a .a) (c .before .before .before .before .before .pre .1) (c .before .before .before .before .before .pre .2))
-
-sub-failing-at : tie.Need-sub-failing-at
-sub-failing-at c = search needs
-
-part-failing-at-start : tie.Need-part-failing-at-start
-part-failing-at-start c = search needs
-
-part-failing-at-end : tie.Need-part-failing-at-end
-part-failing-at-end c = let a : _ = c .before .before .before .before .before .args in
-    omega (arith, place (c .before .before .before .before .before .pre .0) (a .i) (a .a) (c .before .before .before .before .before .pre .1) (c .before .before .before .before .before .pre .2))
-
-mul-failing-at-2 : tie.Need-mul-failing-at-2
-mul-failing-at-2 c = let a : _ = c .before .before .before .before .before .before .args in
-    omega (
-      arith,
-      place (c .before .before .before .before .before .before .pre .0) (a .i) (a .a) (c .before .before .before .before .before .before .pre .1)
-          (c .before .before .before .before .before .before .pre .2),
-    )
-
-sub-failing-at-2 : tie.Need-sub-failing-at-2
-sub-failing-at-2 c = search needs
-
-part-failing-at-start-2 : tie.Need-part-failing-at-start-2
-part-failing-at-start-2 c = search needs
-
-part-failing-at-end-2 : tie.Need-part-failing-at-end-2
-part-failing-at-end-2 c = let a : _ = c .before .before .before .before .before .before .args in
-    omega (
-      arith,
-      place (c .before .before .before .before .before .before .pre .0) (a .i) (a .a) (c .before .before .before .before .before .before .pre .1)
-          (c .before .before .before .before .before .before .pre .2),
-    )
-
-mul-failing-at-3 : tie.Need-mul-failing-at-3
-mul-failing-at-3 c = let a : _ = c .before .before .before .before .before .before .before .args in
-    omega (
-      arith,
-      place (c .before .before .before .before .before .before .before .pre .0) (a .i) (a .a)
-          (c .before .before .before .before .before .before .before .pre .1) (c .before .before .before .before .before .before .before .pre .2),
-    )
-
-sub-failing-at-3 : tie.Need-sub-failing-at-3
-sub-failing-at-3 c = search needs
-
-part-failing-at-start-3 : tie.Need-part-failing-at-start-3
-part-failing-at-start-3 c = search needs
-
-part-failing-at-end-3 : tie.Need-part-failing-at-end-3
-part-failing-at-end-3 c = let a : _ = c .before .before .before .before .before .before .before .args in
-    omega (
-      arith,
-      place (c .before .before .before .before .before .before .before .pre .0) (a .i) (a .a)
-          (c .before .before .before .before .before .before .before .pre .1) (c .before .before .before .before .before .before .before .pre .2),
-    )
-
-failing-at-requires : tie.Need-failing-at-requires
-failing-at-requires c κs = let a : _ = c .before .before .before .before .before .before .before .before .args in
-    fits-cut (c .before .before .before .before .before .before .before .before .pre .0) (a .i) (a .a)
-    (c .before .before .before .before .before .before .before .before .pre .1) (c .before .before .before .before .before .before .before .before .pre .2)
-    (c .before .before .before .before .device-at .ensures) (c .before .before .before .bounds-of .ensures) (a .t) (c .before .before .before .before .before .before .before .before .pre .3)
+failing-in-requires : tie.Need-failing-in-requires
+failing-in-requires c κs = search needs
 
 first-in-requires : tie.Need-first-in-requires
 first-in-requires c κs = search needs
 
 returns : tie.Need-returns
-returns c = let a : _ = c .before .before .before .before .before .before .before .before .before .before .args in
-    word-first (c .before .before .before .before .before .before .before .before .before .before .pre .0) (a .i) (a .a)
-    (c .before .before .before .before .before .before .before .before .before .before .pre .1)
-    (c .before .before .before .before .before .before .before .before .before .before .pre .2)
-    (c .before .before .before .before .before .before .device-at .ensures) (c .before .before .before .before .before .bounds-of .ensures) (a .t)
-    (c .before .before .before .before .before .before .before .before .before .before .pre .3) (c .before .failing-at .ensures) (c .first-in .ensures)
+returns c = let a : _ = c .before .before .before .before .before .args in
+    word-first (systemIn (a .halves .now) (a .zones .now) (a .minima .now) (a .devices .now) (a .cells .now))
+    (planIn (length (a .devices .now)) (length (a .halves .now)) (a .settings .now)) (a .t) (a .i) (c .before .failing-in .result) (c .before .failing-in .ensures) (c .first-in .ensures)
 
 pub cell-check-spec : {M : Type 1} → statement M
-cell-check-spec = tie.close (tie.spec device-at-requires bounds-of-requires add-e mul-failing-at sub-failing-at part-failing-at-start part-failing-at-end
-    mul-failing-at-2 sub-failing-at-2 part-failing-at-start-2 part-failing-at-end-2 mul-failing-at-3 sub-failing-at-3 part-failing-at-start-3
-    part-failing-at-end-3 failing-at-requires first-in-requires returns)
+cell-check-spec = tie.close (tie.spec failing-in-requires first-in-requires returns)

@@ -4,7 +4,7 @@ use mathlib.Core.Path.{sym, ap, _∙_}
 use borrow.Author.Tests.{not-false}
 use Rattle.numbers.specs.Tests.{never}
 use Rattle.breaches.specs.First.{first, none-first}
-use Rattle.breaches.specs.Parts.{place, all-fit, none-here, few-windows, own-long, windows-are}
+use Rattle.failing_rules.specs.Parts.{place, all-fit, none-here, few-windows, own-long, windows-are}
 use borrow.Author.Needs.{needs}
 use Rattle.breaches.proofs.device_held.Statement.{statement}
 use Rattle.breaches.proofs.device_held.Tie as tie

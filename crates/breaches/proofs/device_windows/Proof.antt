@@ -1,9 +1,11 @@
 -- The loop's invariant: the windows that are left give what all give.
 use Prim.Native.Nat.{_≤_, _-_}
 use native.Mathlib.Omega.{arith}
-use mathlib.Core.Path.{refl, _∙_}
+use mathlib.Core.Path.{refl, ap}
+use Rattle.breaches.specs.declared.Check.the-variants.{Broken}
 use Rattle.breaches.specs.First.{Left, loop-start, loop-held, loop-broken, loop-done}
-use Rattle.breaches.specs.Parts.{windowHere, windowsHere, window-held, window-broken}
+use Rattle.failing_rules.specs.Parts.{windowHere, windowsHere}
+use Rattle.breaches.specs.Parts.{window-held, window-broken}
 use borrow.Author.Needs.{needs}
 use Rattle.breaches.proofs.device_windows.Statement.{statement}
 use Rattle.breaches.proofs.device_windows.Tie as tie
@@ -29,16 +31,16 @@ element-copy-out-window c = search needs
 window-kept-requires : tie.Need-window-kept-requires Inv-loop μ-loop
 window-kept-requires c κs = (c .before .before .before .all-starts .ensures, c .before .before .before .before .before .pre .2, c .before .before .before .before .before .pre .3)
 
-window-broken-requires : tie.Need-window-broken-requires Inv-loop μ-loop
-window-broken-requires c κs = search needs
+window-breach-requires : tie.Need-window-breach-requires Inv-loop μ-loop
+window-breach-requires c κs = search needs
 
 returns : tie.Need-returns Inv-loop μ-loop
 unfolding windowsHere
 returns c = let a : _ = c .before .before .before .before .before .before .before .before .args in
     loop-broken (windowHere (a .t1) (a .settings .now) (a .starts .now) (a .i)) (c .before .before .before .before .loop-test .taken)
-    (c .before .before .before .before .before .loop .inv .1) (c .window-broken .ensures
-    ∙ window-broken (a .t1) (a .settings .now) (a .starts .now) (a .i) (c .before .before .before .before .before .loop .w)
-    (c .before .before .window-kept .ensures) (c .before .if1 .taken)) (c .window-broken .ensures)
+    (c .before .before .before .before .before .loop .inv .1)
+    (window-broken (a .t1) (a .settings .now) (a .starts .now) (a .i) (c .before .before .before .before .before .loop .w)
+    (c .before .before .window-kept .ensures) (c .before .if1 .taken) (ap Broken (c .window-breach .ensures))) refl
 
 add-w : tie.Need-add-w Inv-loop μ-loop
 add-w c = search needs
@@ -61,4 +63,4 @@ returns-2 c = let a : _ = c .before .before .before .before .args in
 
 pub device-windows-spec : {M : Type 1} → statement M
 device-windows-spec = tie.close (tie.spec Inv-loop μ-loop all-starts-requires loop-holds mul-window element-copy-out-window window-kept-requires
-    window-broken-requires returns add-w loop-less loop-again returns-2)
+    window-breach-requires returns add-w loop-less loop-again returns-2)

@@ -1,6 +1,7 @@
 -- The loop's invariant: the bits that are left give what all give.
 use Prim.Native.Nat.{_≤_, _-_}
-use mathlib.Core.Path.{_∙_}
+use mathlib.Core.Path.{ap, _∙_}
+use Rattle.breaches.specs.declared.Check.the-variants.{Broken}
 use native.Mathlib.Omega.{arith}
 use Rattle.breaches.specs.Bits.{BitsLeft, bits-start, bits-found, bits-next, bits-done}
 use borrow.Author.Needs.{needs}
@@ -16,11 +17,11 @@ abbrev μ-loop : tie.MeasureT-loop
 loop-holds : tie.Need-loop-holds Inv-loop μ-loop
 loop-holds c = (search needs, bits-start _ _ _)
 
-broken-requires : tie.Need-broken-requires Inv-loop μ-loop
-broken-requires c κs = search needs
+cell-breach-requires : tie.Need-cell-breach-requires Inv-loop μ-loop
+cell-breach-requires c κs = search needs
 
 returns : tie.Need-returns Inv-loop μ-loop
-returns c = c .broken .ensures ∙ bits-found _ _ _ (c .before .before .loop-test .taken) (c .before .before .before .loop .inv .1) (c .before .if1 .taken)
+returns c = ap Broken (c .cell-breach .ensures) ∙ bits-found _ _ _ (c .before .before .loop-test .taken) (c .before .before .before .loop .inv .1) (c .before .if1 .taken)
 
 add-rule : tie.Need-add-rule Inv-loop μ-loop
 add-rule c = search needs
@@ -35,4 +36,4 @@ returns-2 : tie.Need-returns-2 Inv-loop μ-loop
 returns-2 c = bits-done _ _ _ (omega (arith, c .loop-test .left)) (c .before .loop .inv .1)
 
 pub first-in-spec : {M : Type 1} → statement M
-first-in-spec = tie.close (tie.spec Inv-loop μ-loop loop-holds broken-requires returns add-rule loop-less loop-again returns-2)
+first-in-spec = tie.close (tie.spec Inv-loop μ-loop loop-holds cell-breach-requires returns add-rule loop-less loop-again returns-2)

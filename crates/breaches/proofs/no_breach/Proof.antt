@@ -8,7 +8,7 @@ use Rattle.numbers.specs.Tests.{never}
 use Rattle.numbers.specs.Parts.{next-part}
 use Rattle.records.specs.Views.{systemIn, planIn}
 use Rattle.records.specs.Viewed.{intervals-are, devices-are}
-use Rattle.breaches.specs.Parts.{place}
+use Rattle.failing_rules.specs.Parts.{place}
 use Rattle.breaches.specs.Day.{HoldTo, hold-none, hold-next, none-at-all}
 use borrow.Author.Needs.{needs}
 use Rattle.breaches.proofs.no_breach.Statement.{statement}

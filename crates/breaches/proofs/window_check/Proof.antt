@@ -2,7 +2,7 @@
 use native.Mathlib.Omega.{arith}
 use mathlib.Core.Path.{ap, _∙_}
 use Rattle.breaches.specs.First.{first}
-use Rattle.breaches.specs.Parts.{place, few-windows, own-long, windows-are}
+use Rattle.failing_rules.specs.Parts.{place, few-windows, own-long, windows-are}
 use borrow.Author.Needs.{needs}
 use Rattle.breaches.proofs.window_check.Statement.{statement}
 use Rattle.breaches.proofs.window_check.Tie as tie

@@ -2,7 +2,7 @@
 use borrow.Author.Needs.{needs}
 use native.Mathlib.Omega.{arith}
 use lib.ListN.{set}
-use Rattle.tellings.specs.Steps.{set-in, four-set}
+use Rattle.numbers.specs.Parts.{set-in, four-set}
 use Rattle.tellings.proofs.store.Statement.{statement}
 use Rattle.tellings.proofs.store.Tie as tie
 

@@ -1,0 +1,122 @@
+-- A device's parts as the code cuts them, from a on: they lie within the tables, and their tests and windows are the model's.
+use mathlib.Core.Path.{_≡_, refl, sym, ap, _∙_}
+use mathlib.Core.Bool.{Bool, true, false, not}
+use mathlib.Core.List.{List, [], _∷_, map}
+use Prim.Native.Nat.{ℕ, suc, _+_, _-_, _*_, _≤_, _<_}
+use native.Mathlib.Omega.{arith}
+use native.Mathlib.Nat.{mul-le-mul}
+use borrow.Author.Tests.{not-true, not-false}
+use lib.Dec.{leb}
+use lib.ListN.{getD, length, take, drop}
+use Rattle.numbers.specs.Base.{upTo, gather}
+use Rattle.numbers.specs.Every.{all-upTo}
+use Rattle.numbers.specs.Gather.{gather-cong}
+use Rattle.model.specs.Case.{System, Plan}
+use Rattle.model.specs.Forced as F
+use Rattle.model.specs.Rules.{windowBreach}
+use Rattle.model.specs.Breaches.{failing, cellTests, cellBreaches, oneWindow, windowBreaches}
+use Rattle.model.specs.declared.Breach.{Breach}
+use Rattle.row_places.specs.Figures.{deviceOf}
+use Rattle.numbers.specs.Parts.{part, part-cut, part-inside, part-long}
+use Rattle.records.specs.Views.{systemIn, planIn, mostWindows, mostDevices, mostIntervals, Ready}
+use Rattle.records.specs.Viewed as W
+use Rattle.row_places.specs.Figures.{noStart}
+use Rattle.row_places.specs.declared.Device.{Device}
+use Rattle.row_places.specs.declared.Front.{Front}
+use Rattle.cell_bounds.specs.declared.Bounds.{Bounds}
+use Rattle.cell_bounds.specs.Word.{failingWord, numbersIn}
+use Rattle.cell_bounds.specs.Tests.{boundsOf}
+use Rattle.moments.specs.Moments.{testsAt, Fits}
+use Rattle.device_rules.specs.Tie.{tests-here, bits-here, fits-here}
+use Rattle.device_rules.specs.Whole.{AllFit, HeldTo}
+use Rattle.start_windows.specs.Windows.{startsAt, starts-are}
+
+-- ---- rule 20 of a device's windows
+
+module _ (d : Device) (settings : List (List ℕ)) (starts : List ℕ) (i : ℕ) where
+  abbrev counted : ℕ → ℕ
+  counted w = startsAt (getD (d .starts) w noStart) (d .on0) settings starts
+
+  unfoldable pub windowHere : ℕ → List Breach
+  windowHere w = map (windowBreach i w) (failing ((20, leb (counted w) (getD (d .starts) w noStart .most)) ∷ []))
+
+  unfoldable pub windowsHere : List Breach
+  windowsHere = gather windowHere (upTo (d .nstarts))
+
+-- ---- places
+
+pub record Place (a m : ℕ) (cells settings : List (List ℕ)) (powers : List ℕ) : Type 0 where
+  pub in-cells : a + m ≤ length cells
+  pub in-settings : a + m ≤ length settings
+  pub in-powers : a + m ≤ length powers
+  pub small : a + m ≤ mostDevices * mostIntervals
+
+module _ {front : Front} {halves : List ℕ} {zones minima devices cells settings : List (List ℕ)} {starts powers : List ℕ}
+    (ready : Ready front halves zones minima devices cells settings starts powers) (i a : ℕ) (l : i < length devices) (e : a ≡ i * length halves) where
+  pub place : Place a (length halves) cells settings powers
+  place = let h = part-inside (length halves) i (length devices) l in record {
+    in-cells = omega (arith, h, ready .case-rows .cells-full);
+    in-settings = omega (arith, h, ready .plan-rows .full);
+    in-powers = omega (arith, h, ready .forced-rows .powers-full);
+    small = omega (arith, h, mul-le-mul (ready .case-rows .few-devices) (ready .case-rows .few-intervals));
+  }
+
+  abbrev q : System
+  q = systemIn halves zones minima devices cells
+
+  abbrev p : Plan
+  p = planIn (length devices) (length halves) settings
+
+  abbrev m : ℕ
+  m = length halves
+
+  abbrev ownCells : List (List ℕ)
+  ownCells = take (a + length halves - a) (drop a cells)
+
+  abbrev ownSettings : List (List ℕ)
+  ownSettings = take (a + length halves - a) (drop a settings)
+
+  abbrev ownPowers : List ℕ
+  ownPowers = take (a + length halves - a) (drop a powers)
+
+  module _ {d : Device} {b : Bounds} (is : d ≡ deviceOf (getD devices i [])) (at : b ≡ boundsOf d) where
+    pub fits-cut : (t : ℕ) → t < length halves → Fits b (d .power0 .0) halves ownCells ownSettings starts ownPowers t
+    fits-cut t h = rw (at, is, part-cut m i a cells e, part-cut m i a settings e, part-cut m i a powers e) (fits-here ready i l t h)
+
+    pub all-fit : AllFit b (d .power0 .0) halves ownCells ownSettings starts ownPowers
+    all-fit = record { at = fits-cut }
+
+    tests-cut : (t : ℕ) → t < length halves → testsAt b (d .power0 .0) halves ownCells ownSettings starts ownPowers t ≡ cellTests q p t i
+    tests-cut t h = rw (at, is, part-cut m i a cells e, part-cut m i a settings e, part-cut m i a powers e) (tests-here ready i l t h)
+
+    -- the word's numbers are those of the cell's failing tests
+    pub word-numbers : (t : ℕ) → t < length halves → {word : ℕ} → word ≡ failingWord (testsAt b (d .power0 .0) halves ownCells ownSettings starts ownPowers t)
+        → numbersIn word ≡ failing (cellTests q p t i)
+    word-numbers t h {word} f = bits-here ready i l t h {word = word} (rw (at, is, part-cut m i a cells e, part-cut m i a settings e, part-cut m i a powers e) at f)
+
+    -- no test fails
+    pub none-here : HeldTo b (d .power0 .0) halves ownCells ownSettings starts ownPowers (length halves) → (t : ℕ) → t < length halves → cellBreaches q p t i ≡ []
+    unfolding cellBreaches
+    none-here k t h = rw (← tests-cut t h, k .at t h) refl
+
+  abbrev there : Device
+  there = deviceOf (getD devices i [])
+
+  here-is : (w : ℕ) → w < there .nstarts → windowHere there (part m i settings) starts i w ≡ oneWindow q p i w
+  unfolding windowHere oneWindow
+  here-is w h = rw (starts-are ready i l w h, W.start-window-is halves zones minima devices cells i l w h) refl
+
+  all-here : windowsHere there (part m i settings) starts i ≡ windowBreaches q p i
+  unfolding windowsHere windowBreaches
+  all-here = rw (W.start-windows-are halves zones minima devices cells i l (ready .case-rows .counted i l .few-starts))
+      (gather-cong (windowHere there (part m i settings) starts i) (oneWindow q p i) (upTo (there .nstarts)) (all-upTo _ _ here-is))
+
+  -- the device's windows in turn
+  pub windows-are : {d : Device} → d ≡ deviceOf (getD devices i []) → windowsHere d ownSettings starts i ≡ windowBreaches q p i
+  windows-are is = rw (is, part-cut m i a settings e) all-here
+
+  pub own-long : length ownSettings ≡ length halves
+  own-long = rw (part-cut m i a settings e) (part-long m i (length devices) settings l (ready .plan-rows .full))
+
+  pub few-windows : {d : Device} → d ≡ deviceOf (getD devices i []) → d .nstarts ≤ mostWindows
+  few-windows is = rw is (ready .case-rows .counted i l .few-starts)

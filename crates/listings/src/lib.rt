@@ -1,0 +1,1 @@
+// Theorems on the list of every broken rule; no code.

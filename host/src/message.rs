@@ -1,0 +1,303 @@
+//! The figures of a case and of a plan that the desk program's words are made of.
+//!
+//! A message comes here after it passed the plan unit's reading: ranges and refusals are that
+//! reading's alone, and `None` means that the two readings differ. Each field is read at one place,
+//! in the order of the message; what a later edition adds goes there, by `Fields::edition`.
+
+const CASE: i64 = 1;
+const PLAN: i64 = 2;
+/// The newest edition whose fields stand here.
+const NEWEST_EDITION: i64 = 1;
+
+const COUNT: usize = 3;
+const POWER: usize = 17;
+const MINUTES: usize = 16;
+const STARTUP_STATE: usize = MINUTES + 31;
+const ENERGY_WINDOW: usize = 1 + 2 * MINUTES + 32;
+const BLOCK_PRICE: usize = 15;
+const RESERVE_PRICES: usize = 8 * 14;
+/// A zone's shares and shortfall prices.
+const ZONE_TERMS: usize = 4 * 10 + 6 * 7;
+/// A zone's ramping minima in one interval.
+const ZONE_MINIMA: usize = 2 * 23;
+
+/// A day to be planned. Power kW, time minutes, money grains.
+#[derive(Clone, PartialEq, Eq, Debug)]
+pub struct Case {
+    pub edition: i64,
+    pub zones: usize,
+    pub mismatch_price: i64,
+    pub overrun_price: i64,
+    pub intervals: Vec<Interval>,
+    pub devices: Vec<Device>,
+}
+
+/// S and E of an interval.
+#[derive(Clone, Copy, PartialEq, Eq, Debug)]
+pub struct Interval {
+    pub start: i64,
+    pub end: i64,
+}
+
+/// A figure for each of the eight reserves, in the order of [`Reserve`].
+pub type Eight = [i64; 8];
+
+/// The eight reserves, in the order of the messages.
+#[derive(Clone, Copy, PartialEq, Eq, Debug)]
+pub enum Reserve {
+    Rgu,
+    Rgd,
+    Scr,
+    Nsc,
+    RruOn,
+    RruOff,
+    RrdOn,
+    RrdOff,
+}
+
+impl Reserve {
+    pub fn name(self) -> &'static str {
+        const NAMES: [&str; 8] = [
+            "rgu", "rgd", "scr", "nsc", "rru_on", "rru_off", "rrd_on", "rrd_off",
+        ];
+        NAMES[self as usize]
+    }
+}
+
+#[derive(Clone, PartialEq, Eq, Debug)]
+pub struct Device {
+    pub consuming: bool,
+    /// Membership in zones 1 to 4.
+    pub in_zone: [bool; 4],
+    pub initially_on: bool,
+    pub initial_power: i64,
+    pub minutes_already_so: i64,
+    pub minimum_up: i64,
+    pub minimum_down: i64,
+    pub up_ramp: i64,
+    pub down_ramp: i64,
+    pub starting_ramp: i64,
+    pub stopping_ramp: i64,
+    pub on_cost: i64,
+    pub start_cost: i64,
+    pub stop_cost: i64,
+    pub reserve_limits: Eight,
+    pub startup_states: usize,
+    pub start_windows: Vec<StartWindow>,
+    pub energy_windows: usize,
+    /// Per interval.
+    pub cells: Vec<Cell>,
+}
+
+#[derive(Clone, Copy, PartialEq, Eq, Debug)]
+pub struct StartWindow {
+    pub start: i64,
+    pub end: i64,
+    pub most_starts: i64,
+}
+
+/// What the case says of a device in an interval.
+#[derive(Clone, PartialEq, Eq, Debug)]
+pub struct Cell {
+    /// Whether the device must be on; `None` where it is free.
+    pub fixed: Option<bool>,
+    pub pmin: i64,
+    pub pmax: i64,
+    pub block_caps: Vec<i64>,
+}
+
+/// What a plan sets: by interval, then device.
+#[derive(Clone, PartialEq, Eq, Debug)]
+pub struct Plan {
+    pub settings: Vec<Vec<Setting>>,
+}
+
+#[derive(Clone, Copy, PartialEq, Eq, Debug)]
+pub struct Setting {
+    pub on: bool,
+    pub online: i64,
+    pub reserves: Eight,
+}
+
+/// A place in a message that advances by one field.
+struct Fields<'a> {
+    message: &'a [u8],
+    place: usize,
+    edition: i64,
+}
+
+impl<'a> Fields<'a> {
+    /// The fields behind a message's kind and edition.
+    fn of(message: &'a [u8], kind: i64) -> Option<Fields<'a>> {
+        let mut fields = Fields {
+            message,
+            place: 0,
+            edition: 0,
+        };
+        let found = fields.take(4)?;
+        fields.edition = fields.take(4)?;
+        let known = (1..=NEWEST_EDITION).contains(&fields.edition);
+        (found == kind && known).then_some(fields)
+    }
+
+    /// The next field as a number from 0, most significant bit first.
+    fn take(&mut self, width: usize) -> Option<i64> {
+        let mut value = 0;
+        for bit in self.place..self.place + width {
+            let byte = self.message.get(bit / 8)?;
+            value = 2 * value + i64::from((byte >> (7 - bit % 8)) & 1);
+        }
+        self.place += width;
+        Some(value)
+    }
+
+    fn flag(&mut self) -> Option<bool> {
+        Some(self.take(1)? == 1)
+    }
+
+    fn count(&mut self, width: usize) -> Option<usize> {
+        self.take(width)?.try_into().ok()
+    }
+
+    fn eight(&mut self) -> Option<Eight> {
+        self.list(8, |fields| fields.take(POWER))?.try_into().ok()
+    }
+
+    /// The counts of devices and intervals.
+    fn counts(&mut self) -> Option<(usize, usize)> {
+        Some((self.count(5)?, self.count(6)?))
+    }
+
+    fn list<T>(
+        &mut self,
+        count: usize,
+        mut item: impl FnMut(&mut Self) -> Option<T>,
+    ) -> Option<Vec<T>> {
+        (0..count).map(|_| item(self)).collect()
+    }
+
+    /// Passes over bits of which no word is made.
+    fn pass(&mut self, bits: usize) {
+        self.place += bits;
+    }
+
+    /// A count, and that many items of which no word is made.
+    fn pass_counted(&mut self, bits: usize) -> Option<usize> {
+        let count = self.count(COUNT)?;
+        self.pass(count * bits);
+        Some(count)
+    }
+
+    /// `Some` where the last field is in the message's last byte.
+    fn end(self) -> Option<()> {
+        (self.place.div_ceil(8) == self.message.len()).then_some(())
+    }
+}
+
+/// The figures of a case that passed reading.
+pub fn read_case(message: &[u8]) -> Option<Case> {
+    let mut fields = Fields::of(message, CASE)?;
+    let (devices, intervals) = fields.counts()?;
+    let zones = fields.count(COUNT)?;
+    let mismatch_price = fields.take(14)?;
+    let overrun_price = fields.take(14)?;
+    let times = read_intervals(&mut fields, intervals)?;
+    fields.pass(zones * (ZONE_TERMS + intervals * ZONE_MINIMA));
+    let case = Case {
+        edition: fields.edition,
+        zones,
+        mismatch_price,
+        overrun_price,
+        intervals: times,
+        devices: fields.list(devices, |fields| read_device(fields, intervals))?,
+    };
+    fields.end()?;
+    Some(case)
+}
+
+/// One behind the other, from minute 0; a message holds half of each duration.
+fn read_intervals(fields: &mut Fields, count: usize) -> Option<Vec<Interval>> {
+    let mut end = 0;
+    fields.list(count, |fields| {
+        let start = end;
+        end += 2 * fields.take(8)?;
+        Some(Interval { start, end })
+    })
+}
+
+fn read_device(fields: &mut Fields, intervals: usize) -> Option<Device> {
+    Some(Device {
+        consuming: fields.flag()?,
+        in_zone: fields.list(4, Fields::flag)?.try_into().ok()?,
+        initially_on: fields.flag()?,
+        initial_power: fields.take(POWER)?,
+        minutes_already_so: fields.take(MINUTES)?,
+        minimum_up: fields.take(MINUTES)?,
+        minimum_down: fields.take(MINUTES)?,
+        up_ramp: fields.take(17)?,
+        down_ramp: fields.take(17)?,
+        starting_ramp: fields.take(17)?,
+        stopping_ramp: fields.take(17)?,
+        on_cost: fields.take(17)?,
+        start_cost: fields.take(30)?,
+        stop_cost: fields.take(30)?,
+        reserve_limits: fields.eight()?,
+        startup_states: fields.pass_counted(STARTUP_STATE)?,
+        start_windows: read_start_windows(fields)?,
+        energy_windows: fields.pass_counted(ENERGY_WINDOW)?,
+        cells: fields.list(intervals, read_cell)?,
+    })
+}
+
+fn read_start_windows(fields: &mut Fields) -> Option<Vec<StartWindow>> {
+    let count = fields.count(COUNT)?;
+    fields.list(count, |fields| {
+        Some(StartWindow {
+            start: fields.take(MINUTES)?,
+            end: fields.take(MINUTES)?,
+            most_starts: fields.take(6)?,
+        })
+    })
+}
+
+fn read_cell(fields: &mut Fields) -> Option<Cell> {
+    let cell = Cell {
+        fixed: match fields.take(2)? {
+            0 => None,
+            status => Some(status == 1),
+        },
+        pmin: fields.take(POWER)?,
+        pmax: fields.take(POWER)?,
+        block_caps: read_block_caps(fields)?,
+    };
+    fields.pass(RESERVE_PRICES);
+    Some(cell)
+}
+
+fn read_block_caps(fields: &mut Fields) -> Option<Vec<i64>> {
+    let count = fields.count(COUNT)?;
+    fields.list(count, |fields| {
+        let cap = fields.take(POWER)?;
+        fields.pass(BLOCK_PRICE);
+        Some(cap)
+    })
+}
+
+/// The figures of a plan that passed reading for `case`.
+pub fn read_plan(case: &Case, message: &[u8]) -> Option<Plan> {
+    let mut fields = Fields::of(message, PLAN)?;
+    let (devices, intervals) = fields.counts()?;
+    let fits = (fields.edition, devices, intervals)
+        == (case.edition, case.devices.len(), case.intervals.len());
+    let settings = fields.list(intervals, |fields| fields.list(devices, read_setting))?;
+    fields.end()?;
+    fits.then_some(Plan { settings })
+}
+
+fn read_setting(fields: &mut Fields) -> Option<Setting> {
+    Some(Setting {
+        on: fields.flag()?,
+        online: fields.take(POWER)?,
+        reserves: fields.eight()?,
+    })
+}

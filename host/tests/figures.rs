@@ -1,0 +1,219 @@
+//! The figures of the desk program's words, beside the reference: every field that is read, the
+//! forced powers, and the rules that the figures break.
+
+mod common;
+
+use common::{each_batch, each_pair};
+use host::day::Day;
+use host::explain::{explain, Breach};
+use host::message::{
+    read_case, read_plan, Case, Cell, Device, Interval, Plan, Setting, StartWindow,
+};
+use reference::breaches::breaches_of;
+use reference::case::{self, Reserves, Side, Status};
+use reference::clock::spans;
+use reference::forced::forced;
+use reference::plan;
+
+fn small(figure: i128) -> i64 {
+    i64::try_from(figure).expect("a figure of a message")
+}
+
+fn eight(reserves: &Reserves) -> [i64; 8] {
+    reserves.in_order().map(small)
+}
+
+/// The reference's case, as far as words are made of it.
+fn case_of(case: &case::Case) -> Case {
+    Case {
+        edition: 1,
+        zones: case.zones.len(),
+        mismatch_price: small(case.mismatch_price),
+        overrun_price: small(case.overrun_price),
+        intervals: spans(&case.durations)
+            .iter()
+            .map(|span| Interval {
+                start: small(span.start),
+                end: small(span.end),
+            })
+            .collect(),
+        devices: case.devices.iter().map(device_of).collect(),
+    }
+}
+
+fn device_of(device: &case::Device) -> Device {
+    Device {
+        consuming: device.side == Side::Consuming,
+        in_zone: device.zone_bits,
+        initially_on: device.initially_on,
+        initial_power: small(device.initial_power),
+        minutes_already_so: small(device.minutes_already_so),
+        minimum_up: small(device.minimum_up),
+        minimum_down: small(device.minimum_down),
+        up_ramp: small(device.ramps.up),
+        down_ramp: small(device.ramps.down),
+        starting_ramp: small(device.ramps.starting),
+        stopping_ramp: small(device.ramps.stopping),
+        on_cost: small(device.on_cost),
+        start_cost: small(device.start_cost),
+        stop_cost: small(device.stop_cost),
+        reserve_limits: eight(&device.reserve_limits),
+        startup_states: device.startup_states.len(),
+        start_windows: device.start_windows.iter().map(window_of).collect(),
+        energy_windows: device.energy_windows.len(),
+        cells: device.terms.iter().map(cell_of).collect(),
+    }
+}
+
+fn window_of(window: &case::StartWindow) -> StartWindow {
+    StartWindow {
+        start: small(window.start),
+        end: small(window.end),
+        most_starts: small(window.most_starts),
+    }
+}
+
+fn cell_of(terms: &case::Terms) -> Cell {
+    Cell {
+        fixed: match terms.status {
+            Status::Free => None,
+            Status::On => Some(true),
+            Status::Off => Some(false),
+        },
+        pmin: small(terms.pmin),
+        pmax: small(terms.pmax),
+        block_caps: terms.blocks.iter().map(|block| small(block.cap)).collect(),
+    }
+}
+
+fn plan_of(plan: &plan::Plan) -> Plan {
+    let setting = |setting: &plan::Setting| Setting {
+        on: setting.on,
+        online: small(setting.online_power),
+        reserves: eight(&setting.reserves),
+    };
+    let row = |row: &Vec<plan::Setting>| row.iter().map(setting).collect();
+    Plan {
+        settings: plan.intervals.iter().map(row).collect(),
+    }
+}
+
+#[test]
+fn messages_hold_the_references_figures() {
+    let (mut cases, mut plans) = (0, 0);
+    each_batch(|message, messages| {
+        let Ok(case) = case::read_case(message) else {
+            return;
+        };
+        let read = read_case(message).expect("the case passes reading");
+        assert_eq!(read, case_of(&case));
+        cases += 1;
+        for message in messages {
+            if let Ok(plan) = plan::read_plan(&case, message) {
+                assert_eq!(read_plan(&read, message), Some(plan_of(&plan)));
+                plans += 1;
+            }
+        }
+    });
+    assert!(cases > 300 && plans > 2_000);
+}
+
+/// Calls `visit` with every pair of the corpus that passes reading, read by both sides.
+fn each_day(mut visit: impl FnMut(&Day, &case::Case, &plan::Plan)) {
+    each_pair(|case_message, plan_message| {
+        let Ok(case) = case::read_case(case_message) else {
+            return;
+        };
+        if let Ok(plan) = plan::read_plan(&case, plan_message) {
+            let day = Day::read(case_message, plan_message).expect("both pass reading");
+            visit(&day, &case, &plan);
+        }
+    });
+}
+
+#[test]
+fn forced_figures_are_the_references() {
+    each_day(|day, case, plan| {
+        let expected = forced(case, &spans(&case.durations), plan);
+        for (j, forced) in expected.iter().enumerate() {
+            for t in 0..case.intervals() {
+                let point = day.point(t + 1, j + 1).expect("a place of the case");
+                let commitment = &forced.commitment;
+                assert_eq!(point.starts(), commitment.started[t]);
+                assert_eq!(point.stops(), commitment.stopped[t]);
+                assert_eq!(i128::from(point.startup_power()), commitment.psu[t]);
+                assert_eq!(i128::from(point.shutdown_power()), commitment.psd[t]);
+                assert_eq!(i128::from(point.power()), forced.power[t]);
+            }
+        }
+    });
+}
+
+/// Every place that a breach could have, in the order of a list.
+fn places(day: &Day) -> impl Iterator<Item = Breach> {
+    let byte = |count: usize| u8::try_from(count).expect("a count");
+    let (intervals, devices) = (byte(day.case.intervals.len()), byte(day.case.devices.len()));
+    let cells = (1..=intervals).flat_map(move |interval| {
+        (1..=devices).flat_map(move |device| {
+            (1..=19).map(move |rule| Breach::from([rule, interval, device, 0]))
+        })
+    });
+    let windows = (1..=devices)
+        .flat_map(|device| (1..=4).map(move |window| Breach::from([20, 0, device, window])));
+    cells.chain(windows)
+}
+
+/// Every rule that the reference lists is borne out, and no other.
+#[test]
+fn figures_break_the_rules_of_the_list_alone() {
+    let mut listed = 0;
+    each_day(|day, case, plan| {
+        let borne_out = places(day).filter(|breach| explain(day, *breach).is_some());
+        let expected = breaches_of(case, plan).into_iter().map(|place| {
+            let byte = |number: usize| u8::try_from(number).expect("a place's number");
+            let [interval, device, window] = [place.interval, place.device, place.window].map(byte);
+            Breach::from([place.rule, interval, device, window])
+        });
+        assert!(borne_out.eq(expected.inspect(|_| listed += 1)));
+    });
+    assert!(listed > 50_000);
+}
+
+/// A breach that is not of the day, or that no rule has, is never told.
+#[test]
+fn places_outside_the_day_are_not_told() {
+    each_day(|day, _, _| {
+        let (intervals, devices) = (day.case.intervals.len() as u8, day.case.devices.len() as u8);
+        for rule in 0..=255 {
+            for breach in [
+                [rule, 0, 1, 0],
+                [rule, 1, 0, 0],
+                [rule, intervals + 1, 1, 0],
+                [rule, 1, devices + 1, 0],
+                [rule, 1, 1, 1],
+                [rule, 0, 1, 5],
+            ] {
+                assert_eq!(explain(day, Breach::from(breach)), None);
+            }
+        }
+    });
+}
+
+/// A message that is cut, longer, of another kind or of an unknown edition has no figures here.
+#[test]
+fn what_does_not_pass_reading_has_no_figures() {
+    let (mut cut, mut longer) = (0, 0);
+    each_batch(|message, _| {
+        if case::read_case(message).is_err() {
+            return;
+        }
+        assert_eq!(read_case(&message[..message.len() - 1]), None);
+        cut += 1;
+        assert_eq!(read_case(&[message, &[0]].concat()), None);
+        longer += 1;
+        for first in [0x10, 0x1f, 0x21, 0x01] {
+            assert_eq!(read_case(&[&[first], &message[1..]].concat()), None);
+        }
+    });
+    assert!(cut > 300 && longer > 300);
+}
