@@ -1,20 +1,21 @@
 -- Edition 1 as before: a message of edition 1 is read and written by the layouts of every edition as `Messages` says, which is all that an edition 1 message means.
 use mathlib.Core.Path.{_≡_, refl, sym, _∙_, ap}
-use mathlib.Core.List.{List, _++_, append-assoc}
+use mathlib.Core.List.{List, _++_, append-assoc, append-nil}
 use Prim.Native.Nat.{ℕ, _≤_, min}
 use native.Mathlib.Omega.{arith}
 use Rattle.layouts.specs.declared.Fault.{Fault}
 use Rattle.layouts.specs.declared.Place.{Place}
-use Rattle.layouts.specs.Layout.{Layout, begin, advanced, nat, _then_, _▸_, held, fixed}
+use Rattle.layouts.specs.Layout.{Layout, begin, advanced, nat, _then_, _▸_, held, fixed, readWhole}
+use Rattle.layouts.specs.Since.{nothing, present}
 use Rattle.layouts.specs.Checked.{Checked, nat-checked, weaken}
-use Rattle.layouts.specs.As.{As, as-same, ahead, always, only, holding, leads}
+use Rattle.layouts.specs.As.{As, as-same, as-pair, as-each, as-held, ahead, always, only, holding, leads}
 use Rattle.model.specs.Case.{Case, System}
 use Rattle.model.specs.Editions.{Largest, deviceLimit, intervalLimit, batch}
 use Rattle.model.specs.Messages as M
 use Rattle.model.specs.Messages.{edition1, Counts, Written}
 use Rattle.model.specs.Judgement.{countsOf}
 use Rattle.model.specs.Before.{readPlan}
-use Rattle.model.specs.ByEdition.{Stated, counts, startWindow, device, content, caseLayout, caseKind, editionOf, editionField, planLayout, plannedIn, completionFront, completionLayout}
+use Rattle.model.specs.ByEdition.{Stated, counts, startWindow, device, content, caseLayout, caseKind, editionOf, editionField, planKind, setting, planLayout, plannedIn, completionFront, completionLayout}
 
 -- a case with its edition beside it
 abbrev pub stated : ℕ → Case → Stated
@@ -22,13 +23,20 @@ stated e c = record { edition = e; case = c }
 
 -- ---- plan
 
-pub plan-as : (devices intervals : ℕ) → planLayout 1 devices intervals ≡ M.planLayout edition1 devices intervals
+-- an edition 1 setting has no reactive power, and writes none
+setting-as : As (setting 1) (λ x. x) M.setting
+unfolding setting M.setting held _then_ present nothing
+setting-as = record { reads = λ s p bad next. refl; writes = λ x. simp append-nil }
+
+pub plan-as : (devices intervals : ℕ) → As (planLayout 1 devices intervals) (λ p. p) (M.planLayout edition1 devices intervals)
 unfolding planLayout M.planLayout
-plan-as devices intervals = refl
+plan-as devices intervals = as-held
+    (as-pair (as-same (fixed planKind)) (as-pair (as-same (fixed 1)) (as-pair (as-same (nat _)) (as-pair (as-same (nat _)) (as-each (as-each setting-as devices) intervals)))))
+    _ _ _ _ _ (λ a. refl) (λ c. refl)
 
 pub planned-as-before : (q : System) (s : List ℕ) → plannedIn 1 q s ≡ readPlan q s
-unfolding plannedIn readPlan
-planned-as-before q s = rw plan-as refl
+unfolding plannedIn readPlan readWhole
+planned-as-before q s = plan-as _ _ .reads s begin _ _
 
 -- ---- completion
 

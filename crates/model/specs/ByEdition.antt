@@ -2,15 +2,17 @@
 -- The content is the newest edition's: what an edition lacks takes no bits and has its neutral value (`since`). Parts that no edition has added to are those of `Messages`.
 use mathlib.Core.List.{List}
 use Prim.Native.Nat.{ℕ, _^_}
+use lib.IntN.{ℤ}
 use Rattle.bits.specs.Bits.{fieldAt}
 use Rattle.layouts.specs.declared.Fault.the-variants.{WrongKind}
 use Rattle.layouts.specs.Layout.{Field, Layout, Whole, nat, int, _then_, _▸_, list, held, counted, figure, any, countOf, fixed, readWhole}
+use Rattle.layouts.specs.Since.{since}
 use lib.ListN.{length}
-use Rattle.model.specs.Case.{StartWindow, Cell, Device, Zone, CellPrices, DevicePrices, Six, Case, System, Setting, Plan}
+use Rattle.model.specs.Case.{StartWindow, Cell, Device, Zone, CellPrices, DevicePrices, Six, Case, System, Reactive, Setting, Plan, noReactive}
 use Rattle.model.specs.Forced.{intervals, devices}
 use Rattle.model.specs.Editions.{newest, Largest, deviceBits, intervalBits, devicesIn, intervalsIn, mostZones, mostStates, mostWindows, startsBits, mostStarts}
 use Rattle.model.specs.Messages as M
-use Rattle.model.specs.Messages.{kW, minutes, eight, windowEnds, energyWindow, apart, head, costs, lastEnd, Counts, DeviceChoice, IntervalChoice, Written}
+use Rattle.model.specs.Messages.{kW, minutes, eight, windowEnds, energyWindow, apart, head, costs, active, lastEnd, Counts, DeviceChoice, IntervalChoice, Written}
 
 -- ---- the front of a message
 
@@ -129,9 +131,23 @@ caseLayout l = held (λ v. record { edition = v .1 .0; case = v .1 .1 }) (λ r. 
 
 -- ---- Plan
 
--- "on 1, online power 17, eight reserves 17 each"
-abbrev pub setting : ℕ → Layout Setting
-setting e = M.setting
+-- "q (as qmax)": in kvar, 18 bits two's complement, ±100,000; "reactive reserves (17 each)", 0..100,000
+abbrev pub signedKvar : Layout ℤ
+signedKvar = int 18 100000
+
+abbrev pub kvar : Layout ℕ
+kvar = figure 17 0 100000
+
+-- "The plan gains q (as qmax) and two reactive reserves (17 each)", "up before down"
+unfoldable pub reactive : Layout Reactive
+reactive = held (λ v. record { q = v .0; qru = v .1 .0; qrd = v .1 .1 }) (λ r. (r .q, (r .qru, r .qrd))) (signedKvar ▸ kvar ▸ kvar)
+
+-- "on 1, online power 17, eight reserves 17 each"; behind them, since edition 2, the reactive figures
+unfoldable pub setting : ℕ → Layout Setting
+setting e = held
+    (λ v. record { on = v .0 .0; online = v .0 .1 .0; reserves = v .0 .1 .1; reactive = v .1 })
+    (λ r. ((r .on, (r .online, r .reserves)), r .reactive))
+    (active ▸ since e 2 noReactive reactive)
 
 -- an interval's part of a plan: "per device"
 abbrev pub planned : ℕ → ℕ → Layout (List Setting)

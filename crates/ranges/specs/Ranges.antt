@@ -1,5 +1,6 @@
 -- The ranges of a case and a plan that pass reading, in every edition.
 use mathlib.Core.Path.{_≡_, refl}
+use mathlib.Core.Bool.{Bool, true, false}
 use mathlib.Core.List.{List}
 use Prim.Native.Nat.{ℕ, _≤_}
 use native.Mathlib.Omega.{arith}
@@ -7,7 +8,7 @@ use lib.ListN.{length, length-map}
 use lib.IntN.{natAbs}
 use Rattle.numbers.specs.Sum.{All, all-map}
 use Rattle.numbers.specs.Every.{map-of-all}
-use Rattle.model.specs.Case.{Reserves, Ramps, StartWindow, EnergyWindow, Shares, Six, Minima, Cell, CellPrices, Device, DevicePrices, Zone, System, Prices, Case, Plan, Setting}
+use Rattle.model.specs.Case.{Reserves, Ramps, StartWindow, EnergyWindow, Shares, Six, Minima, Cell, CellPrices, Device, DevicePrices, Zone, System, Prices, Case, Plan, Reactive, Setting, noReactive}
 use Rattle.layouts.specs.Layout.{Layout, Field, nat, list, counted, _then_, _▸_, passes, figure, any, countOf}
 use Rattle.model.specs.Editions.{newest, Largest, batch, devicesIn, intervalsIn, mostDevices, mostIntervals, mostZones, mostStates, mostWindows, startsBits, mostStarts}
 use Rattle.model.specs.Messages as M
@@ -16,6 +17,7 @@ use Rattle.model.specs.ByEdition as B
 use Rattle.model.specs.ByEdition.{Stated, statedIn, plannedIn}
 use Rattle.model.specs.AsBefore.{first, first-as}
 use Rattle.layouts.specs.As.{as-checked}
+use Rattle.layouts.specs.Since.{has, Where, present-checked}
 use Rattle.layouts.specs.Checked.{Checked, nat-checked, int-checked, list-checked, such-checked, held-checked, then-checked, whole-checked, weaken}
 
 pair-checked : {A B : Type 0} (l : Layout A) (m : Layout B) (P : A → Type 0) (Q : B → Type 0) → Checked l P → Checked m Q → Checked (l ▸ m) (λ x. P (x .0) × Q (x .1))
@@ -338,20 +340,39 @@ taken-checked = as-checked (first-as batch (omega arith) (omega arith)) _ _ (λ 
 pub case-checked : Checked (M.caseLayout edition1) CaseRange
 case-checked = weaken (M.caseLayout edition1) _ _ taken-checked (λ c ok. ok .range)
 
+-- the reactive figures of a plan's setting
+pub record ReactiveRange (x : Reactive) : Type 0 where
+  pub q : natAbs (x .q) ≤ 100000
+  pub qru : x .qru ≤ 100000
+  pub qrd : x .qrd ≤ 100000
+
 -- the settings of a plan
 pub record SettingRange (x : Setting) : Type 0 where
   pub on : x .on ≤ 1
   pub online : x .online ≤ 100000
   pub reserves : Eight (λ r. r ≤ 100000) (x .reserves)
+  pub reactive : ReactiveRange (x .reactive)
 
 pub record PlanRange (q : System) (p : Plan) : Type 0 where
   pub intervals : length (p .settings) ≡ length (q .halves)
   pub each : All (λ row. (length row ≡ length (q .devices)) × All SettingRange row) (p .settings)
 
+reactive-checked : Checked B.reactive ReactiveRange
+unfolding B.reactive
+reactive-checked = let u = figure-checked 17 0 100000 in held-checked _ _ _ _ _ (pair-checked _ _ _ _ (int-checked 18 100000) (pair-checked _ _ _ _ u u))
+    (λ v ok. record { q = ok .0; qru = ok .1 .0; qrd = ok .1 .1 })
+
+-- what is neutral is in its range, in every edition
+reactive-range : (b : Bool) (x : Reactive) → Where b noReactive ReactiveRange x → ReactiveRange x
+reactive-range true x ok = ok
+reactive-range false x ok = rw ok record { q = omega arith; qru = omega arith; qrd = omega arith }
+
 setting-checked : (e : ℕ) → Checked (B.setting e) SettingRange
-unfolding M.setting
-setting-checked e = held-checked _ _ _ _ _ (pair-checked _ _ _ _ (figure-checked 1 0 1) (pair-checked _ _ _ _ (figure-checked 17 0 100000) (eight-checked _ _ (figure-checked 17 0 100000))))
-    (λ v ok. record { on = ok .0; online = ok .1 .0; reserves = ok .1 .1 })
+unfolding M.active B.setting
+setting-checked e = held-checked _ _ _ _ _
+    (pair-checked _ _ _ _ (pair-checked _ _ _ _ (figure-checked 1 0 1) (pair-checked _ _ _ _ (figure-checked 17 0 100000) (eight-checked _ _ (figure-checked 17 0 100000))))
+    (present-checked (has 2 e) noReactive B.reactive _ reactive-checked))
+    (λ v ok. record { on = ok .0 .0; online = ok .0 .1 .0; reserves = ok .0 .1 .1; reactive = reactive-range (has 2 e) _ (ok .1) })
 
 -- a plan's settings: of so many intervals, each of so many devices
 abbrev pub Settings : ℕ → ℕ → Plan → Type 0

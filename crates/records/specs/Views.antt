@@ -11,8 +11,10 @@ use Rattle.model.specs.Forced.{startOf, power}
 use Rattle.ranges.specs.Ranges.{CaseRange, SettingRange}
 use Rattle.numbers.specs.Rows.{rows}
 use Rattle.kilowatts.specs.declared.Kw.{Kw}
+use Rattle.kilovars.specs.Reactive.{kvarOffset}
 use Rattle.row_places.specs.declared.Reserves.{Reserves}
 use Rattle.row_places.specs.declared.ReservePrices.{ReservePrices}
+use Rattle.row_places.specs.declared.Reactive.{Reactive}
 use Rattle.row_places.specs.declared.State.{State}
 use Rattle.row_places.specs.declared.StartWindow.{StartWindow}
 use Rattle.row_places.specs.declared.EnergyWindow.{EnergyWindow}
@@ -54,8 +56,16 @@ cellPricesIn r = record { blocks = map (less priceOffset) (take (cellOf r .block
 abbrev pub cellPair : List ℕ → M.Cell × M.CellPrices
 cellPair r = (cellIn r, cellPricesIn r)
 
+abbrev pub reactiveIn : Reactive → M.Reactive
+reactiveIn x = record { q = less kvarOffset (x .q .0); qru = x .qru .0; qrd = x .qrd .0 }
+
 abbrev pub settingIn : List ℕ → M.Setting
-settingIn r = record { on = settingOf r .on; online = settingOf r .online .0; reserves = eightIn (settingOf r .reserves) }
+settingIn r = record {
+  on = settingOf r .on;
+  online = settingOf r .online .0;
+  reserves = eightIn (settingOf r .reserves);
+  reactive = reactiveIn (settingOf r .reactive);
+}
 
 abbrev pub minimaIn : List ℕ → M.Minima
 minimaIn r = record { rru = minimaOf r .rru .0; rrd = minimaOf r .rrd .0 }

@@ -12,11 +12,13 @@ use Rattle.model.specs.Editions.{mostStates, mostWindows}
 use Rattle.kilowatts.specs.declared.Kw.{Kw}
 use Rattle.grains.specs.declared.Grains.{Grains}
 use Rattle.kilowatts.specs.Power.{kw}
+use Rattle.kilovars.specs.Reactive.{kvar, signedKvar}
 use Rattle.energy.specs.Energy.{kwMin}
 use Rattle.grains.specs.Money.{grains}
 use Rattle.row_places.specs.declared.Reserves.{Reserves}
 use Rattle.row_places.specs.declared.ReservePrices.{ReservePrices}
 use Rattle.row_places.specs.declared.Cell.{Cell}
+use Rattle.row_places.specs.declared.Reactive.{Reactive}
 use Rattle.row_places.specs.declared.Setting.{Setting}
 use Rattle.row_places.specs.declared.State.{State}
 use Rattle.row_places.specs.declared.StartWindow.{StartWindow}
@@ -64,8 +66,11 @@ cellOf r = record {
   reserves = eightPrices r 12;
 }
 
+abbrev pub reactiveOf : List ℕ → Reactive
+reactiveOf r = record { q = signedKvar (at r 10); qru = kvar (at r 11); qrd = kvar (at r 12) }
+
 abbrev pub settingOf : List ℕ → Setting
-settingOf r = record { on = at r 0; online = kw (at r 1); reserves = eightOf r 2 }
+settingOf r = record { on = at r 0; online = kw (at r 1); reserves = eightOf r 2; reactive = reactiveOf r }
 
 -- where a device's lists begin, each with its count
 abbrev pub statesFrom : ℕ
@@ -147,7 +152,8 @@ cellRow c =
 abbrev pub settingRow : Setting → List ℕ
 settingRow x =
     x .on ∷ x .online .0
-    ∷ x .reserves .rgu .0 ∷ x .reserves .rgd .0 ∷ x .reserves .scr .0 ∷ x .reserves .nsc .0 ∷ x .reserves .rruon .0 ∷ x .reserves .rruoff .0 ∷ x .reserves .rrdon .0 ∷ x .reserves .rrdoff .0 ∷ []
+    ∷ x .reserves .rgu .0 ∷ x .reserves .rgd .0 ∷ x .reserves .scr .0 ∷ x .reserves .nsc .0 ∷ x .reserves .rruon .0 ∷ x .reserves .rruoff .0 ∷ x .reserves .rrdon .0 ∷ x .reserves .rrdoff .0
+    ∷ x .reactive .q .0 ∷ x .reactive .qru .0 ∷ x .reactive .qrd .0 ∷ []
 
 -- what an array holds where nothing is stored
 abbrev pub noState : State

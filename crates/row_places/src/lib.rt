@@ -3,13 +3,15 @@
 // `Figures`; only the crates of the rows (`zone_rows`, `cell_rows`, `setting_rows`, `device_rows`, `device_store`) read and write by place.
 use energy::KwMin;
 use grains::Grains;
+use kilovars::Kvar;
+use kilovars::SignedKvar;
 use kilowatts::Kw;
 
 // A device in one interval: status, pmin, pmax, count of blocks, four caps, four prices kept from −10,000, the prices of the eight.
 pub type CellRow = [u32; 20];
 
-// A plan's figures for a device in one interval: on, online power, the eight.
-pub type SettingRow = [u32; 10];
+// A plan's figures for a device in one interval: on, online power, the eight; q kept from −100,000, its two reserves.
+pub type SettingRow = [u32; 13];
 
 // A device ahead of its intervals: its head, ramps, costs, limits; then counted states, start windows and energy windows.
 pub type DeviceRow = [u32; 59];
@@ -33,7 +35,7 @@ pub fn blank_cell() -> CellRow {
 }
 
 pub fn blank_setting() -> SettingRow {
-    [0u32; 10]
+    [0u32; 13]
 }
 
 pub fn blank_device() -> DeviceRow {
@@ -83,11 +85,19 @@ pub struct Cell {
     pub reserves: ReservePrices,
 }
 
+// "q (as qmax) and two reactive reserves", up before down.
+pub struct Reactive {
+    pub q: SignedKvar,
+    pub qru: Kvar,
+    pub qrd: Kvar,
+}
+
 // A plan's figures for a device in one interval; "u = on (1/0)".
 pub struct Setting {
     pub on: u32,
     pub online: Kw,
     pub reserves: Reserves,
+    pub reactive: Reactive,
 }
 
 // A startup state; its cost is kept from 0: the cost and 1,000,000,000.

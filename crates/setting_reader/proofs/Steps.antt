@@ -12,22 +12,27 @@ use Rattle.bits.proofs.Laws.{read-as, field-lt}
 use Rattle.layouts.specs.declared.Fault.{Fault}
 use Rattle.layouts.specs.declared.Fault.the-variants.{OutOfRange}
 use Rattle.layouts.specs.declared.Place.{Place}
-use Rattle.layouts.specs.Layout.{nat, held, _then_, list, repeated, advanced, figure, any}
+use Rattle.layouts.specs.Layout.{nat, held, _then_, _▸_, list, repeated, advanced, figure, any}
+use Rattle.layouts.specs.Since.{since}
 use Rattle.model.specs.Case as M
-use Rattle.model.specs.Messages as L
-use Rattle.model.specs.Messages.{kW, eight}
-use Rattle.model.specs.ByEdition.{setting}
+use Rattle.model.specs.Case.{noReactive}
+use Rattle.model.specs.Messages.{kW, eight, active}
+use Rattle.model.specs.ByEdition.{reactive, setting}
 use Rattle.ranges.specs.Kept.{reservesOf}
 use Rattle.row_places.specs.declared.Reserves.{Reserves}
-use Rattle.records.specs.Views.{eightIn}
+use Rattle.row_places.specs.declared.Reactive.{Reactive}
+use Rattle.records.specs.Views.{eightIn, reactiveIn}
 use Rattle.fields.specs.declared.Figure.{Figure}
 use Rattle.fields.specs.declared.Figure.the-variants as G
 use Rattle.fields.specs.declared.Went.{Went}
-use Rattle.fields.specs.Got.{good, bad, got, figured, placed, placed-off, told, told-off, Natural, nat-natural, then-natural, held-natural, goes-on, goes-off, mapped}
+use Rattle.fields.specs.declared.Went.the-variants as W
+use Rattle.fields.specs.Got.{good, bad, got, figured, placed, placed-off, told, told-off, Natural, nat-natural, then-natural, held-natural, held-eq, went-good, went-bad, goes-on, goes-off, mapped}
 use Rattle.fields.proofs.Steps.{raw-on, figure-on, figure-off}
+use Rattle.fields.proofs.Chains.{then-off, then-told, held-off}
 use Rattle.field_rows.proofs.Steps.{eight-natural}
+use Rattle.reactive_reader.proofs.Steps.{reactive-natural}
 use Rattle.setting_words.specs.declared.Active.{Active}
-use Rattle.setting_words.specs.Settings.{active, activeIn, activeBits, activeAt, powerAt, kwBits, mostKw, Found}
+use Rattle.setting_words.specs.Settings.{activeIn, settingFrom, activeBits, activeAt, powerAt, kwBits, mostKw, Found}
 
 pub active-natural : Natural active
 unfolding active
@@ -100,14 +105,20 @@ module _ (s : List ℕ) (p : Place) {r : Figure} (e : figured r ≡ got (any 1) 
 
 -- ---- a setting
 
-abbrev settingFrom : Active → M.Setting
-settingFrom x = record { on = x .on; online = x .online .0; reserves = eightIn (x .reserves) }
+parts-natural : (e : ℕ) → Natural (active ▸ since e 2 noReactive reactive)
+parts-natural e = then-natural active-natural (λ _. reactive-natural e)
 
 pub setting-natural : (e : ℕ) → Natural (setting e)
-unfolding L.setting
-setting-natural e = held-natural _ _ (then-natural (nat-natural _) (λ _. then-natural (nat-natural _) (λ _. eight-natural (nat-natural _))))
+unfolding setting
+setting-natural e = held-natural _ _ (parts-natural e)
 
--- a setting of any edition is its active part
-pub setting-on : (e : ℕ) (s : List ℕ) (p : Place) (w : Went) (x : Active) → told w (activeIn x) ≡ got active s p → told w (settingFrom x) ≡ got (setting e) s p
-unfolding L.setting held active
-setting-on e s p w x h = mapped active-natural (λ v. record { on = v .0; online = v .1 .0; reserves = v .1 .1 }) s p w (activeIn x) refl h
+-- from what was read of the figures that every edition has
+module _ (e : ℕ) (s : List ℕ) (p : Place) {w : Went} (x : Active) (h : told w (activeIn x) ≡ got active s p) where
+  pub setting-off : (a : M.Setting) {f : Fault} → w ≡ W.Off f → told w a ≡ got (setting e) s p
+  unfolding setting
+  setting-off a t = told-off a t (held-off (parts-natural e) _ _ s p (then-off active-natural _ s p (went-bad (activeIn x) h t)))
+
+  pub setting-on : {q : Place} (v : Went) (y : Reactive) → w ≡ W.On q → told v (reactiveIn y) ≡ got (since e 2 noReactive reactive) s q → told v (settingFrom x y) ≡ got (setting e) s p
+  unfolding setting
+  setting-on v y t g = mapped (parts-natural e) _ s p v (activeIn x, reactiveIn y) (held-eq _ _ _ s p bad good)
+      (then-told active-natural _ s p v (reactiveIn y) (reactive-natural e) (went-good (activeIn x) h t) g)

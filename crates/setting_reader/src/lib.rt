@@ -1,15 +1,19 @@
 // A plan's setting of every edition, read against its layout: quickly where that answers, else field by field.
 ghost use mathlib.Core.Path.{_≡_};
 ghost use Prim.Native.Nat.{_+_};
+ghost use Rattle.model.specs.Messages.{active};
 ghost use Rattle.model.specs.ByEdition.{setting};
 ghost use Rattle.records.specs.Views.{eightIn};
 ghost use Rattle.ranges.specs.Kept.{reservesOf};
 ghost use Rattle.fields.specs.Got.{got, placed, told};
-ghost use Rattle.setting_words.specs.Settings.{active, activeIn, settingHeld};
+ghost use Rattle.setting_words.specs.Settings.{activeIn, settingHeld, settingFrom};
 use fields::Figure;
 use fields::Went;
 use kilowatts::Kw;
 use layouts::Place;
+use reactive_reader::NEUTRAL;
+use reactive_reader::read_reactive;
+use row_places::Reactive;
 use row_places::Reserves;
 use row_places::Setting;
 use setting_words::ACTIVE_BITS;
@@ -96,12 +100,10 @@ fn read_active(s: &[u8], p: Place) -> ActiveRead
     exact_active(s, p)
 }
 
-// A setting of an edition: the figures that every edition has.
-pub fn read_setting(s: &[u8], p: Place, edition: u32) -> SettingRead
-    ensures { λ r. ⌜ told (r .went) (settingHeld (r .setting)) ≡ got (setting edition) (now (s .entry)) p ⌝ }
+// What was read, as a setting.
+fn setting_read(went: Went, active: Active, reactive: Reactive) -> SettingRead
+    ensures { λ r. ⌜ told (r .went) (settingHeld (r .setting)) ≡ told went (settingFrom active reactive) ⌝ }
 {
-    let read = read_active(s, p);
-    let active = read.active;
     let on = active.on;
     let online = active.online;
     let reserves = active.reserves;
@@ -109,7 +111,23 @@ pub fn read_setting(s: &[u8], p: Place, edition: u32) -> SettingRead
         on,
         online,
         reserves,
+        reactive,
     };
-    let went = read.went;
     SettingRead { went, setting }
+}
+
+// A setting of an edition: the figures that every edition has, then the reactive ones.
+pub fn read_setting(s: &[u8], p: Place, edition: u32) -> SettingRead
+    ensures { λ r. ⌜ told (r .went) (settingHeld (r .setting)) ≡ got (setting edition) (now (s .entry)) p ⌝ }
+{
+    let read = read_active(s, p);
+    let active = read.active;
+    let went = read.went;
+    let Went::On(next) = went else {
+        return setting_read(went, active, NEUTRAL);
+    };
+    let more = read_reactive(s, next, edition);
+    let reactive = more.reactive;
+    let past = more.went;
+    setting_read(past, active, reactive)
 }

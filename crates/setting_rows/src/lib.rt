@@ -6,7 +6,10 @@ ghost use lib.Dec.{ltb};
 ghost use lib.ListN.{getD, length, set};
 ghost use Rattle.numbers.specs.Base.{bit};
 ghost use Rattle.row_places.specs.Figures.{settingRow, settingOf, onAt, onlineAt, onBefore, startedAt, stoppedAt};
+use kilovars::Kvar;
+use kilovars::SignedKvar;
 use kilowatts::Kw;
+use row_places::Reactive;
 use row_places::Reserves;
 use row_places::Setting;
 use row_places::SettingRow;
@@ -26,10 +29,16 @@ pub fn setting_at(settings: &[SettingRow], k: usize) -> Setting
         rrdon: Kw(r[8]),
         rrdoff: Kw(r[9]),
     };
+    let reactive = Reactive {
+        q: SignedKvar(r[10]),
+        qru: Kvar(r[11]),
+        qrd: Kvar(r[12]),
+    };
     Setting {
         on: r[0],
         online: Kw(r[1]),
         reserves,
+        reactive,
     }
 }
 
@@ -87,6 +96,7 @@ fn setting_row(x: Setting) -> SettingRow
     ensures { λ r. ⌜ r ≡ settingRow x ⌝ }
 {
     let reserves = x.reserves;
+    let reactive = x.reactive;
     [
         x.on,
         x.online.0,
@@ -98,6 +108,9 @@ fn setting_row(x: Setting) -> SettingRow
         reserves.rruoff.0,
         reserves.rrdon.0,
         reserves.rrdoff.0,
+        reactive.q.0,
+        reactive.qru.0,
+        reactive.qrd.0,
     ]
 }
 

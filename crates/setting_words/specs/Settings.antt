@@ -3,25 +3,24 @@ use mathlib.Core.Path.{_≡_}
 use mathlib.Core.List.{List}
 use Prim.Native.Nat.{ℕ, _+_, _*_, _/_, _%_, _^_, _≤_, _<_}
 use Rattle.bits.specs.Bits.{fieldAt, reach}
-use Rattle.layouts.specs.Layout.{Layout, any, _▸_}
 use Rattle.model.specs.Case as M
-use Rattle.model.specs.Messages.{kW, eight}
+use Rattle.row_places.specs.declared.Reactive.{Reactive}
 use Rattle.row_places.specs.declared.Setting.{Setting}
 use Rattle.row_places.specs.Figures.{settingRow}
-use Rattle.records.specs.Views.{eightIn, settingIn}
+use Rattle.records.specs.Views.{eightIn, reactiveIn, settingIn}
 use Rattle.setting_words.specs.declared.Active.{Active}
 use Rattle.setting_words.specs.declared.Three.{Three}
 
--- "on 1, online power 17, eight reserves 17 each": the fields of a setting that every edition has
-unfoldable pub active : Layout (ℕ × (ℕ × M.Reserves))
-active = any 1 ▸ kW ▸ eight kW
-
+-- "on 1, online power 17, eight reserves 17 each": what a record holds of the fields that every edition has
 abbrev pub activeIn : Active → ℕ × (ℕ × M.Reserves)
 activeIn x = (x .on, (x .online .0, eightIn (x .reserves)))
 
--- the setting that a record holds
+-- the setting that a record holds; that of these figures and the reactive ones
 abbrev pub settingHeld : Setting → M.Setting
 settingHeld x = settingIn (settingRow x)
+
+abbrev pub settingFrom : Active → Reactive → M.Setting
+settingFrom x y = record { on = x .on; online = x .online .0; reserves = eightIn (x .reserves); reactive = reactiveIn y }
 
 -- "A 17-bit power is 0..100,000"
 abbrev pub kwBits : ℕ

@@ -3,7 +3,7 @@ ghost use mathlib.Core.Path.{_≡_};
 ghost use mathlib.Core.Bool.{true};
 ghost use Prim.Native.Nat.{_+_, _*_, _/_, _%_, _^_, _≤_, _<_};
 ghost use Rattle.bits.specs.Bits.{reach};
-ghost use Rattle.setting_words.specs.Settings.{active, activeIn, kwBits, activeBits, nineIn, Threefold, Unborrowed, Low, Found};
+ghost use Rattle.setting_words.specs.Settings.{activeIn, kwBits, activeBits, nineIn, Threefold, Unborrowed, Low, Found};
 use bits::bits_at;
 use kilowatts::Kw;
 use row_places::Reserves;

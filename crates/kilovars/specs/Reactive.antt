@@ -1,0 +1,14 @@
+-- Reactive power as the code keeps it.
+use Prim.Native.Nat.{ℕ}
+use Rattle.kilovars.specs.declared.Kvar.{Kvar}
+use Rattle.kilovars.specs.declared.SignedKvar.{SignedKvar}
+
+-- what a signed figure is kept from
+abbrev pub kvarOffset : ℕ
+kvarOffset = 100000
+
+abbrev pub kvar : ℕ → Kvar
+kvar n = record { 0 = n }
+
+abbrev pub signedKvar : ℕ → SignedKvar
+signedKvar n = record { 0 = n }

@@ -1,0 +1,89 @@
+// The reactive figures of a plan's setting, which came with edition 2, read against their layout.
+ghost use mathlib.Core.Path.{_≡_};
+ghost use Rattle.layouts.specs.Since.{since};
+ghost use Rattle.model.specs.Case.{noReactive};
+ghost use Rattle.model.specs.ByEdition.{reactive};
+ghost use Rattle.records.specs.Views.{reactiveIn};
+ghost use Rattle.fields.specs.Got.{got, told};
+use fields::Figure;
+use fields::Went;
+use kilovars::Kvar;
+use kilovars::SignedKvar;
+use layouts::Place;
+use row_places::Reactive;
+
+// The edition that they came with.
+const SINCE: u32 = 2;
+
+// "q (as qmax)": 18 bits, ±100,000, kept from 0; the weight of its highest bit.
+const Q_BITS: u64 = 18;
+
+const Q_HALF: u64 = 131072;
+
+const MOST_Q: u64 = 100000;
+
+// "reactive reserves (17 each)", 0..100,000
+const RESERVE_BITS: u64 = 17;
+
+const MOST_RESERVE: u32 = 100000;
+
+// No reactive power: "a field that an edition lacks takes no bits and has its neutral value".
+pub const NEUTRAL: Reactive = Reactive {
+    q: SignedKvar(MOST_Q as u32),
+    qru: Kvar(0),
+    qrd: Kvar(0),
+};
+
+pub struct ReactiveRead {
+    pub went: Went,
+    pub reactive: Reactive,
+}
+
+// What stands beside a refusal.
+fn no_reactive(went: Went) -> ReactiveRead
+    ensures { λ r. ⌜ r .went ≡ went ⌝ }
+{
+    ReactiveRead {
+        went,
+        reactive: NEUTRAL,
+    }
+}
+
+// Field by field: from here comes every refusal.
+fn read_three(s: &[u8], p: Place) -> ReactiveRead
+    ensures { λ r. ⌜ told (r .went) (reactiveIn (r .reactive)) ≡ got reactive (now (s .entry)) p ⌝ }
+{
+    let power = fields::read_offset(s, p, Q_BITS, Q_HALF, MOST_Q);
+    let Figure::Good(q, at_qru) = power else {
+        return no_reactive(fields::place_of(power));
+    };
+    let up = fields::read_figure(s, at_qru, RESERVE_BITS, 0, MOST_RESERVE);
+    let Figure::Good(qru, at_qrd) = up else {
+        return no_reactive(fields::place_of(up));
+    };
+    let down = fields::read_figure(s, at_qrd, RESERVE_BITS, 0, MOST_RESERVE);
+    let Figure::Good(qrd, past) = down else {
+        return no_reactive(fields::place_of(down));
+    };
+    ReactiveRead {
+        went: Went::On(past),
+        reactive: Reactive {
+            q: SignedKvar(q),
+            qru: Kvar(qru),
+            qrd: Kvar(qrd),
+        },
+    }
+}
+
+// "The plan gains q (as qmax) and two reactive reserves (17 each)": an edition that lacks them has none.
+pub fn read_reactive(s: &[u8], p: Place, edition: u32) -> ReactiveRead
+    ensures { λ r. ⌜ told (r .went) (reactiveIn (r .reactive)) ≡ got (since edition 2 noReactive reactive) (now (s .entry)) p ⌝ }
+{
+    if edition < SINCE {
+        return ReactiveRead {
+            went: Went::On(p),
+            reactive: NEUTRAL,
+        };
+    }
+    read_three(s, p)
+}
