@@ -12,6 +12,7 @@ use Rattle.model.specs.Messages.{kW, eight}
 use Rattle.kilowatts.specs.Power.{kw}
 use Rattle.row_places.specs.declared.Cell.{Cell}
 use Rattle.row_places.specs.declared.ReservePrices.{ReservePrices}
+use Rattle.row_places.specs.declared.ReactiveCell.{ReactiveCell}
 use Rattle.row_places.specs.Figures.{eightPrices}
 use Rattle.records.specs.Views.{less, priceOffset}
 use Rattle.fields.specs.declared.Went.{Went}
@@ -64,8 +65,8 @@ abbrev pub pricesOf : List ℕ → ReservePrices
 pricesOf v = eightPrices v 0
 
 -- the cell of its groups
-abbrev pub cellWith : LimitsRead → ℕ → List Block → ReservePrices → Cell
-cellWith l n bs reserves = record {
+abbrev pub cellWith : LimitsRead → ℕ → List Block → ReservePrices → ReactiveCell → Cell
+cellWith l n bs reserves reactive = record {
   status = l .status;
   pmin = l .pmin;
   pmax = l .pmax;
@@ -73,4 +74,5 @@ cellWith l n bs reserves = record {
   caps = getD bs 0 noBlock .cap ∷ getD bs 1 noBlock .cap ∷ getD bs 2 noBlock .cap ∷ getD bs 3 noBlock .cap ∷ [];
   prices = getD bs 0 noBlock .price ∷ getD bs 1 noBlock .price ∷ getD bs 2 noBlock .price ∷ getD bs 3 noBlock .price ∷ [];
   reserves = reserves;
+  reactive = reactive;
 }

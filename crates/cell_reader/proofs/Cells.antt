@@ -9,17 +9,18 @@ use lib.ListN.{length, getD, set, take, length-set, List·getD-map}
 use lib.Seq.{take-all, getD-set-same, getD-set-other}
 use Rattle.layouts.specs.declared.Fault.{Fault}
 use Rattle.layouts.specs.declared.Place.{Place}
-use Rattle.layouts.specs.Layout.{_then_, held, list}
+use Rattle.layouts.specs.Layout.{Layout, _then_, held, list}
+use Rattle.layouts.specs.Since.{since}
 use Rattle.model.specs.Case as M
-use Rattle.model.specs.Messages as L
 use Rattle.model.specs.Messages.{apart}
-use Rattle.model.specs.ByEdition.{cell}
+use Rattle.model.specs.ByEdition.{cell, reactiveCell, noReactiveCell}
 use Rattle.ranges.specs.Kept.{reservesOf}
 use Rattle.kilowatts.specs.declared.Kw.{Kw}
 use Rattle.row_places.specs.declared.Cell.{Cell}
 use Rattle.row_places.specs.declared.ReservePrices.{ReservePrices}
+use Rattle.row_places.specs.declared.ReactiveCell.{ReactiveCell}
 use Rattle.row_places.specs.Figures.{cellRow, kwAt}
-use Rattle.records.specs.Views.{less, priceOffset, eightPricesIn, Padded, cellPair}
+use Rattle.records.specs.Views.{less, priceOffset, eightPricesIn, reactiveLimitsIn, reactivePricesIn, Padded, cellPair}
 use Rattle.records.specs.Stored.{four, cell-stored, cell-prices-stored, cell-padded}
 use Rattle.fields.specs.declared.Went.{Went}
 use Rattle.fields.specs.declared.Went.the-variants as W
@@ -35,6 +36,8 @@ use Rattle.cell_groups.specs.Groups.{limits, blocks, reservePrices, limitsIn, b
 use Rattle.cell_reader.specs.Cells.{CellDone, CellsDone}
 use Rattle.cell_groups.proofs.Limits.{limits-natural}
 use Rattle.blocks_reader.proofs.Blocks.{block-natural}
+use Rattle.reactive_cells.specs.Reactive.{reactivePair}
+use Rattle.reactive_cells.proofs.Reactive.{reactive-natural}
 
 -- ---- the layout
 
@@ -45,18 +48,25 @@ prices-natural : Natural reservePrices
 prices-natural = eight-natural (nat-natural _)
 
 pub cell-natural : (e : ℕ) → Natural (cell e)
-unfolding L.cell apart
+unfolding cell apart
 cell-natural e = held-natural _ _
     (then-natural (nat-natural _) (λ a. then-natural (then-natural (nat-natural _) (λ low. such-natural _ (nat-natural _)))
-    (λ b. then-natural (held-natural _ _ (blocks-natural e)) (λ c. prices-natural))))
+    (λ b. then-natural (held-natural _ _ (blocks-natural e)) (λ c. then-natural prices-natural (λ d. reactive-natural e)))))
+
+abbrev reactive : ℕ → Layout (M.ReactiveLimits × M.ReactivePrices)
+reactive e = since e 2 noReactiveCell reactiveCell
 
 -- the model's cell of its groups
-abbrev grouped : ℕ × (ℕ × ℕ) → List (ℕ × ℤ) → M.Reserves → M.Cell × M.CellPrices
-grouped h b r = (record { status = h .0; pmin = h .1 .0; pmax = h .1 .1; caps = map (λ x. x .0) b }, record { blocks = map (λ x. x .1) b; reserves = r })
+abbrev grouped : ℕ × (ℕ × ℕ) → List (ℕ × ℤ) → M.Reserves → M.ReactiveLimits × M.ReactivePrices → M.Cell × M.CellPrices
+grouped h b r x = (
+  record { status = h .0; pmin = h .1 .0; pmax = h .1 .1; caps = map (λ y. y .0) b; reactive = x .0 },
+  record { blocks = map (λ y. y .1) b; reserves = r; reactive = x .1 },
+)
 
 module _ (e : ℕ) (s : List ℕ) (p : Place) where
-  cell-is : got (cell e) s p ≡ limits .read s p bad (λ h p. blocks e .read s p bad (λ b p. reservePrices .read s p bad (λ r p. good (grouped h b r) p)))
-  unfolding L.cell held _then_ apart
+  cell-is : got (cell e) s p
+      ≡ limits .read s p bad (λ h p. blocks e .read s p bad (λ b p. reservePrices .read s p bad (λ r p. reactive e .read s p bad (λ x p. good (grouped h b r x) p))))
+  unfolding cell held _then_ apart
   cell-is = refl
 
   cell-1 : {f : Fault} → got limits s p ≡ bad f → got (cell e) s p ≡ bad f
@@ -66,8 +76,15 @@ module _ (e : ℕ) (s : List ℕ) (p : Place) where
     cell-2 : {f : Fault} → got (blocks e) s p₁ ≡ bad f → got (cell e) s p ≡ bad f
     cell-2 g = cell-is ∙ goes-on limits-natural s p bad _ t ∙ goes-off (blocks-natural e) s p₁ bad _ g
 
-    cell-3 : {b : List (ℕ × ℤ)} {p₂ : Place} → got (blocks e) s p₁ ≡ good b p₂ → got (cell e) s p ≡ reservePrices .read s p₂ bad (λ r p. good (grouped h b r) p)
-    cell-3 g = cell-is ∙ goes-on limits-natural s p bad _ t ∙ goes-on (blocks-natural e) s p₁ bad _ g
+    module _ {b : List (ℕ × ℤ)} {p₂ : Place} (g : got (blocks e) s p₁ ≡ good b p₂) where
+      prices-next : got (cell e) s p ≡ reservePrices .read s p₂ bad (λ r p. reactive e .read s p bad (λ x p. good (grouped h b r x) p))
+      prices-next = cell-is ∙ goes-on limits-natural s p bad _ t ∙ goes-on (blocks-natural e) s p₁ bad _ g
+
+      cell-3 : {f : Fault} → got reservePrices s p₂ ≡ bad f → got (cell e) s p ≡ bad f
+      cell-3 k = prices-next ∙ goes-off prices-natural s p₂ bad _ k
+
+      cell-4 : {r : M.Reserves} {p₃ : Place} → got reservePrices s p₂ ≡ good r p₃ → got (cell e) s p ≡ reactive e .read s p₃ bad (λ x p. good (grouped h b r x) p)
+      cell-4 k = prices-next ∙ goes-on prices-natural s p₂ bad _ k
 
 -- ---- the record of its groups
 
@@ -78,9 +95,9 @@ module _ {A B C D : Type 0} (f : A → B) (g : B → C) (h : A → D) (k : D →
   parts (suc n) [] = refl
   parts (suc n) (x ∷ l) = ap₂ (λ (y : C) (ys : List C). y ∷ ys) (same x) (parts n l)
 
-module _ (l : LimitsRead) (n : ℕ) (bs : List Block) (prices : ReservePrices) (long : length bs ≡ 4) where
+module _ (l : LimitsRead) (n : ℕ) (bs : List Block) (prices : ReservePrices) (figures : ReactiveCell) (long : length bs ≡ 4) where
   abbrev c : Cell
-  c = cellWith l n bs prices
+  c = cellWith l n bs prices figures
 
   caps-are : c .caps ≡ map (λ b. b .cap) bs
   caps-are = ap (map (λ (b : Block). b .cap)) (four bs noBlock long)
@@ -88,9 +105,12 @@ module _ (l : LimitsRead) (n : ℕ) (bs : List Block) (prices : ReservePrices) (
   prices-are : c .prices ≡ map (λ b. b .price) bs
   prices-are = ap (map (λ (b : Block). b .price)) (four bs noBlock long)
 
-  row-holds : cellPair (cellRow c) ≡ grouped (limitsIn l) (map blockIn (take n bs)) (eightPricesIn prices)
+  row-holds : cellPair (cellRow c) ≡ grouped (limitsIn l) (map blockIn (take n bs)) (eightPricesIn prices) (reactivePair figures)
   row-holds = ap₂ (λ (x : M.Cell) (y : M.CellPrices). (x, y)) (cell-stored c refl refl) (cell-prices-stored c refl refl)
-      ∙ ap₂ (λ (x : List ℕ) (y : List ℤ). (record { status = l .status; pmin = l .pmin .0; pmax = l .pmax .0; caps = x }, record { blocks = y; reserves = eightPricesIn prices }))
+      ∙ ap₂ (λ (x : List ℕ) (y : List ℤ). (
+        record { status = l .status; pmin = l .pmin .0; pmax = l .pmax .0; caps = x; reactive = reactiveLimitsIn figures },
+        record { blocks = y; reserves = eightPricesIn prices; reactive = reactivePricesIn figures },
+      ))
       (ap (λ (x : List Kw). map (λ y. y .0) (take n x)) caps-are ∙ parts (λ b. b .cap) (λ x. x .0) blockIn (λ x. x .0) (λ b. refl) n bs)
       (ap (λ (x : List ℕ). map (less priceOffset) (take n x)) prices-are ∙ parts (λ b. b .price) (less priceOffset) blockIn (λ x. x .1) (λ b. refl) n bs)
 
@@ -118,14 +138,21 @@ module _ (e : ℕ) (s : List ℕ) (p : Place) (l : LimitsRead) (h : told (l .wen
       padded = λ q m. absurd (let z : _≡_ {A = ℕ} 0 1 = cc in omega (arith, z));
     }
 
-    pub cell-done : {p₂ : Place} {prices : ReservePrices} {w : Went} {c : Cell} → b .went ≡ W.On p₂ → told w (eightPricesIn prices) ≡ got reservePrices s p₂
-        → c ≡ cellWith l (b .count) (b .blocks) prices → CellDone e s p w c
-    cell-done {p₂} {prices} {w} k o m = rw m (record {
-      is = ap (told w) (row-holds l (b .count) (b .blocks) prices (g .long))
-          ∙ mapped prices-natural (grouped (limitsIn l) (map blockIn (take (b .count) (b .blocks)))) s p₂ w (eightPricesIn prices)
-          (cell-3 e s p (went-good (limitsIn l) h t) (went-good _ (g .is) k)) o;
-      padded = λ q n. let a = g .absent p₂ k in row-padded l (b .count) (b .blocks) prices (g .long) (a .few) (a .rest);
-    })
+    module _ {p₂ : Place} (k : b .went ≡ W.On p₂) {v : Went} (prices : ReservePrices) (o : told v (eightPricesIn prices) ≡ got reservePrices s p₂) where
+      pub cell-no-prices : {w : Went} (c : Cell) {f : Fault} → v ≡ W.Off f → w ≡ v → CellDone e s p w c
+      cell-no-prices c m i = record {
+        is = told-off _ (i ∙ m) (cell-3 e s p (went-good (limitsIn l) h t) (went-good _ (g .is) k) (went-bad _ o m));
+        padded = λ q n. absurd (let z : _≡_ {A = ℕ} 0 1 = cc in omega (arith, z));
+      }
+
+      pub cell-done : {p₃ : Place} {w : Went} {c : Cell} (x : ReactiveCell) → v ≡ W.On p₃ → told w (reactivePair x) ≡ got (reactive e) s p₃
+          → c ≡ cellWith l (b .count) (b .blocks) prices x → CellDone e s p w c
+      cell-done {p₃} {w} x m i j = rw j (record {
+        is = ap (told w) (row-holds l (b .count) (b .blocks) prices x (g .long))
+            ∙ mapped (reactive-natural e) (grouped (limitsIn l) (map blockIn (take (b .count) (b .blocks))) (eightPricesIn prices)) s p₃ w (reactivePair x)
+            (cell-4 e s p (went-good (limitsIn l) h t) (went-good _ (g .is) k) (went-good _ o m)) i;
+        padded = λ q n. let a = g .absent p₂ k in row-padded l (b .count) (b .blocks) prices x (g .long) (a .few) (a .rest);
+      })
 
 -- ---- the cells
 

@@ -1,4 +1,4 @@
-// A device's cells of a case message, one for each interval, read into rows. A cell is read in groups: limits, blocks, the prices of the eight.
+// A device's cells of a case message, one for each interval, read into rows. A cell is read in groups: limits, blocks, the prices of the eight, reactive power.
 ghost use mathlib.Core.Path.{_≡_};
 ghost use Prim.Native.Nat.{_≤_};
 ghost use lib.ListN.{length};
@@ -13,8 +13,11 @@ use cell_groups::read_limits;
 use fields::Went;
 use kilowatts::Kw;
 use layouts::Place;
+use reactive_cells::NEUTRAL;
+use reactive_cells::read_reactive;
 use row_places::Cell;
 use row_places::CellRow;
+use row_places::ReactiveCell;
 use row_places::ReservePrices;
 
 // "eight reserve prices 14 each (0..10,000)"
@@ -59,8 +62,14 @@ struct CellRead {
 }
 
 // A cell of its groups.
-fn cell_with(limits: LimitsRead, n: u32, blocks: [Block; 4], reserves: ReservePrices) -> Cell
-    ensures { λ r. ⌜ r ≡ cellWith limits n blocks reserves ⌝ }
+fn cell_with(
+    limits: LimitsRead,
+    n: u32,
+    blocks: [Block; 4],
+    reserves: ReservePrices,
+    reactive: ReactiveCell,
+) -> Cell
+    ensures { λ r. ⌜ r ≡ cellWith limits n blocks reserves reactive ⌝ }
 {
     let a = blocks[0];
     let b = blocks[1];
@@ -76,6 +85,7 @@ fn cell_with(limits: LimitsRead, n: u32, blocks: [Block; 4], reserves: ReservePr
         caps: [Kw(a.cap.0), Kw(b.cap.0), Kw(c.cap.0), Kw(d.cap.0)],
         prices: [a.price, b.price, c.price, d.price],
         reserves,
+        reactive,
     }
 }
 
@@ -93,11 +103,12 @@ fn no_cell(went: Went) -> CellRead
             caps: [Kw(0); 4],
             prices: [0u32; 4],
             reserves,
+            reactive: NEUTRAL,
         },
     }
 }
 
-// One cell; "status ..; pmin, pmax ..; blocks ..; eight reserve prices".
+// One cell; "status ..; pmin, pmax ..; blocks ..; eight reserve prices"; from edition 2 on qmin, qmax and two prices.
 fn read_cell(s: &[u8], p: Place, edition: u32) -> CellRead
     ensures { λ r. ⌜ CellDone edition (now (s .entry)) p (r .went) (r .cell) ⌝ }
 {
@@ -111,11 +122,17 @@ fn read_cell(s: &[u8], p: Place, edition: u32) -> CellRead
     let Went::On(at_prices) = blocked else {
         return no_cell(blocked);
     };
-    let priced = read_prices(s, at_prices);
-    let went = priced.went;
+    let prices = read_prices(s, at_prices);
+    let priced = prices.went;
+    let Went::On(at_reactive) = priced else {
+        return no_cell(priced);
+    };
+    let reactive = read_reactive(s, at_reactive, edition);
+    let went = reactive.went;
     let items = blocks.blocks;
-    let reserves = priced.prices;
-    let cell = cell_with(limits, blocks.count, items, reserves);
+    let reserves = prices.prices;
+    let figures = reactive.figures;
+    let cell = cell_with(limits, blocks.count, items, reserves, figures);
     CellRead { went, cell }
 }
 

@@ -4,9 +4,11 @@ ghost use mathlib.Core.List.{[]};
 ghost use Prim.Native.Nat.{_<_};
 ghost use lib.ListN.{getD, length, set};
 ghost use Rattle.row_places.specs.Figures.{cellRow, cellOf, pminAt};
+use kilovars::SignedKvar;
 use kilowatts::Kw;
 use row_places::Cell;
 use row_places::CellRow;
+use row_places::ReactiveCell;
 use row_places::ReservePrices;
 
 pub fn cell_at(cells: &[CellRow], k: usize) -> Cell
@@ -24,6 +26,12 @@ pub fn cell_at(cells: &[CellRow], k: usize) -> Cell
         rrdon: r[18],
         rrdoff: r[19],
     };
+    let reactive = ReactiveCell {
+        qmin: SignedKvar(r[20]),
+        qmax: SignedKvar(r[21]),
+        qru: r[22],
+        qrd: r[23],
+    };
     Cell {
         status: r[0],
         pmin: Kw(r[1]),
@@ -32,6 +40,7 @@ pub fn cell_at(cells: &[CellRow], k: usize) -> Cell
         caps: [Kw(r[4]), Kw(r[5]), Kw(r[6]), Kw(r[7])],
         prices: [r[8], r[9], r[10], r[11]],
         reserves,
+        reactive,
     }
 }
 
@@ -48,6 +57,7 @@ fn cell_row(c: Cell) -> CellRow
     let caps = c.caps;
     let prices = c.prices;
     let reserves = c.reserves;
+    let reactive = c.reactive;
     [
         c.status,
         c.pmin.0,
@@ -69,6 +79,10 @@ fn cell_row(c: Cell) -> CellRow
         reserves.rruoff,
         reserves.rrdon,
         reserves.rrdoff,
+        reactive.qmin.0,
+        reactive.qmax.0,
+        reactive.qru,
+        reactive.qrd,
     ]
 }
 

@@ -7,7 +7,6 @@ use Rattle.layouts.specs.declared.Fault.{Fault}
 use Rattle.layouts.specs.declared.Place.{Place}
 use Rattle.layouts.specs.Layout.{list, _then_, held}
 use Rattle.model.specs.Case as M
-use Rattle.model.specs.Messages as L
 use Rattle.model.specs.Messages.{Head, apart, head, costs, ramps, zoneBits}
 use Rattle.model.specs.ByEdition as B
 use Rattle.model.specs.ByEdition.{cell}
@@ -19,6 +18,7 @@ use Rattle.field_rows.specs.Each.{list-natural, counted-natural}
 use Rattle.field_rows.proofs.Steps.{eight-natural}
 use Rattle.item_reader.specs.declared.Listed.the-variants.{States, Starts, Energies}
 use Rattle.item_reader.specs.Naturals.{item-natural}
+use Rattle.reactive_cells.proofs.Reactive.{reactive-natural}
 use Rattle.device_reader.specs.Heads.{Ahead, ahead, aheadOf}
 
 -- ---- any reader goes on from its parts
@@ -49,10 +49,11 @@ ahead-natural e zones last =
     (λ d. then-natural (counted-natural _ (item-natural Starts e last)) (λ f. counted-natural _ (item-natural Energies e last))))))
 
 pub cell-natural : (e : ℕ) → Natural (cell e)
-unfolding L.cell apart
+unfolding cell apart
 cell-natural e = held-natural _ _
     (then-natural (nat-natural _) (λ a. then-natural (then-natural (nat-natural _) (λ low. such-natural _ (nat-natural _))) (λ b.
-    then-natural (held-natural _ _ (counted-natural _ (then-natural (nat-natural _) (λ c. int-natural _ _)))) (λ d. eight-natural (nat-natural _)))))
+    then-natural (held-natural _ _ (counted-natural _ (then-natural (nat-natural _) (λ c. int-natural _ _)))) (λ d.
+    then-natural (eight-natural (nat-natural _)) (λ f. reactive-natural e)))))
 
 -- ---- what stands ahead, then the cells
 

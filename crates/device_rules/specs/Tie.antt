@@ -199,7 +199,7 @@ module _ {front : Front} {halves : List ℕ} {zones minima devices cells setting
 
     of-cell : OfCell q p t i (cellOf row)
     of-cell =
-        let e : F.cell q t i ≡ cellIn row = W.cell-is halves zones minima devices cells i l t in
+        let e : F.cell q t i ≡ cellIn row = G.cell-here (ready .case-rows) i l t h in
         record {
           status = sym (ap (λ (x : M.Cell). x .status) e);
           pmin = sym (ap (λ (x : M.Cell). x .pmin) e);

@@ -5,7 +5,7 @@ use Prim.Native.Nat.{ℕ, _≤_, min}
 use native.Mathlib.Omega.{arith}
 use Rattle.layouts.specs.declared.Fault.{Fault}
 use Rattle.layouts.specs.declared.Place.{Place}
-use Rattle.layouts.specs.Layout.{Layout, begin, advanced, nat, _then_, _▸_, held, fixed, readWhole}
+use Rattle.layouts.specs.Layout.{Layout, begin, advanced, nat, _then_, _▸_, held, fixed, readWhole, bitsOf}
 use Rattle.layouts.specs.Since.{nothing, present}
 use Rattle.layouts.specs.Checked.{Checked, nat-checked, weaken}
 use Rattle.layouts.specs.As.{As, as-same, as-pair, as-each, as-held, ahead, always, only, holding, leads}
@@ -15,7 +15,8 @@ use Rattle.model.specs.Messages as M
 use Rattle.model.specs.Messages.{edition1, Counts, Written}
 use Rattle.model.specs.Judgement.{countsOf}
 use Rattle.model.specs.Before.{readPlan}
-use Rattle.model.specs.ByEdition.{Stated, counts, startWindow, device, content, caseLayout, caseKind, editionOf, editionField, planKind, setting, planLayout, plannedIn, completionFront, completionLayout}
+use Rattle.model.specs.ByEdition.{Stated, counts, startWindow, device, content, caseLayout, caseKind, editionOf, editionField, completionFront, completionLayout}
+use Rattle.model.specs.ByEdition.{planKind, setting, cell, planLayout, plannedIn}
 
 -- a case with its edition beside it
 abbrev pub stated : ℕ → Case → Stated
@@ -26,7 +27,7 @@ stated e c = record { edition = e; case = c }
 -- an edition 1 setting has no reactive power, and writes none
 setting-as : As (setting 1) (λ x. x) M.setting
 unfolding setting M.setting held _then_ present nothing
-setting-as = record { reads = λ s p bad next. refl; writes = λ x. simp append-nil }
+setting-as = record { reads = λ {X} s p bad next. refl; writes = λ x. simp append-nil }
 
 pub plan-as : (devices intervals : ℕ) → As (planLayout 1 devices intervals) (λ p. p) (M.planLayout edition1 devices intervals)
 unfolding planLayout M.planLayout
@@ -56,6 +57,11 @@ regroup a b c d = simp append-assoc
 edition-checked : Checked (nat editionField) (λ e. e ≡ 1)
 edition-checked = weaken (nat editionField) _ _ (nat-checked editionField) (λ e ok. omega arith)
 
+-- reactive power came with edition 2
+cell-as : M.cell ≡ cell 1
+unfolding cell M.cell M.eight held _then_ nat bitsOf present nothing
+cell-as = refl
+
 -- a reader that takes all that edition 1 allows takes no more
 module _ (l : Largest) (h : deviceLimit 1 ≤ l .devices) (k : intervalLimit 1 ≤ l .intervals) where
   content-as : As (content 1 l) (λ c. c) (content 1 batch)
@@ -67,12 +73,12 @@ module _ (l : Largest) (h : deviceLimit 1 ≤ l .devices) (k : intervalLimit 1 �
 
   pub first-as : As (first l) (λ c. c) (M.caseLayout edition1)
   unfolding first content counts device startWindow M.caseLayout M.counts M.device M.startWindow held _then_ nat
-  first-as = record {
+  first-as = rw cell-as (record {
     reads = λ s p bad next. ahead (fixed 1) s p bad (λ _ q. ahead (fixed 1) s q bad (λ _ r. content-as .reads s r bad next));
     writes = λ c.
         ap (λ (bs : List ℕ). fixed 1 .write 1 ++ (fixed 1 .write 1 ++ bs)) (content-as .writes c)
         ∙ regroup (fixed 1 .write 1) (fixed 1 .write 1) (counts 1 batch .write (countsOf (c .system))) _;
-  }
+  })
 
   -- where 1 is the newest edition, every message is read so
   pub case-as : As (caseLayout l) (stated 1) (M.caseLayout edition1)

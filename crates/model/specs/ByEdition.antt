@@ -5,10 +5,13 @@ use Prim.Native.Nat.{ℕ, _^_}
 use lib.IntN.{ℤ}
 use Rattle.bits.specs.Bits.{fieldAt}
 use Rattle.layouts.specs.declared.Fault.the-variants.{WrongKind}
-use Rattle.layouts.specs.Layout.{Field, Layout, Whole, nat, int, _then_, _▸_, list, held, counted, figure, any, countOf, fixed, readWhole}
+use Rattle.layouts.specs.Layout.{Field, Layout, Whole, nat, int, _then_, _▸_, list, held, counted, figure, any, countOf, fixed, readWhole, such}
 use Rattle.layouts.specs.Since.{since}
 use lib.ListN.{length}
-use Rattle.model.specs.Case.{StartWindow, Cell, Device, Zone, CellPrices, DevicePrices, Six, Case, System, Reactive, Setting, Plan, noReactive}
+use Rattle.model.specs.Case.{StartWindow, Cell, Device, Zone, CellPrices, DevicePrices, Six, Case, System, Reactive, Setting}
+use Rattle.model.specs.Case.{Plan, noReactive, ReactiveLimits, ReactivePrices, noReactiveLimits, noReactivePrices}
+use lib.Dec.{leb}
+use lib.Signed.{leZ}
 use Rattle.model.specs.Forced.{intervals, devices}
 use Rattle.model.specs.Editions.{newest, Largest, deviceBits, intervalBits, devicesIn, intervalsIn, mostZones, mostStates, mostWindows, startsBits, mostStarts}
 use Rattle.model.specs.Messages as M
@@ -52,9 +55,42 @@ counts e l = held
 
 -- ---- Case
 
--- "status 2 (0 free, 1 on, 2 off); pmin, pmax 17 each; blocks 3 (0..4), each cap 17 and price 15 (±10,000); eight reserve prices 14 each (0..10,000)"
-abbrev pub cell : ℕ → Layout (Cell × CellPrices)
-cell e = M.cell
+-- reactive power in kvar: 18 bits two's complement, ±100,000; an amount of reserve 17 bits, 0..100,000
+abbrev pub signedKvar : Layout ℤ
+signedKvar = int 18 100000
+
+abbrev pub kvar : Layout ℕ
+kvar = figure 17 0 100000
+
+-- "qmin and qmax in kvar (18 bits, ±100,000)"; "A qmin above qmax is a contradiction at qmax"
+unfoldable pub reactiveLimits : Layout ReactiveLimits
+reactiveLimits = let l = signedKvar in held (λ v. record { qmin = v .0; qmax = v .1 }) (λ r. (r .qmin, r .qmax)) (l then (λ low. such (λ high. leZ low high) l))
+
+-- "two reactive reserves .., with prices of 14 bits (0..10,000) per interval in the case"; "up before down"
+unfoldable pub reactivePrices : Layout ReactivePrices
+reactivePrices = let l = figure 14 0 10000 in held (λ v. record { qru = v .0; qrd = v .1 }) (λ r. (r .qru, r .qrd)) (l ▸ l)
+
+-- what a cell has from edition 2 on, and what an edition has that lacks it
+abbrev pub reactiveCell : Layout (ReactiveLimits × ReactivePrices)
+reactiveCell = reactiveLimits ▸ reactivePrices
+
+abbrev pub noReactiveCell : ReactiveLimits × ReactivePrices
+noReactiveCell = (noReactiveLimits, noReactivePrices)
+
+-- "status 2 (0 free, 1 on, 2 off); pmin, pmax 17 each; blocks 3 (0..4), each cap 17 and price 15 (±10,000); eight reserve prices 14 each (0..10,000)";
+-- "New fields follow, in the order told here, the old ones of their device .. in that interval"
+unfoldable pub cell : ℕ → Layout (Cell × CellPrices)
+cell e = held
+    (λ v. let r = v .1 .1 .1 in (
+      record { status = v .0; pmin = v .1 .0 .0; pmax = v .1 .0 .1; caps = v .1 .1 .0 .0; reactive = r .1 .0 },
+      record { blocks = v .1 .1 .0 .1; reserves = r .0; reactive = r .1 .1 },
+    ))
+    (λ r. let c = r .0 in let x = r .1 in (c .status, ((c .pmin, c .pmax), ((c .caps, x .blocks), (x .reserves, (c .reactive, x .reactive))))))
+    (figure 2 0 2
+    ▸ (kW then (λ low. such (λ high. leb low high) kW))
+    ▸ apart (counted (countOf 3 0 4) (kW ▸ int 15 10000))
+    ▸ eight (figure 14 0 10000)
+    ▸ since e 2 noReactiveCell reactiveCell)
 
 -- "each start 16, end 16, most starts 6 (0..48)"
 unfoldable pub startWindow : ℕ → ℕ → Layout StartWindow
@@ -130,13 +166,6 @@ caseLayout l = held (λ v. record { edition = v .1 .0; case = v .1 .1 }) (λ r. 
     (fixed caseKind ▸ (nat editionField then (λ e. content e l)))
 
 -- ---- Plan
-
--- "q (as qmax)": in kvar, 18 bits two's complement, ±100,000; "reactive reserves (17 each)", 0..100,000
-abbrev pub signedKvar : Layout ℤ
-signedKvar = int 18 100000
-
-abbrev pub kvar : Layout ℕ
-kvar = figure 17 0 100000
 
 -- "The plan gains q (as qmax) and two reactive reserves (17 each)", "up before down"
 unfoldable pub reactive : Layout Reactive

@@ -56,13 +56,13 @@ module _ (halves : List ℕ) (zones minima devices cells settings : List (List �
     online-here : (t : ℕ) → t < m → F.setting q p t i .online ≡ onlineAt set t
     online-here t h = ap (λ (s : M.Setting). s .online) (W.setting-is (length devices) m settings q t i h l)
 
-    pmin-here : (t : ℕ) → F.cell q t i .pmin ≡ pminAt own t
-    pmin-here t = ap (λ (c : M.Cell). c .pmin) (W.cell-is halves zones minima devices cells i l t)
+    pmin-here : (t : ℕ) → t < length own → F.cell q t i .pmin ≡ pminAt own t
+    pmin-here t h = ap (λ (c : M.Cell). c .pmin) (W.cell-is halves zones minima devices cells i l t h)
 
-    leaves-here : (t : ℕ) → t < m → F.leaves q p t i ≡ leavesAt (d .power0 .0) own t
+    leaves-here : (t : ℕ) → t < length own → F.leaves q p t i ≡ leavesAt (d .power0 .0) own t
     unfolding F.leaves deviceIn
     leaves-here zero h = W.device-figure halves zones minima devices cells i l (λ x. x .power0)
-    leaves-here (suc t) h = let e : suc t - 1 ≡ t = omega arith in rw (e, ne-eqb (suc t) 0 (λ q. omega arith)) (pmin-here t)
+    leaves-here (suc t) h = let e : suc t - 1 ≡ t = omega arith in rw (e, ne-eqb (suc t) 0 (λ q. omega arith)) (pmin-here t (omega arith))
 
     -- the terms of psu and psd in t
     abbrev rise : ℕ → ℕ → ℕ
@@ -91,7 +91,7 @@ module _ (halves : List ℕ) (zones minima devices cells settings : List (List �
                   within 0 e t (omega arith) y,
                   lt-ltb t e y,
                   W.started-is halves zones minima devices cells settings e i b l,
-                  pmin-here e,
+                  pmin-here e (omega (arith, full)),
                   W.device-is halves zones minima devices cells i l,
                   end-at t h,
                   end-at e b,
@@ -107,7 +107,7 @@ module _ (halves : List ℕ) (zones minima devices cells settings : List (List �
                   within e (length own) t x (omega (arith, full)),
                   le-leb e t x,
                   W.stopped-is halves zones minima devices cells settings e i b l,
-                  leaves-here e b,
+                  leaves-here e (omega (arith, full)),
                   W.device-is halves zones minima devices cells i l,
                   end-at t h,
                   start-at e b,

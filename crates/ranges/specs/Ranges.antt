@@ -8,8 +8,9 @@ use lib.ListN.{length, length-map}
 use lib.IntN.{natAbs}
 use Rattle.numbers.specs.Sum.{All, all-map}
 use Rattle.numbers.specs.Every.{map-of-all}
-use Rattle.model.specs.Case.{Reserves, Ramps, StartWindow, EnergyWindow, Shares, Six, Minima, Cell, CellPrices, Device, DevicePrices, Zone, System, Prices, Case, Plan, Reactive, Setting, noReactive}
-use Rattle.layouts.specs.Layout.{Layout, Field, nat, list, counted, _then_, _▸_, passes, figure, any, countOf}
+use Rattle.model.specs.Case.{Reserves, Ramps, StartWindow, EnergyWindow, Shares, Six, Minima, Cell, CellPrices, Device, DevicePrices, Zone, System, Prices}
+use Rattle.model.specs.Case.{Case, Plan, Reactive, Setting, noReactive, ReactiveLimits, ReactivePrices}
+use Rattle.layouts.specs.Layout.{Layout, Field, nat, list, counted, _then_, _▸_, passes, figure, any, countOf, int}
 use Rattle.model.specs.Editions.{newest, Largest, batch, devicesIn, intervalsIn, mostDevices, mostIntervals, mostZones, mostStates, mostWindows, startsBits, mostStarts}
 use Rattle.model.specs.Messages as M
 use Rattle.model.specs.Messages.{edition1}
@@ -17,7 +18,7 @@ use Rattle.model.specs.ByEdition as B
 use Rattle.model.specs.ByEdition.{Stated, statedIn, plannedIn}
 use Rattle.model.specs.AsBefore.{first, first-as}
 use Rattle.layouts.specs.As.{as-checked}
-use Rattle.layouts.specs.Since.{has, Where, present-checked}
+use Rattle.layouts.specs.Since.{has, present-checked, since, where-more}
 use Rattle.layouts.specs.Checked.{Checked, nat-checked, int-checked, list-checked, such-checked, held-checked, then-checked, whole-checked, weaken}
 
 pair-checked : {A B : Type 0} (l : Layout A) (m : Layout B) (P : A → Type 0) (Q : B → Type 0) → Checked l P → Checked m Q → Checked (l ▸ m) (λ x. P (x .0) × Q (x .1))
@@ -28,13 +29,23 @@ unfolding counted
 counted-checked f l P u = held-checked _ _ _ _ _ (then-checked (nat f) (λ n. list n l) _ (λ n xs. (length xs ≡ n) × All P xs) (nat-checked f)
     (λ n ok. list-checked n l P u)) (λ a ok. (omega arith, ok .1 .1))
 
--- a cell: status, pmin and pmax, at most four blocks, each cap
+-- what came with an edition, whose neutral value is in its range
+since-checked : {A : Type 0} (e k : ℕ) (neutral : A) (l : Layout A) (P : A → Type 0) → Checked l P → P neutral → Checked (since e k neutral l) P
+since-checked e k neutral l P u n =
+    weaken (since e k neutral l) _ _ (present-checked (has k e) neutral l P u) (λ x ok. where-more (has k e) true neutral P (λ _. refl) n x ok)
+
+-- a cell: status, pmin and pmax, at most four blocks, each cap, qmin and qmax
+pub record ReactiveLimitRange (r : ReactiveLimits) : Type 0 where
+  pub qmin : natAbs (r .qmin) ≤ 100000
+  pub qmax : natAbs (r .qmax) ≤ 100000
+
 pub record CellRange (c : Cell) : Type 0 where
   pub status : c .status ≤ 2
   pub pmin : c .pmin ≤ 100000
   pub pmax : c .pmax ≤ 100000
   pub blocks : length (c .caps) ≤ 4
   pub caps : All (λ x. x ≤ 100000) (c .caps)
+  pub reactive : ReactiveLimitRange (c .reactive)
 
 apart-checked : {A B : Type 0} (l : Layout (List (A × B))) (n : ℕ) (P : A → Type 0) (Q : B → Type 0)
     → Checked l (λ xs. (length xs ≤ n) × All (λ x. P (x .0) × Q (x .1)) xs) → Checked (M.apart l) (λ v. (length (v .0) ≤ n) × All P (v .0) × All Q (v .1))
@@ -74,18 +85,33 @@ eight-checked l P u = held-checked _ _ _ _ _
       rrdOff = ok .1 .1 .1 .1 .1 .1 .1;
     })
 
+pub record ReactivePriceRange (r : ReactivePrices) : Type 0 where
+  pub qru : r .qru ≤ 10000
+  pub qrd : r .qrd ≤ 10000
+
 pub record CellPriceRange (c : CellPrices) : Type 0 where
   pub blocks : All (λ x. natAbs x ≤ 10000) (c .blocks)
   pub reserves : Eight (λ r. r ≤ 10000) (c .reserves)
+  pub reactive : ReactivePriceRange (c .reactive)
+
+reactive-cell-checked : Checked B.reactiveCell (λ v. ReactiveLimitRange (v .0) × ReactivePriceRange (v .1))
+unfolding B.reactiveLimits B.reactivePrices
+reactive-cell-checked = let l = int-checked 18 100000 in let x = figure-checked 14 0 10000 in pair-checked _ _ _ _
+    (held-checked _ _ _ _ _ (then-checked (int 18 100000) _ _ (λ low high. natAbs high ≤ 100000) l (λ low ok. such-checked _ _ _ l)) (λ v ok. record { qmin = ok .0; qmax = ok .1 }))
+    (held-checked _ _ _ _ _ (pair-checked _ _ _ _ x x) (λ v ok. record { qru = ok .0; qrd = ok .1 }))
 
 cell-checked : (e : ℕ) → Checked (B.cell e) (λ v. CellRange (v .0) × CellPriceRange (v .1))
-unfolding M.cell
+unfolding B.cell
 cell-checked e = held-checked _ _ _ _ _
     (pair-checked _ _ _ _ (figure-checked 2 0 2)
     (pair-checked _ _ _ _ (then-checked M.kW _ _ (λ low high. high ≤ 100000) (figure-checked 17 0 100000) (λ low ok. such-checked _ _ _ (figure-checked 17 0 100000)))
     (pair-checked _ _ _ _ (apart-checked _ 4 (λ x. x ≤ 100000) (λ x. natAbs x ≤ 10000) (counted-checked (countOf 3 0 4) _ _ (pair-checked _ _ _ _ (figure-checked 17 0 100000) (int-checked 15 10000))))
-    (eight-checked _ _ (figure-checked 14 0 10000)))))
-    (λ v ok. (record { status = ok .0; pmin = ok .1 .0 .0; pmax = ok .1 .0 .1; blocks = ok .1 .1 .0 .0; caps = ok .1 .1 .0 .1 }, record { blocks = ok .1 .1 .0 .2; reserves = ok .1 .1 .1 }))
+    (pair-checked _ _ _ _ (eight-checked _ _ (figure-checked 14 0 10000))
+    (since-checked e 2 B.noReactiveCell B.reactiveCell _ reactive-cell-checked (record { qmin = omega arith; qmax = omega arith }, record { qru = omega arith; qrd = omega arith }))))))
+    (λ v ok. let r = ok .1 .1 .1 in (
+      record { status = ok .0; pmin = ok .1 .0 .0; pmax = ok .1 .0 .1; blocks = ok .1 .1 .0 .0; caps = ok .1 .1 .0 .1; reactive = r .1 .0 },
+      record { blocks = ok .1 .1 .0 .2; reserves = r .0; reactive = r .1 .1 },
+    ))
 
 -- a device: what stands ahead of its intervals, and a cell for each interval
 pub record RampsRange (r : Ramps) : Type 0 where
@@ -362,17 +388,12 @@ unfolding B.reactive
 reactive-checked = let u = figure-checked 17 0 100000 in held-checked _ _ _ _ _ (pair-checked _ _ _ _ (int-checked 18 100000) (pair-checked _ _ _ _ u u))
     (λ v ok. record { q = ok .0; qru = ok .1 .0; qrd = ok .1 .1 })
 
--- what is neutral is in its range, in every edition
-reactive-range : (b : Bool) (x : Reactive) → Where b noReactive ReactiveRange x → ReactiveRange x
-reactive-range true x ok = ok
-reactive-range false x ok = rw ok record { q = omega arith; qru = omega arith; qrd = omega arith }
-
 setting-checked : (e : ℕ) → Checked (B.setting e) SettingRange
 unfolding M.active B.setting
 setting-checked e = held-checked _ _ _ _ _
     (pair-checked _ _ _ _ (pair-checked _ _ _ _ (figure-checked 1 0 1) (pair-checked _ _ _ _ (figure-checked 17 0 100000) (eight-checked _ _ (figure-checked 17 0 100000))))
-    (present-checked (has 2 e) noReactive B.reactive _ reactive-checked))
-    (λ v ok. record { on = ok .0 .0; online = ok .0 .1 .0; reserves = ok .0 .1 .1; reactive = reactive-range (has 2 e) _ (ok .1) })
+    (since-checked e 2 noReactive B.reactive _ reactive-checked (record { q = omega arith; qru = omega arith; qrd = omega arith })))
+    (λ v ok. record { on = ok .0 .0; online = ok .0 .1 .0; reserves = ok .0 .1 .1; reactive = ok .1 })
 
 -- a plan's settings: of so many intervals, each of so many devices
 abbrev pub Settings : ℕ → ℕ → Plan → Type 0

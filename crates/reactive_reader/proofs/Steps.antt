@@ -1,10 +1,10 @@
 -- The reactive figures field by field: q, then its reserves up and down.
-use mathlib.Core.Path.{_≡_, refl, ap, sym, _∙_}
+use mathlib.Core.Path.{_≡_, sym}
 use mathlib.Core.List.{List}
 use Prim.Native.Nat.{ℕ}
 use Rattle.layouts.specs.declared.Fault.{Fault}
 use Rattle.layouts.specs.declared.Place.{Place}
-use Rattle.layouts.specs.Layout.{Layout, _▸_}
+use Rattle.layouts.specs.Layout.{_▸_}
 use Rattle.layouts.specs.Since.{has, since}
 use Rattle.model.specs.Case as M
 use Rattle.model.specs.Case.{noReactive}

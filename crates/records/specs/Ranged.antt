@@ -37,6 +37,7 @@ no-prices : CellPriceRange noCellPrices
 no-prices = record {
   blocks = tt;
   reserves = record { rgu = omega arith; rgd = omega arith; scr = omega arith; nsc = omega arith; rruOn = omega arith; rruOff = omega arith; rrdOn = omega arith; rrdOff = omega arith };
+  reactive = record { qru = omega arith; qrd = omega arith };
 }
 
 -- ---- a device's figures
@@ -138,8 +139,11 @@ module _ {front : Front} {halves : List ℕ} {zones minima devices cells : List 
       abbrev row : List ℕ
       row = getD (part m i cells) t []
 
+      pub cell-here : F.cell q t i ≡ cellIn row
+      cell-here = W.cell-is halves zones minima devices cells i l t (omega (arith, part-long m i n cells l (known .cells-full)))
+
       pub cell-range : CellRange (cellIn row)
-      cell-range = subst CellRange (W.cell-is halves zones minima devices cells i l t)
+      cell-range = subst CellRange cell-here
           (all-at CellRange noCell (F.device q i .cells) (device-range .cells) t (omega (arith, device-range .each, W.intervals-are halves zones minima devices cells)))
 
       pub cell-price-range : CellPriceRange (cellPricesIn row)
@@ -154,7 +158,7 @@ module _ {front : Front} {halves : List ℕ} {zones minima devices cells : List 
 
       -- the cap of block j, 0 where there is no block
       pub cap-at : (j : ℕ) → j < 4 → getD (cellOf row .caps) j (kw 0) .0 ≡ F.cap q t i j
-      cap-at j b = sym (ap (λ (c : M.Cell). getD (c .caps) j 0) (W.cell-is halves zones minima devices cells i l t) ∙ go (decLe (cellOf row .blocks) j))
+      cap-at j b = sym (ap (λ (c : M.Cell). getD (c .caps) j 0) cell-here ∙ go (decLe (cellOf row .blocks) j))
         where
           f : Kw → ℕ
           f x = x .0
@@ -169,7 +173,7 @@ module _ {front : Front} {halves : List ℕ} {zones minima devices cells : List 
       cap-small j b = omega (arith, cap-at j b, caps j)
         where
           caps : (j : ℕ) → F.cap q t i j ≤ 100000
-          caps j = all-getD 100000 (F.cell q t i .caps) (subst CellRange (sym (W.cell-is halves zones minima devices cells i l t)) cell-range .caps) j
+          caps j = all-getD 100000 (F.cell q t i .caps) (subst CellRange (sym cell-here) cell-range .caps) j
 
       -- the price of block j, or the block is absent
       pub price-at : (j : ℕ) → j < 4 → (F.cap q t i j ≡ 0) ⊎ (less priceOffset (getD (cellOf row .prices) j 0) ≡ C.blockPrice k t i j)

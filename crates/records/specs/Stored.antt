@@ -8,22 +8,16 @@ use Rattle.model.specs.Case as M
 use Rattle.kilowatts.specs.declared.Kw.{Kw}
 use Rattle.row_places.specs.declared.Cell.{Cell}
 use Rattle.row_places.specs.Figures.{kwAt, cellOf, cellRow}
-use Rattle.records.specs.Views.{less, priceOffset, eightPricesIn, cellIn, cellPricesIn, Padded}
+use Rattle.records.specs.Views.{cellSaid, cellPricesSaid, cellIn, cellPricesIn, Padded}
 
 -- four figures, one by one
 pub four : {A : Type 0} (l : List A) (z : A) → length l ≡ 4 → getD l 0 z ∷ getD l 1 z ∷ getD l 2 z ∷ getD l 3 z ∷ [] ≡ l
 four l z h = tabbed z 4 l h
 
--- the model's cell, by the record
-abbrev pub cellSaid : Cell → M.Cell
-cellSaid c = record { status = c .status; pmin = c .pmin .0; pmax = c .pmax .0; caps = map (λ x. x .0) (take (c .blocks) (c .caps)) }
-
-abbrev pub cellPricesSaid : Cell → M.CellPrices
-cellPricesSaid c = record { blocks = map (less priceOffset) (take (c .blocks) (c .prices)); reserves = eightPricesIn (c .reserves) }
-
 module _ (c : Cell) (caps : length (c .caps) ≡ 4) (prices : length (c .prices) ≡ 4) where
   pub cell-back : cellOf (cellRow c) ≡ c
-  cell-back = ap₂ (λ (x : List Kw) (y : List ℕ). record { status = c .status; pmin = c .pmin; pmax = c .pmax; blocks = c .blocks; caps = x; prices = y; reserves = c .reserves })
+  cell-back = ap₂
+      (λ (x : List Kw) (y : List ℕ). record { status = c .status; pmin = c .pmin; pmax = c .pmax; blocks = c .blocks; caps = x; prices = y; reserves = c .reserves; reactive = c .reactive })
       (four (c .caps) (record { 0 = 0 }) caps) (four (c .prices) 0 prices)
 
   pub cell-stored : cellIn (cellRow c) ≡ cellSaid c

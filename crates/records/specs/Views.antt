@@ -15,6 +15,8 @@ use Rattle.kilovars.specs.Reactive.{kvarOffset}
 use Rattle.row_places.specs.declared.Reserves.{Reserves}
 use Rattle.row_places.specs.declared.ReservePrices.{ReservePrices}
 use Rattle.row_places.specs.declared.Reactive.{Reactive}
+use Rattle.row_places.specs.declared.ReactiveCell.{ReactiveCell}
+use Rattle.row_places.specs.declared.Cell.{Cell}
 use Rattle.row_places.specs.declared.State.{State}
 use Rattle.row_places.specs.declared.StartWindow.{StartWindow}
 use Rattle.row_places.specs.declared.EnergyWindow.{EnergyWindow}
@@ -46,11 +48,24 @@ numberOf l k = getD l k (record { 0 = 0 }) .0
 abbrev pub limitsIn : List Kw → M.Reserves
 limitsIn l = record { rgu = numberOf l 0; rgd = numberOf l 1; scr = numberOf l 2; nsc = numberOf l 3; rruOn = numberOf l 4; rruOff = numberOf l 5; rrdOn = numberOf l 6; rrdOff = numberOf l 7 }
 
+abbrev pub reactiveLimitsIn : ReactiveCell → M.ReactiveLimits
+reactiveLimitsIn r = record { qmin = less kvarOffset (r .qmin .0); qmax = less kvarOffset (r .qmax .0) }
+
+abbrev pub reactivePricesIn : ReactiveCell → M.ReactivePrices
+reactivePricesIn r = record { qru = r .qru; qrd = r .qrd }
+
+-- the model's cell, and its prices, by the record
+abbrev pub cellSaid : Cell → M.Cell
+cellSaid c = record { status = c .status; pmin = c .pmin .0; pmax = c .pmax .0; caps = map (λ x. x .0) (take (c .blocks) (c .caps)); reactive = reactiveLimitsIn (c .reactive) }
+
+abbrev pub cellPricesSaid : Cell → M.CellPrices
+cellPricesSaid c = record { blocks = map (less priceOffset) (take (c .blocks) (c .prices)); reserves = eightPricesIn (c .reserves); reactive = reactivePricesIn (c .reactive) }
+
 abbrev pub cellIn : List ℕ → M.Cell
-cellIn r = record { status = cellOf r .status; pmin = cellOf r .pmin .0; pmax = cellOf r .pmax .0; caps = map (λ c. c .0) (take (cellOf r .blocks) (cellOf r .caps)) }
+cellIn r = cellSaid (cellOf r)
 
 abbrev pub cellPricesIn : List ℕ → M.CellPrices
-cellPricesIn r = record { blocks = map (less priceOffset) (take (cellOf r .blocks) (cellOf r .prices)); reserves = eightPricesIn (cellOf r .reserves) }
+cellPricesIn r = cellPricesSaid (cellOf r)
 
 -- a cell's quantities beside its prices, as a message has them
 abbrev pub cellPair : List ℕ → M.Cell × M.CellPrices

@@ -64,6 +64,7 @@ cellOf r = record {
   caps = kw (at r 4) ∷ kw (at r 5) ∷ kw (at r 6) ∷ kw (at r 7) ∷ [];
   prices = at r 8 ∷ at r 9 ∷ at r 10 ∷ at r 11 ∷ [];
   reserves = eightPrices r 12;
+  reactive = record { qmin = signedKvar (at r 20); qmax = signedKvar (at r 21); qru = at r 22; qrd = at r 23 };
 }
 
 abbrev pub reactiveOf : List ℕ → Reactive
@@ -147,7 +148,8 @@ abbrev pub cellRow : Cell → List ℕ
 cellRow c =
     c .status ∷ c .pmin .0 ∷ c .pmax .0 ∷ c .blocks ∷ kwAt (c .caps) 0 ∷ kwAt (c .caps) 1 ∷ kwAt (c .caps) 2 ∷ kwAt (c .caps) 3
     ∷ at (c .prices) 0 ∷ at (c .prices) 1 ∷ at (c .prices) 2 ∷ at (c .prices) 3
-    ∷ c .reserves .rgu ∷ c .reserves .rgd ∷ c .reserves .scr ∷ c .reserves .nsc ∷ c .reserves .rruon ∷ c .reserves .rruoff ∷ c .reserves .rrdon ∷ c .reserves .rrdoff ∷ []
+    ∷ c .reserves .rgu ∷ c .reserves .rgd ∷ c .reserves .scr ∷ c .reserves .nsc ∷ c .reserves .rruon ∷ c .reserves .rruoff ∷ c .reserves .rrdon ∷ c .reserves .rrdoff
+    ∷ c .reactive .qmin .0 ∷ c .reactive .qmax .0 ∷ c .reactive .qru ∷ c .reactive .qrd ∷ []
 
 abbrev pub settingRow : Setting → List ℕ
 settingRow x =

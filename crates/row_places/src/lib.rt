@@ -7,8 +7,9 @@ use kilovars::Kvar;
 use kilovars::SignedKvar;
 use kilowatts::Kw;
 
-// A device in one interval: status, pmin, pmax, count of blocks, four caps, four prices kept from −10,000, the prices of the eight.
-pub type CellRow = [u32; 20];
+// A device in one interval: status, pmin, pmax, count of blocks, four caps, four prices kept from −10,000, the prices of the eight; then qmin and qmax, kept
+// from −100,000, and the prices of the two reactive reserves.
+pub type CellRow = [u32; 24];
 
 // A plan's figures for a device in one interval: on, online power, the eight; q kept from −100,000, its two reserves.
 pub type SettingRow = [u32; 13];
@@ -31,7 +32,7 @@ pub type MinimaRow = [u32; 2];
 
 // Rows of zeros, for an owner's tables: what a reader fills.
 pub fn blank_cell() -> CellRow {
-    [0u32; 20]
+    [0u32; 24]
 }
 
 pub fn blank_setting() -> SettingRow {
@@ -74,6 +75,14 @@ pub struct ReservePrices {
     pub rrdoff: u32,
 }
 
+// What a device has of reactive power in one interval: "qmin and qmax in kvar"; the prices of the two reserves, in grains per kvar·min.
+pub struct ReactiveCell {
+    pub qmin: SignedKvar,
+    pub qmax: SignedKvar,
+    pub qru: u32,
+    pub qrd: u32,
+}
+
 // A device in one interval. Block prices are kept from 0: the price and 10,000. Absent blocks have cap 0.
 pub struct Cell {
     pub status: u32,
@@ -83,6 +92,7 @@ pub struct Cell {
     pub caps: [Kw; 4],
     pub prices: [u32; 4],
     pub reserves: ReservePrices,
+    pub reactive: ReactiveCell,
 }
 
 // "q (as qmax) and two reactive reserves", up before down.

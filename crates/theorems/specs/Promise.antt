@@ -47,7 +47,7 @@ module _ (c : Case) (r : PricesRange (c .prices)) where
   prices-at i = all-or DevicePriceRange noDevicePrices (record { on = omega arith; start = omega arith; stop = omega arith; states = tt; cells = tt }) (c .prices .devices) (r .devices) i
 
   pub cell-prices-at : (t i : ℕ) → CellPriceRange (C.cellPrices c t i)
-  cell-prices-at t i = all-or CellPriceRange noCellPrices (record { blocks = tt; reserves = omega arith }) (C.devicePrices c i .cells) (prices-at i .cells) t
+  cell-prices-at t i = all-or CellPriceRange noCellPrices (record { blocks = tt; reserves = omega arith; reactive = omega arith }) (C.devicePrices c i .cells) (prices-at i .cells) t
 
   pub state-at : (i : ℕ) (z : ℤ) → natAbs (C.stateCost c i z) ≤ mostChange
   unfolding C.stateCost

@@ -1,0 +1,162 @@
+// What a cell has of reactive power, from edition 2 on: qmin and qmax, then the prices of the two reactive reserves. An edition that lacks it has 0 for each.
+ghost use mathlib.Core.Path.{_≡_};
+ghost use lib.Signed.{leZ};
+ghost use Rattle.layouts.specs.Layout.{noted};
+ghost use Rattle.layouts.specs.Since.{since};
+ghost use Rattle.model.specs.ByEdition.{reactiveLimits, reactivePrices, reactiveCell, noReactiveCell};
+ghost use Rattle.kilovars.specs.Reactive.{kvarOffset};
+ghost use Rattle.records.specs.Views.{less};
+ghost use Rattle.fields.specs.Got.{got, told};
+ghost use Rattle.reactive_cells.specs.Reactive.{limitsIn, pricesIn, reactivePair};
+use fields::Figure;
+use fields::Went;
+use kilovars::SignedKvar;
+use layouts::Place;
+use row_places::ReactiveCell;
+
+// "Edition 2 adds the rules .."
+const REACTIVE_EDITION: u32 = 2;
+
+// "qmin and qmax in kvar (18 bits, ±100,000)"; half is the weight of their highest bit
+const KVAR_BITS: u64 = 18;
+
+const KVAR_HALF: u64 = 131072;
+
+const MOST_KVAR: u64 = 100000;
+
+// "prices of 14 bits (0..10,000)"
+const PRICE_BITS: u64 = 14;
+
+const MOST_PRICE: u32 = 10000;
+
+// 0 kvar, kept from −100,000
+const NO_KVAR: SignedKvar = SignedKvar(100000);
+
+pub const NEUTRAL: ReactiveCell = ReactiveCell {
+    qmin: NO_KVAR,
+    qmax: NO_KVAR,
+    qru: 0,
+    qrd: 0,
+};
+
+struct LimitsRead {
+    went: Went,
+    qmin: SignedKvar,
+    qmax: SignedKvar,
+}
+
+fn no_limits(went: Went) -> LimitsRead
+    ensures { λ r. ⌜ r .went ≡ went ⌝ }
+{
+    LimitsRead {
+        went,
+        qmin: NO_KVAR,
+        qmax: NO_KVAR,
+    }
+}
+
+// The place p behind qmax, which starts at bit b: "A qmin above qmax is a contradiction at qmax". Both are kept from −100,000.
+fn limits_checked(qmin: u32, qmax: u32, p: Place, b: u64) -> Place
+    ensures { λ r. ⌜ r ≡ noted (leZ (less kvarOffset qmin) (less kvarOffset qmax)) b p ⌝ }
+{
+    if qmax < qmin {
+        return fields::note(p, b);
+    }
+    p
+}
+
+fn read_limits(s: &[u8], p: Place) -> LimitsRead
+    ensures { λ r. ⌜ told (r .went) (limitsIn r) ≡ got reactiveLimits (now (s .entry)) p ⌝ }
+{
+    let low = fields::read_offset(s, p, KVAR_BITS, KVAR_HALF, MOST_KVAR);
+    let Figure::Good(qmin, at_qmax) = low else {
+        return no_limits(fields::place_of(low));
+    };
+    let high = fields::read_offset(s, at_qmax, KVAR_BITS, KVAR_HALF, MOST_KVAR);
+    let Figure::Good(qmax, past) = high else {
+        return no_limits(fields::place_of(high));
+    };
+    let bit = at_qmax.at;
+    let checked = limits_checked(qmin, qmax, past, bit);
+    LimitsRead {
+        went: Went::On(checked),
+        qmin: SignedKvar(qmin),
+        qmax: SignedKvar(qmax),
+    }
+}
+
+struct PricesRead {
+    went: Went,
+    qru: u32,
+    qrd: u32,
+}
+
+fn no_prices(went: Went) -> PricesRead
+    ensures { λ r. ⌜ r .went ≡ went ⌝ }
+{
+    PricesRead {
+        went,
+        qru: 0,
+        qrd: 0,
+    }
+}
+
+// "up before down"
+fn read_prices(s: &[u8], p: Place) -> PricesRead
+    ensures { λ r. ⌜ told (r .went) (pricesIn r) ≡ got reactivePrices (now (s .entry)) p ⌝ }
+{
+    let up = fields::read_figure(s, p, PRICE_BITS, 0, MOST_PRICE);
+    let Figure::Good(qru, at_qrd) = up else {
+        return no_prices(fields::place_of(up));
+    };
+    let down = fields::read_figure(s, at_qrd, PRICE_BITS, 0, MOST_PRICE);
+    let Figure::Good(qrd, past) = down else {
+        return no_prices(fields::place_of(down));
+    };
+    PricesRead {
+        went: Went::On(past),
+        qru,
+        qrd,
+    }
+}
+
+pub struct ReactiveRead {
+    pub went: Went,
+    pub figures: ReactiveCell,
+}
+
+// Where reading goes on, with the neutral figures.
+fn neutral(went: Went) -> ReactiveRead
+    ensures { λ r. ⌜ (r .went ≡ went) × (reactivePair (r .figures) ≡ noReactiveCell) ⌝ }
+{
+    ReactiveRead {
+        went,
+        figures: NEUTRAL,
+    }
+}
+
+pub fn read_reactive(s: &[u8], p: Place, edition: u32) -> ReactiveRead
+    ensures { λ r. ⌜ told (r .went) (reactivePair (r .figures)) ≡ got (since edition 2 noReactiveCell reactiveCell) (now (s .entry)) p ⌝ }
+{
+    if edition < REACTIVE_EDITION {
+        return neutral(Went::On(p));
+    }
+    let limits = read_limits(s, p);
+    let limited = limits.went;
+    let Went::On(at_prices) = limited else {
+        return neutral(limited);
+    };
+    let prices = read_prices(s, at_prices);
+    let went = prices.went;
+    let qmin = limits.qmin;
+    let qmax = limits.qmax;
+    ReactiveRead {
+        went,
+        figures: ReactiveCell {
+            qmin,
+            qmax,
+            qru: prices.qru,
+            qrd: prices.qrd,
+        },
+    }
+}
