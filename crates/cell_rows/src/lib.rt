@@ -6,6 +6,30 @@ ghost use lib.ListN.{getD, length, set};
 ghost use Rattle.row_places.specs.Figures.{cellRow, cellOf, pminAt};
 use kilovars::SignedKvar;
 use kilowatts::Kw;
+use row_places::CELL_BLOCKS;
+use row_places::CELL_CAP_1;
+use row_places::CELL_CAP_2;
+use row_places::CELL_CAP_3;
+use row_places::CELL_CAP_4;
+use row_places::CELL_NSC;
+use row_places::CELL_PMAX;
+use row_places::CELL_PMIN;
+use row_places::CELL_PRICE_1;
+use row_places::CELL_PRICE_2;
+use row_places::CELL_PRICE_3;
+use row_places::CELL_PRICE_4;
+use row_places::CELL_QMAX;
+use row_places::CELL_QMIN;
+use row_places::CELL_QRD;
+use row_places::CELL_QRU;
+use row_places::CELL_RGD;
+use row_places::CELL_RGU;
+use row_places::CELL_RRD_OFF;
+use row_places::CELL_RRD_ON;
+use row_places::CELL_RRU_OFF;
+use row_places::CELL_RRU_ON;
+use row_places::CELL_SCR;
+use row_places::CELL_STATUS;
 use row_places::Cell;
 use row_places::CellRow;
 use row_places::ReactiveCell;
@@ -17,28 +41,38 @@ pub fn cell_at(cells: &[CellRow], k: usize) -> Cell
 {
     let r = cells[k];
     let reserves = ReservePrices {
-        rgu: r[12],
-        rgd: r[13],
-        scr: r[14],
-        nsc: r[15],
-        rruon: r[16],
-        rruoff: r[17],
-        rrdon: r[18],
-        rrdoff: r[19],
+        rgu: r[CELL_RGU],
+        rgd: r[CELL_RGD],
+        scr: r[CELL_SCR],
+        nsc: r[CELL_NSC],
+        rruon: r[CELL_RRU_ON],
+        rruoff: r[CELL_RRU_OFF],
+        rrdon: r[CELL_RRD_ON],
+        rrdoff: r[CELL_RRD_OFF],
     };
     let reactive = ReactiveCell {
-        qmin: SignedKvar(r[20]),
-        qmax: SignedKvar(r[21]),
-        qru: r[22],
-        qrd: r[23],
+        qmin: SignedKvar(r[CELL_QMIN]),
+        qmax: SignedKvar(r[CELL_QMAX]),
+        qru: r[CELL_QRU],
+        qrd: r[CELL_QRD],
     };
     Cell {
-        status: r[0],
-        pmin: Kw(r[1]),
-        pmax: Kw(r[2]),
-        blocks: r[3],
-        caps: [Kw(r[4]), Kw(r[5]), Kw(r[6]), Kw(r[7])],
-        prices: [r[8], r[9], r[10], r[11]],
+        status: r[CELL_STATUS],
+        pmin: Kw(r[CELL_PMIN]),
+        pmax: Kw(r[CELL_PMAX]),
+        blocks: r[CELL_BLOCKS],
+        caps: [
+            Kw(r[CELL_CAP_1]),
+            Kw(r[CELL_CAP_2]),
+            Kw(r[CELL_CAP_3]),
+            Kw(r[CELL_CAP_4]),
+        ],
+        prices: [
+            r[CELL_PRICE_1],
+            r[CELL_PRICE_2],
+            r[CELL_PRICE_3],
+            r[CELL_PRICE_4],
+        ],
         reserves,
         reactive,
     }
@@ -48,7 +82,7 @@ pub fn pmin_at(cells: &[CellRow], k: usize) -> Kw
     requires { ⌜ k < length (now cells) ⌝ }
     ensures { λ r. ⌜ r .0 ≡ pminAt (now (cells .entry)) k ⌝ }
 {
-    Kw(cells[k][1])
+    Kw(cells[k][CELL_PMIN])
 }
 
 fn cell_row(c: Cell) -> CellRow

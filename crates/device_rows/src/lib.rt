@@ -10,11 +10,36 @@ ghost use Rattle.row_places.specs.Figures.{on0At, minutes0At, oncostAt, startco
 use energy::KwMin;
 use grains::Grains;
 use kilowatts::Kw;
+use row_places::DEVICE_MIN_DOWN;
+use row_places::DEVICE_MIN_UP;
+use row_places::DEVICE_MINUTES_0;
+use row_places::DEVICE_NSC;
+use row_places::DEVICE_ON_0;
+use row_places::DEVICE_ON_COST;
+use row_places::DEVICE_POWER_0;
+use row_places::DEVICE_RAMP_DOWN;
+use row_places::DEVICE_RAMP_STARTING;
+use row_places::DEVICE_RAMP_STOPPING;
+use row_places::DEVICE_RAMP_UP;
+use row_places::DEVICE_RGD;
+use row_places::DEVICE_RGU;
+use row_places::DEVICE_RRD_OFF;
+use row_places::DEVICE_RRD_ON;
+use row_places::DEVICE_RRU_OFF;
+use row_places::DEVICE_RRU_ON;
+use row_places::DEVICE_SCR;
+use row_places::DEVICE_SIDE;
+use row_places::DEVICE_START_COST;
+use row_places::DEVICE_STOP_COST;
+use row_places::DEVICE_ZONE_BITS;
 use row_places::Device;
 use row_places::DeviceRow;
 use row_places::ENERGIES;
+use row_places::ENERGY_WIDTH;
 use row_places::EnergyWindow;
+use row_places::START_WIDTH;
 use row_places::STARTS;
+use row_places::STATE_WIDTH;
 use row_places::STATES;
 use row_places::StartWindow;
 use row_places::State;
@@ -36,7 +61,7 @@ fn state_in(r: DeviceRow, k: usize) -> State
     requires { ⌜ k < mostStates ⌝ }
     ensures { λ s. ⌜ s ≡ stateOf r k ⌝ }
 {
-    let a = STATES + 1 + 2 * k;
+    let a = STATES + 1 + STATE_WIDTH * k;
     State {
         longest: r[a],
         cost: r[a + 1],
@@ -57,7 +82,7 @@ fn start_in(r: DeviceRow, k: usize) -> StartWindow
     requires { ⌜ k < mostWindows ⌝ }
     ensures { λ w. ⌜ w ≡ startOf r k ⌝ }
 {
-    let a = STARTS + 1 + 3 * k;
+    let a = STARTS + 1 + START_WIDTH * k;
     StartWindow {
         from: r[a],
         until: r[a + 1],
@@ -91,7 +116,7 @@ fn energy_in(r: DeviceRow, k: usize) -> EnergyWindow
     requires { ⌜ k < mostWindows ⌝ }
     ensures { λ w. ⌜ w ≡ energyOf r k ⌝ }
 {
-    let a = ENERGIES + 1 + 4 * k;
+    let a = ENERGIES + 1 + ENERGY_WIDTH * k;
     energy_window(r[a], r[a + 1], r[a + 2], r[a + 3])
 }
 
@@ -109,14 +134,14 @@ fn limits_in(r: DeviceRow) -> [Kw; 8]
     ensures { λ l. ⌜ l ≡ limitsOf r ⌝ }
 {
     [
-        Kw(r[14]),
-        Kw(r[15]),
-        Kw(r[16]),
-        Kw(r[17]),
-        Kw(r[18]),
-        Kw(r[19]),
-        Kw(r[20]),
-        Kw(r[21]),
+        Kw(r[DEVICE_RGU]),
+        Kw(r[DEVICE_RGD]),
+        Kw(r[DEVICE_SCR]),
+        Kw(r[DEVICE_NSC]),
+        Kw(r[DEVICE_RRU_ON]),
+        Kw(r[DEVICE_RRU_OFF]),
+        Kw(r[DEVICE_RRD_ON]),
+        Kw(r[DEVICE_RRD_OFF]),
     ]
 }
 
@@ -136,15 +161,20 @@ fn device_with(
     ensures { λ d. ⌜ d ≡ deviceWith r startcost stopcost limits nstates states nstarts starts nenergies energies ⌝ }
 {
     Device {
-        side: r[0],
-        zonebits: r[1],
-        on0: r[2],
-        power0: Kw(r[3]),
-        minutes0: r[4],
-        minup: r[5],
-        mindown: r[6],
-        ramps: [r[7], r[8], r[9], r[10]],
-        oncost: r[11],
+        side: r[DEVICE_SIDE],
+        zonebits: r[DEVICE_ZONE_BITS],
+        on0: r[DEVICE_ON_0],
+        power0: Kw(r[DEVICE_POWER_0]),
+        minutes0: r[DEVICE_MINUTES_0],
+        minup: r[DEVICE_MIN_UP],
+        mindown: r[DEVICE_MIN_DOWN],
+        ramps: [
+            r[DEVICE_RAMP_UP],
+            r[DEVICE_RAMP_DOWN],
+            r[DEVICE_RAMP_STARTING],
+            r[DEVICE_RAMP_STOPPING],
+        ],
+        oncost: r[DEVICE_ON_COST],
         startcost,
         stopcost,
         limits,
@@ -162,8 +192,8 @@ pub fn device_at(devices: &[DeviceRow], i: usize) -> Device
     ensures { λ r. ⌜ r ≡ deviceOf (getD (now (devices .entry)) i []) ⌝ }
 {
     let r = devices[i];
-    let startcost = money_of(r[12]);
-    let stopcost = money_of(r[13]);
+    let startcost = money_of(r[DEVICE_START_COST]);
+    let stopcost = money_of(r[DEVICE_STOP_COST]);
     let limits = limits_in(r);
     let nstates = counted(r[STATES]);
     let states = states_in(r);
@@ -190,14 +220,14 @@ pub fn side_at(devices: &[DeviceRow], i: usize) -> u32
     requires { ⌜ i < length (now devices) ⌝ }
     ensures { λ r. ⌜ r ≡ sideAt (now (devices .entry)) i ⌝ }
 {
-    devices[i][0]
+    devices[i][DEVICE_SIDE]
 }
 
 pub fn zonebits_at(devices: &[DeviceRow], i: usize) -> u32
     requires { ⌜ i < length (now devices) ⌝ }
     ensures { λ r. ⌜ r ≡ zonebitsAt (now (devices .entry)) i ⌝ }
 {
-    devices[i][1]
+    devices[i][DEVICE_ZONE_BITS]
 }
 
 // Whether it is on before the day, and the minutes already so.
@@ -205,35 +235,35 @@ pub fn on0_at(devices: &[DeviceRow], i: usize) -> u32
     requires { ⌜ i < length (now devices) ⌝ }
     ensures { λ r. ⌜ r ≡ on0At (now (devices .entry)) i ⌝ }
 {
-    devices[i][2]
+    devices[i][DEVICE_ON_0]
 }
 
 pub fn minutes0_at(devices: &[DeviceRow], i: usize) -> u32
     requires { ⌜ i < length (now devices) ⌝ }
     ensures { λ r. ⌜ r ≡ minutes0At (now (devices .entry)) i ⌝ }
 {
-    devices[i][4]
+    devices[i][DEVICE_MINUTES_0]
 }
 
 pub fn oncost_at(devices: &[DeviceRow], i: usize) -> u32
     requires { ⌜ i < length (now devices) ⌝ }
     ensures { λ r. ⌜ r ≡ oncostAt (now (devices .entry)) i ⌝ }
 {
-    devices[i][11]
+    devices[i][DEVICE_ON_COST]
 }
 
 pub fn startcost_at(devices: &[DeviceRow], i: usize) -> Grains
     requires { ⌜ i < length (now devices) ⌝ }
     ensures { λ r. ⌜ r ≡ startcostAt (now (devices .entry)) i ⌝ }
 {
-    money_of(devices[i][12])
+    money_of(devices[i][DEVICE_START_COST])
 }
 
 pub fn stopcost_at(devices: &[DeviceRow], i: usize) -> Grains
     requires { ⌜ i < length (now devices) ⌝ }
     ensures { λ r. ⌜ r ≡ stopcostAt (now (devices .entry)) i ⌝ }
 {
-    money_of(devices[i][13])
+    money_of(devices[i][DEVICE_STOP_COST])
 }
 
 // How many startup states it has, and state k.
@@ -248,7 +278,7 @@ pub fn state_at(devices: &[DeviceRow], i: usize, k: usize) -> State
     requires { ⌜ (i < length (now devices)) × (k < mostStates) ⌝ }
     ensures { λ r. ⌜ r ≡ stateAt (now (devices .entry)) i k ⌝ }
 {
-    let a = STATES + 1 + 2 * k;
+    let a = STATES + 1 + STATE_WIDTH * k;
     State {
         longest: devices[i][a],
         cost: devices[i][a + 1],
@@ -267,7 +297,7 @@ pub fn energy_at(devices: &[DeviceRow], i: usize, k: usize) -> EnergyWindow
     requires { ⌜ (i < length (now devices)) × (k < mostWindows) ⌝ }
     ensures { λ r. ⌜ r ≡ energyAt (now (devices .entry)) i k ⌝ }
 {
-    let a = ENERGIES + 1 + 4 * k;
+    let a = ENERGIES + 1 + ENERGY_WIDTH * k;
     energy_window(
         devices[i][a],
         devices[i][a + 1],

@@ -1,6 +1,6 @@
 // The rows of a decoded case and plan: their widths, and the records that are taken from them and put into them. At rest figures stand in lent slices of
 // rows, device by device, zone by zone; counts are the slices' lengths. In flight they are structs by value. Where each figure stands in its row is said in
-// `Figures`; only the crates of the rows (`zone_rows`, `cell_rows`, `setting_rows`, `device_rows`, `device_store`) read and write by place.
+// `Figures`, and by name below; only the crates of the rows (`zone_rows`, `cell_rows`, `setting_rows`, `device_rows`, `device_store`) read and write by place.
 use energy::KwMin;
 use grains::Grains;
 use kilovars::Kvar;
@@ -11,11 +11,132 @@ use kilowatts::Kw;
 // from −100,000, and the prices of the two reactive reserves.
 pub type CellRow = [u32; 24];
 
+// The places of its figures; of the prices of the eight and of the two reactive reserves.
+pub const CELL_STATUS: usize = 0;
+
+pub const CELL_PMIN: usize = 1;
+
+pub const CELL_PMAX: usize = 2;
+
+pub const CELL_BLOCKS: usize = 3;
+
+pub const CELL_CAP_1: usize = 4;
+
+pub const CELL_CAP_2: usize = 5;
+
+pub const CELL_CAP_3: usize = 6;
+
+pub const CELL_CAP_4: usize = 7;
+
+pub const CELL_PRICE_1: usize = 8;
+
+pub const CELL_PRICE_2: usize = 9;
+
+pub const CELL_PRICE_3: usize = 10;
+
+pub const CELL_PRICE_4: usize = 11;
+
+pub const CELL_RGU: usize = 12;
+
+pub const CELL_RGD: usize = 13;
+
+pub const CELL_SCR: usize = 14;
+
+pub const CELL_NSC: usize = 15;
+
+pub const CELL_RRU_ON: usize = 16;
+
+pub const CELL_RRU_OFF: usize = 17;
+
+pub const CELL_RRD_ON: usize = 18;
+
+pub const CELL_RRD_OFF: usize = 19;
+
+pub const CELL_QMIN: usize = 20;
+
+pub const CELL_QMAX: usize = 21;
+
+pub const CELL_QRU: usize = 22;
+
+pub const CELL_QRD: usize = 23;
+
 // A plan's figures for a device in one interval: on, online power, the eight; q kept from −100,000, its two reserves.
 pub type SettingRow = [u32; 13];
 
+// The places of its figures.
+pub const SETTING_ON: usize = 0;
+
+pub const SETTING_ONLINE: usize = 1;
+
+pub const SETTING_RGU: usize = 2;
+
+pub const SETTING_RGD: usize = 3;
+
+pub const SETTING_SCR: usize = 4;
+
+pub const SETTING_NSC: usize = 5;
+
+pub const SETTING_RRU_ON: usize = 6;
+
+pub const SETTING_RRU_OFF: usize = 7;
+
+pub const SETTING_RRD_ON: usize = 8;
+
+pub const SETTING_RRD_OFF: usize = 9;
+
+pub const SETTING_Q: usize = 10;
+
+pub const SETTING_QRU: usize = 11;
+
+pub const SETTING_QRD: usize = 12;
+
 // A device ahead of its intervals: its head, ramps, costs, limits; then counted states, start windows and energy windows.
 pub type DeviceRow = [u32; 59];
+
+// The places of its figures; of the limits of the eight.
+pub const DEVICE_SIDE: usize = 0;
+
+pub const DEVICE_ZONE_BITS: usize = 1;
+
+pub const DEVICE_ON_0: usize = 2;
+
+pub const DEVICE_POWER_0: usize = 3;
+
+pub const DEVICE_MINUTES_0: usize = 4;
+
+pub const DEVICE_MIN_UP: usize = 5;
+
+pub const DEVICE_MIN_DOWN: usize = 6;
+
+pub const DEVICE_RAMP_UP: usize = 7;
+
+pub const DEVICE_RAMP_DOWN: usize = 8;
+
+pub const DEVICE_RAMP_STARTING: usize = 9;
+
+pub const DEVICE_RAMP_STOPPING: usize = 10;
+
+pub const DEVICE_ON_COST: usize = 11;
+
+pub const DEVICE_START_COST: usize = 12;
+
+pub const DEVICE_STOP_COST: usize = 13;
+
+pub const DEVICE_RGU: usize = 14;
+
+pub const DEVICE_RGD: usize = 15;
+
+pub const DEVICE_SCR: usize = 16;
+
+pub const DEVICE_NSC: usize = 17;
+
+pub const DEVICE_RRU_ON: usize = 18;
+
+pub const DEVICE_RRU_OFF: usize = 19;
+
+pub const DEVICE_RRD_ON: usize = 20;
+
+pub const DEVICE_RRD_OFF: usize = 21;
 
 // Where its lists begin, each with its count.
 pub const STATES: usize = 22;
@@ -24,11 +145,44 @@ pub const STARTS: usize = 29;
 
 pub const ENERGIES: usize = 42;
 
+// How many figures a startup state, a start window and an energy window have there.
+pub const STATE_WIDTH: usize = 2;
+
+pub const START_WIDTH: usize = 3;
+
+pub const ENERGY_WIDTH: usize = 4;
+
 // A zone ahead of its intervals: four shares, six prices.
 pub type ZoneRow = [u32; 10];
 
+// The places of its shares and prices.
+pub const ZONE_RGU: usize = 0;
+
+pub const ZONE_RGD: usize = 1;
+
+pub const ZONE_SCR: usize = 2;
+
+pub const ZONE_NSC: usize = 3;
+
+pub const ZONE_RGU_PRICE: usize = 4;
+
+pub const ZONE_RGD_PRICE: usize = 5;
+
+pub const ZONE_SCR_PRICE: usize = 6;
+
+pub const ZONE_NSC_PRICE: usize = 7;
+
+pub const ZONE_RRU_PRICE: usize = 8;
+
+pub const ZONE_RRD_PRICE: usize = 9;
+
 // A zone's minima in one interval: rru, rrd.
 pub type MinimaRow = [u32; 2];
+
+// The places of its figures.
+pub const MINIMA_RRU: usize = 0;
+
+pub const MINIMA_RRD: usize = 1;
 
 // Rows of zeros, for an owner's tables: what a reader fills.
 pub fn blank_cell() -> CellRow {

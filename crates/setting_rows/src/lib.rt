@@ -11,6 +11,19 @@ use kilovars::SignedKvar;
 use kilowatts::Kw;
 use row_places::Reactive;
 use row_places::Reserves;
+use row_places::SETTING_NSC;
+use row_places::SETTING_ON;
+use row_places::SETTING_ONLINE;
+use row_places::SETTING_Q;
+use row_places::SETTING_QRD;
+use row_places::SETTING_QRU;
+use row_places::SETTING_RGD;
+use row_places::SETTING_RGU;
+use row_places::SETTING_RRD_OFF;
+use row_places::SETTING_RRD_ON;
+use row_places::SETTING_RRU_OFF;
+use row_places::SETTING_RRU_ON;
+use row_places::SETTING_SCR;
 use row_places::Setting;
 use row_places::SettingRow;
 
@@ -20,23 +33,23 @@ pub fn setting_at(settings: &[SettingRow], k: usize) -> Setting
 {
     let r = settings[k];
     let reserves = Reserves {
-        rgu: Kw(r[2]),
-        rgd: Kw(r[3]),
-        scr: Kw(r[4]),
-        nsc: Kw(r[5]),
-        rruon: Kw(r[6]),
-        rruoff: Kw(r[7]),
-        rrdon: Kw(r[8]),
-        rrdoff: Kw(r[9]),
+        rgu: Kw(r[SETTING_RGU]),
+        rgd: Kw(r[SETTING_RGD]),
+        scr: Kw(r[SETTING_SCR]),
+        nsc: Kw(r[SETTING_NSC]),
+        rruon: Kw(r[SETTING_RRU_ON]),
+        rruoff: Kw(r[SETTING_RRU_OFF]),
+        rrdon: Kw(r[SETTING_RRD_ON]),
+        rrdoff: Kw(r[SETTING_RRD_OFF]),
     };
     let reactive = Reactive {
-        q: SignedKvar(r[10]),
-        qru: Kvar(r[11]),
-        qrd: Kvar(r[12]),
+        q: SignedKvar(r[SETTING_Q]),
+        qru: Kvar(r[SETTING_QRU]),
+        qrd: Kvar(r[SETTING_QRD]),
     };
     Setting {
-        on: r[0],
-        online: Kw(r[1]),
+        on: r[SETTING_ON],
+        online: Kw(r[SETTING_ONLINE]),
         reserves,
         reactive,
     }
@@ -46,7 +59,7 @@ pub fn online_at(settings: &[SettingRow], k: usize) -> Kw
     requires { ⌜ k < length (now settings) ⌝ }
     ensures { λ r. ⌜ r .0 ≡ onlineAt (now (settings .entry)) k ⌝ }
 {
-    Kw(settings[k][1])
+    Kw(settings[k][SETTING_ONLINE])
 }
 
 // "u = on (1/0)"
@@ -54,7 +67,7 @@ pub fn on_at(settings: &[SettingRow], k: usize) -> u32
     requires { ⌜ k < length (now settings) ⌝ }
     ensures { λ r. ⌜ r ≡ onAt (now (settings .entry)) k ⌝ }
 {
-    settings[k][0]
+    settings[k][SETTING_ON]
 }
 
 // "before interval 1 the initial state stands", in a device's part of the settings

@@ -5,8 +5,20 @@ ghost use Prim.Native.Nat.{_<_};
 ghost use lib.ListN.{getD, length, set};
 ghost use Rattle.row_places.specs.Figures.{zoneRow, minimaRow, zoneOf, minimaOf};
 use kilowatts::Kw;
+use row_places::MINIMA_RRD;
+use row_places::MINIMA_RRU;
 use row_places::Minima;
 use row_places::MinimaRow;
+use row_places::ZONE_NSC;
+use row_places::ZONE_NSC_PRICE;
+use row_places::ZONE_RGD;
+use row_places::ZONE_RGD_PRICE;
+use row_places::ZONE_RGU;
+use row_places::ZONE_RGU_PRICE;
+use row_places::ZONE_RRD_PRICE;
+use row_places::ZONE_RRU_PRICE;
+use row_places::ZONE_SCR;
+use row_places::ZONE_SCR_PRICE;
 use row_places::Zone;
 use row_places::ZoneRow;
 
@@ -16,11 +28,18 @@ pub fn zone_at(zones: &[ZoneRow], z: usize) -> Zone
 {
     let r = zones[z];
     Zone {
-        rgu: r[0],
-        rgd: r[1],
-        scr: r[2],
-        nsc: r[3],
-        prices: [r[4], r[5], r[6], r[7], r[8], r[9]],
+        rgu: r[ZONE_RGU],
+        rgd: r[ZONE_RGD],
+        scr: r[ZONE_SCR],
+        nsc: r[ZONE_NSC],
+        prices: [
+            r[ZONE_RGU_PRICE],
+            r[ZONE_RGD_PRICE],
+            r[ZONE_SCR_PRICE],
+            r[ZONE_NSC_PRICE],
+            r[ZONE_RRU_PRICE],
+            r[ZONE_RRD_PRICE],
+        ],
     }
 }
 
@@ -30,8 +49,8 @@ pub fn minima_at(minima: &[MinimaRow], k: usize) -> Minima
 {
     let r = minima[k];
     Minima {
-        rru: Kw(r[0]),
-        rrd: Kw(r[1]),
+        rru: Kw(r[MINIMA_RRU]),
+        rrd: Kw(r[MINIMA_RRD]),
     }
 }
 
