@@ -58,9 +58,12 @@ fn note_cell(
     k: usize,
     list: &mut [u8],
 ) -> usize
-    requires { ⌜ Ready front (now halves) (now zones) (now minima) (now devices) (now cells) (now settings) (now starts) (now powers) × (i < length (now devices)) × (a ≡ i * length (now halves)) × (t < length (now halves)) ⌝ }
-    requires { ⌜ k + length (cellBreaches (systemIn (now halves) (now zones) (now minima) (now devices) (now cells)) (planIn (length (now devices)) (length (now halves)) (now settings)) t i) ≤ mostEntries ⌝ }
-    ensures { λ r. ⌜ Notes k (cellBreaches (systemIn (now (halves .entry)) (now (zones .entry)) (now (minima .entry)) (now (devices .entry)) (now (cells .entry))) (planIn (length (now (devices .entry))) (length (now (halves .entry))) (now (settings .entry))) t i) (now (list .entry)) (now (list .exit)) r ⌝ }
+    requires { ⌜ Ready front (now halves) (now zones) (now minima) (now devices) (now cells) (now settings) (now starts) (now powers) × (i < length (now devices)) ×
+        (a ≡ i * length (now halves)) × (t < length (now halves)) ⌝ }
+    requires { ⌜ k + length (cellBreaches (systemIn (now halves) (now zones) (now minima) (now devices) (now cells)) (planIn (length (now devices)) (length (now halves))
+        (now settings)) t i) ≤ mostEntries ⌝ }
+    ensures { λ r. ⌜ Notes k (cellBreaches (systemIn (now (halves .entry)) (now (zones .entry)) (now (minima .entry)) (now (devices .entry)) (now (cells .entry))) (planIn (length
+        (now (devices .entry))) (length (now (halves .entry))) (now (settings .entry))) t i) (now (list .entry)) (now (list .exit)) r ⌝ }
 {
     let word = failing_in(
         front,
@@ -95,8 +98,10 @@ fn note_interval(
     list: &mut [u8],
 ) -> usize
     requires { ⌜ Ready front (now halves) (now zones) (now minima) (now devices) (now cells) (now settings) (now starts) (now powers) × (t < length (now halves)) ⌝ }
-    requires { ⌜ k + length (intervalBreaches (systemIn (now halves) (now zones) (now minima) (now devices) (now cells)) (planIn (length (now devices)) (length (now halves)) (now settings)) t) ≤ mostEntries ⌝ }
-    ensures { λ r. ⌜ Notes k (intervalBreaches (systemIn (now (halves .entry)) (now (zones .entry)) (now (minima .entry)) (now (devices .entry)) (now (cells .entry))) (planIn (length (now (devices .entry))) (length (now (halves .entry))) (now (settings .entry))) t) (now (list .entry)) (now (list .exit)) r ⌝ }
+    requires { ⌜ k + length (intervalBreaches (systemIn (now halves) (now zones) (now minima) (now devices) (now cells)) (planIn (length (now devices)) (length (now halves))
+        (now settings)) t) ≤ mostEntries ⌝ }
+    ensures { λ r. ⌜ Notes k (intervalBreaches (systemIn (now (halves .entry)) (now (zones .entry)) (now (minima .entry)) (now (devices .entry)) (now (cells .entry))) (planIn
+        (length (now (devices .entry))) (length (now (halves .entry))) (now (settings .entry))) t) (now (list .entry)) (now (list .exit)) r ⌝ }
 {
     let mut i = 0;
     let mut a = 0;
@@ -139,8 +144,10 @@ fn note_cells(
     list: &mut [u8],
 ) -> usize
     requires { ⌜ Ready front (now halves) (now zones) (now minima) (now devices) (now cells) (now settings) (now starts) (now powers) ⌝ }
-    requires { ⌜ k + length (dayBreaches (systemIn (now halves) (now zones) (now minima) (now devices) (now cells)) (planIn (length (now devices)) (length (now halves)) (now settings))) ≤ mostEntries ⌝ }
-    ensures { λ r. ⌜ Notes k (dayBreaches (systemIn (now (halves .entry)) (now (zones .entry)) (now (minima .entry)) (now (devices .entry)) (now (cells .entry))) (planIn (length (now (devices .entry))) (length (now (halves .entry))) (now (settings .entry)))) (now (list .entry)) (now (list .exit)) r ⌝ }
+    requires { ⌜ k + length (dayBreaches (systemIn (now halves) (now zones) (now minima) (now devices) (now cells)) (planIn (length (now devices)) (length (now halves))
+        (now settings))) ≤ mostEntries ⌝ }
+    ensures { λ r. ⌜ Notes k (dayBreaches (systemIn (now (halves .entry)) (now (zones .entry)) (now (minima .entry)) (now (devices .entry)) (now (cells .entry))) (planIn (length
+        (now (devices .entry))) (length (now (halves .entry))) (now (settings .entry)))) (now (list .entry)) (now (list .exit)) r ⌝ }
 {
     let mut t = 0;
     let mut n = k;
@@ -207,8 +214,10 @@ fn note_device(
     list: &mut [u8],
 ) -> usize
     requires { ⌜ Ready front (now halves) (now zones) (now minima) (now devices) (now cells) (now settings) (now starts) (now powers) × (i < length (now devices)) × (a ≡ i * length (now halves)) ⌝ }
-    requires { ⌜ k + length (windowBreaches (systemIn (now halves) (now zones) (now minima) (now devices) (now cells)) (planIn (length (now devices)) (length (now halves)) (now settings)) i) ≤ mostEntries ⌝ }
-    ensures { λ r. ⌜ Notes k (windowBreaches (systemIn (now (halves .entry)) (now (zones .entry)) (now (minima .entry)) (now (devices .entry)) (now (cells .entry))) (planIn (length (now (devices .entry))) (length (now (halves .entry))) (now (settings .entry))) i) (now (list .entry)) (now (list .exit)) r ⌝ }
+    requires { ⌜ k + length (windowBreaches (systemIn (now halves) (now zones) (now minima) (now devices) (now cells)) (planIn (length (now devices)) (length (now halves))
+        (now settings)) i) ≤ mostEntries ⌝ }
+    ensures { λ r. ⌜ Notes k (windowBreaches (systemIn (now (halves .entry)) (now (zones .entry)) (now (minima .entry)) (now (devices .entry)) (now (cells .entry))) (planIn
+        (length (now (devices .entry))) (length (now (halves .entry))) (now (settings .entry))) i) (now (list .entry)) (now (list .exit)) r ⌝ }
 {
     let d = device_at(devices, i);
     let e = a + halves.len();
@@ -230,8 +239,10 @@ fn note_devices(
     list: &mut [u8],
 ) -> usize
     requires { ⌜ Ready front (now halves) (now zones) (now minima) (now devices) (now cells) (now settings) (now starts) (now powers) ⌝ }
-    requires { ⌜ k + length (dayWindows (systemIn (now halves) (now zones) (now minima) (now devices) (now cells)) (planIn (length (now devices)) (length (now halves)) (now settings))) ≤ mostEntries ⌝ }
-    ensures { λ r. ⌜ Notes k (dayWindows (systemIn (now (halves .entry)) (now (zones .entry)) (now (minima .entry)) (now (devices .entry)) (now (cells .entry))) (planIn (length (now (devices .entry))) (length (now (halves .entry))) (now (settings .entry)))) (now (list .entry)) (now (list .exit)) r ⌝ }
+    requires { ⌜ k + length (dayWindows (systemIn (now halves) (now zones) (now minima) (now devices) (now cells)) (planIn (length (now devices)) (length (now halves))
+        (now settings))) ≤ mostEntries ⌝ }
+    ensures { λ r. ⌜ Notes k (dayWindows (systemIn (now (halves .entry)) (now (zones .entry)) (now (minima .entry)) (now (devices .entry)) (now (cells .entry))) (planIn (length
+        (now (devices .entry))) (length (now (halves .entry))) (now (settings .entry)))) (now (list .entry)) (now (list .exit)) r ⌝ }
 {
     let mut i = 0;
     let mut a = 0;
@@ -272,7 +283,8 @@ pub fn note_all(
     list: &mut [u8],
 ) -> usize
     requires { ⌜ Ready front (now halves) (now zones) (now minima) (now devices) (now cells) (now settings) (now starts) (now powers) ⌝ }
-    ensures { λ r. ⌜ NotesAll (now (halves .entry)) (now (zones .entry)) (now (minima .entry)) (now (devices .entry)) (now (cells .entry)) (now (settings .entry)) (now (list .entry)) (now (list .exit)) r ⌝ }
+    ensures { λ r. ⌜ NotesAll (now (halves .entry)) (now (zones .entry)) (now (minima .entry)) (now (devices .entry)) (now (cells .entry)) (now (settings .entry)) (now
+        (list .entry)) (now (list .exit)) r ⌝ }
 {
     let n = note_cells(
         front,

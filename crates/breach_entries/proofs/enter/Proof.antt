@@ -39,7 +39,8 @@ same-length : tie.Need-same-length
 same-length c = search needs
 
 returns : tie.Need-returns
-returns c = let a : _ = c .before .before .before .before .before .before .before .before .before .before .args in entered-there (a .k) (a .b) (a .list .now) (omega arith) (c .before .before .put-entry .ensures)
+returns c = let a : _ = c .before .before .before .before .before .before .before .before .before .before .args in entered-there (a .k) (a .b) (a .list .now) (omega arith)
+    (c .before .before .put-entry .ensures)
 
 returns-2 : tie.Need-returns-2
 returns-2 c = entered-not _ _ _ (omega arith)

@@ -18,7 +18,8 @@ same-length : tie.Need-same-length
 same-length c = search needs
 
 returns-2 : tie.Need-returns-2
-returns-2 c = let a : _ = c .before .before .before .before .before .before .args in notes-one {fails = a .fails} (a .b) (not-false (a .fails) (c .before .before .before .before .if1 .left)) (c .before .before .enter .ensures)
+returns-2 c = let a : _ = c .before .before .before .before .before .before .args in notes-one {fails = a .fails} (a .b) (not-false (a .fails)
+    (c .before .before .before .before .if1 .left)) (c .before .before .enter .ensures)
 
 pub note-if-spec : {M : Type 1} → statement M
 note-if-spec = tie.close (tie.spec returns enter-requires add-result same-length returns-2)

@@ -15,13 +15,16 @@ enum-told : tie.Need-enum-told
 enum-told c = search needs
 
 list-settings-requires : tie.Need-list-settings-requires
-list-settings-requires c κs = let reading : _ = c .before .before .before .before .before .before .before in let entry : _ = reading .before .before .before .before .before .before .before in planned-of (entry .pre .0) _ _ _ (reading .read-plan .ensures) (entry .pre .1) (c .before .before .before .before .enum-told .given .1)
+list-settings-requires c κs = let reading : _ = c .before .before .before .before .before .before .before in
+    let entry : _ = reading .before .before .before .before .before .before .before in planned-of (entry .pre .0) _ _ _ (reading .read-plan .ensures) (entry .pre .1)
+    (c .before .before .before .before .enum-told .given .1)
 
 same-length : tie.Need-same-length
 same-length c = search needs
 
 returns : tie.Need-returns
-returns c = list-fails (c .before .before .before .before .before .before .before .before .before .before .before .pre .0) _ _ _ (c .before .before .before .before .read-plan .ensures) _ (c .before .f .given .1)
+returns c = list-fails (c .before .before .before .before .before .before .before .before .before .before .before .pre .0) _ _ _
+    (c .before .before .before .before .read-plan .ensures) _ (c .before .f .given .1)
 
 same-length-2 : tie.Need-same-length-2
 same-length-2 c = search needs
@@ -36,7 +39,9 @@ same-length-5 : tie.Need-same-length-5
 same-length-5 c = search needs
 
 returns-2 : tie.Need-returns-2
-returns-2 c = let told : _ = c .before .before .before .before .before .before .before .before .before .before .before in let reading : _ = told .before .before .before in let entry : _ = reading .before .before .before .before .before .before .before in list-passes (entry .pre .0) _ _ _ (reading .read-plan .ensures) (told .enum-told .given .1) (c .before .before .before .before .before .before .list-settings .ensures)
+returns-2 c = let told : _ = c .before .before .before .before .before .before .before .before .before .before .before in let reading : _ = told .before .before .before in
+    let entry : _ = reading .before .before .before .before .before .before .before in list-passes (entry .pre .0) _ _ _ (reading .read-plan .ensures) (told .enum-told .given .1)
+    (c .before .before .before .before .before .before .list-settings .ensures)
 
 pub breaches-of-plan-spec : {M : Type 1} → statement M
 breaches-of-plan-spec =

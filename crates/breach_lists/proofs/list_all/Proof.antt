@@ -15,7 +15,8 @@ mul-needed : tie.Need-mul-needed
 mul-needed c = omega (arith, c .before .note-all .ensures .few)
 
 returns : tie.Need-returns
-returns c = let a : _ = c .before .before .before .before .before .before .before .before .args in lists-short (a .front) (a .halves .now) (a .zones .now) (a .minima .now) (a .devices .now) (a .cells .now) (a .settings .now) (c .before .before .note-all .ensures) (a .list .now) (omega (arith, c .if1 .taken))
+returns c = let a : _ = c .before .before .before .before .before .before .before .before .args in lists-short (a .front) (a .halves .now) (a .zones .now) (a .minima .now)
+    (a .devices .now) (a .cells .now) (a .settings .now) (c .before .before .note-all .ensures) (a .list .now) (omega (arith, c .if1 .taken))
 
 note-all-requires-2 : tie.Need-note-all-requires-2
 note-all-requires-2 c κs = search needs
@@ -25,7 +26,9 @@ same-length c = search needs
 
 returns-2 : tie.Need-returns-2
 returns-2 c = let early : _ = c .before .before .before .before .before .before .before .before .before .before in let a : _ = early .before .before .args in
-    lists-all (a .front) (a .halves .now) (a .zones .now) (a .minima .now) (a .devices .now) (a .cells .now) (a .settings .now) (c .before .before .before .before .before .before .note-all .ensures) (a .list .now) (λ h. omega (arith, h, c .before .before .before .before .if1 .left)) (c .before .before .note-all2 .ensures)
+    lists-all (a .front) (a .halves .now) (a .zones .now) (a .minima .now) (a .devices .now) (a .cells .now) (a .settings .now)
+    (c .before .before .before .before .before .before .note-all .ensures) (a .list .now) (λ h. omega (arith, h, c .before .before .before .before .if1 .left))
+    (c .before .before .note-all2 .ensures)
 
 pub list-all-spec : {M : Type 1} → statement M
 list-all-spec =

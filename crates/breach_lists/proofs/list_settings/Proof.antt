@@ -9,7 +9,8 @@ force-requires : tie.Need-force-requires
 force-requires c κs = search needs
 
 no-breach-requires : tie.Need-no-breach-requires
-no-breach-requires c κs = let early : _ = c .before .before .before .before .before .before .before .before .before .before in ready-of _ _ _ _ _ _ _ (early .before .before .before .pre) (c .before .before .before .before .before .before .force .ensures)
+no-breach-requires c κs = let early : _ = c .before .before .before .before .before .before .before .before .before .before in ready-of _ _ _ _ _ _ _
+    (early .before .before .before .pre) (c .before .before .before .before .before .before .force .ensures)
 
 same-length : tie.Need-same-length
 same-length c = search needs
@@ -18,10 +19,13 @@ same-length-2 : tie.Need-same-length-2
 same-length-2 c = search needs
 
 returns : tie.Need-returns
-returns c = let early : _ = c .before .before .before .before .before .before .before .before .before .before in let a : _ = early .before .before .before .before .before .args in lists-none (a .front) (a .halves .now) (a .zones .now) (a .minima .now) (a .devices .now) (a .cells .now) (a .settings .now) (a .list .now) (c .before .no-breach .ensures (c .if1 .taken))
+returns c = let early : _ = c .before .before .before .before .before .before .before .before .before .before in
+    let a : _ = early .before .before .before .before .before .args in lists-none (a .front) (a .halves .now) (a .zones .now) (a .minima .now) (a .devices .now) (a .cells .now)
+    (a .settings .now) (a .list .now) (c .before .no-breach .ensures (c .if1 .taken))
 
 list-all-requires : tie.Need-list-all-requires
-list-all-requires c κs = let early : _ = c .before .before .before .before .before .before .before .before .before .before .before in ready-of _ _ _ _ _ _ _ (early .before .before .before .before .before .before .before .pre) (early .force .ensures)
+list-all-requires c κs = let early : _ = c .before .before .before .before .before .before .before .before .before .before .before in ready-of _ _ _ _ _ _ _
+    (early .before .before .before .before .before .before .before .pre) (early .force .ensures)
 
 same-length-3 : tie.Need-same-length-3
 same-length-3 c = search needs

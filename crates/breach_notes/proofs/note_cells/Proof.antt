@@ -24,7 +24,9 @@ loop-holds c = (search needs, search needs, gather-start _ _ _ _)
 note-interval-requires : tie.Need-note-interval-requires Inv-loop μ-loop
 note-interval-requires c κs = let a : _ = c .before .before .before .before .before .before .before .args in (
   (c .before .before .before .before .before .before .before .pre .0, c .before .loop-test .taken),
-  gather-room (intervalBreaches (systemIn (a .halves .now) (a .zones .now) (a .minima .now) (a .devices .now) (a .cells .now)) (planIn (length (a .devices .now)) (length (a .halves .now)) (a .settings .now))) (length (a .halves .now)) (c .before .before .loop .inv .2) (c .before .loop-test .taken) (room-as (a .k) (cells-are (a .halves .now) (a .zones .now) (a .minima .now) (a .devices .now) (a .cells .now) (a .settings .now)) (c .before .before .before .before .before .before .before .pre .1)),
+  gather-room (intervalBreaches (systemIn (a .halves .now) (a .zones .now) (a .minima .now) (a .devices .now) (a .cells .now)) (planIn (length (a .devices .now)) (length
+      (a .halves .now)) (a .settings .now))) (length (a .halves .now)) (c .before .before .loop .inv .2) (c .before .loop-test .taken) (room-as (a .k) (cells-are (a .halves .now)
+      (a .zones .now) (a .minima .now) (a .devices .now) (a .cells .now) (a .settings .now)) (c .before .before .before .before .before .before .before .pre .1)),
 )
 
 add-t : tie.Need-add-t Inv-loop μ-loop
@@ -37,14 +39,18 @@ loop-again : tie.Need-loop-again Inv-loop μ-loop
 loop-again c = let a : _ = c .before .before .before .before .before .before .before .before .before .before .args in (
   search needs,
   search needs,
-  gather-more (intervalBreaches (systemIn (a .halves .now) (a .zones .now) (a .minima .now) (a .devices .now) (a .cells .now)) (planIn (length (a .devices .now)) (length (a .halves .now)) (a .settings .now))) (length (a .halves .now)) (c .before .before .before .before .before .loop .inv .2) (c .before .before .before .before .loop-test .taken) (c .before .before .note-interval .ensures),
+  gather-more (intervalBreaches (systemIn (a .halves .now) (a .zones .now) (a .minima .now) (a .devices .now) (a .cells .now)) (planIn (length (a .devices .now)) (length
+      (a .halves .now)) (a .settings .now))) (length (a .halves .now)) (c .before .before .before .before .before .loop .inv .2)
+      (c .before .before .before .before .loop-test .taken) (c .before .before .note-interval .ensures),
 )
 
 same-length : tie.Need-same-length Inv-loop μ-loop
 same-length c = search needs
 
 returns : tie.Need-returns Inv-loop μ-loop
-returns c = let a : _ = c .before .before .before .before .before .before .args in notes-as (sym (cells-are (a .halves .now) (a .zones .now) (a .minima .now) (a .devices .now) (a .cells .now) (a .settings .now))) (gather-done (intervalBreaches (systemIn (a .halves .now) (a .zones .now) (a .minima .now) (a .devices .now) (a .cells .now)) (planIn (length (a .devices .now)) (length (a .halves .now)) (a .settings .now))) (length (a .halves .now)) (c .before .loop .inv .2) (omega (arith, c .loop-test .left)))
+returns c = let a : _ = c .before .before .before .before .before .before .args in notes-as (sym (cells-are (a .halves .now) (a .zones .now) (a .minima .now) (a .devices .now)
+    (a .cells .now) (a .settings .now))) (gather-done (intervalBreaches (systemIn (a .halves .now) (a .zones .now) (a .minima .now) (a .devices .now) (a .cells .now)) (planIn
+    (length (a .devices .now)) (length (a .halves .now)) (a .settings .now))) (length (a .halves .now)) (c .before .loop .inv .2) (omega (arith, c .loop-test .left)))
 
 pub note-cells-spec : {M : Type 1} → statement M
 note-cells-spec =

@@ -16,7 +16,11 @@ add-e : tie.Need-add-e
 add-e c = let a : _ = c .before .before .before .before .before .args in let s : _ = c .before .before .before .before .before .pre .0 in omega (arith, place (s .0) (a .i) (a .a) (s .1) (s .2))
 
 mul-note-windows : tie.Need-mul-note-windows
-mul-note-windows c = let a : _ = c .before .before .before .before .before .args in let s : _ = c .before .before .before .before .before .pre .0 in omega (arith, place (s .0) (a .i) (a .a) (s .1) (s .2))
+mul-note-windows c = let a : _ = c .before .before .before .before .before .args in let s : _ = c .before .before .before .before .before .pre .0 in omega (
+  arith,
+  place (s .0)
+      (a .i) (a .a) (s .1) (s .2),
+)
 
 sub-note-windows : tie.Need-sub-note-windows
 sub-note-windows c = search needs
@@ -25,19 +29,32 @@ part-note-windows-start : tie.Need-part-note-windows-start
 part-note-windows-start c = search needs
 
 part-note-windows-end : tie.Need-part-note-windows-end
-part-note-windows-end c = let a : _ = c .before .before .before .before .before .args in let s : _ = c .before .before .before .before .before .pre .0 in omega (arith, place (s .0) (a .i) (a .a) (s .1) (s .2))
+part-note-windows-end c = let a : _ = c .before .before .before .before .before .args in let s : _ = c .before .before .before .before .before .pre .0 in omega (
+  arith,
+  place
+      (s .0) (a .i) (a .a) (s .1) (s .2),
+)
 
 note-windows-requires : tie.Need-note-windows-requires
-note-windows-requires c κs = let a : _ = c .before .before .before .before .before .before .before .args in let s : _ = c .before .before .before .before .before .before .before .pre .0 in let r : _ = s .0 in let n : _ = own-long r (a .i) (a .a) (s .1) (s .2) in (
-  (few-windows r (a .i) (a .a) (s .1) (s .2) (c .before .before .device-at .ensures), omega (arith, r .case-rows .few-devices), omega (arith, n, r .case-rows .few-intervals), omega (arith, n, r .forced-rows .starts-full)),
-  room-as (a .k) (sym (windows-are r (a .i) (a .a) (s .1) (s .2) (c .before .before .device-at .ensures))) (c .before .before .before .before .before .before .before .pre .1),
-)
+note-windows-requires c κs = let a : _ = c .before .before .before .before .before .before .before .args in
+    let s : _ = c .before .before .before .before .before .before .before .pre .0 in let r : _ = s .0 in let n : _ = own-long r (a .i) (a .a) (s .1) (s .2) in (
+      (
+        few-windows r (a .i) (a .a) (s .1) (s .2) (c .before .before .device-at .ensures),
+        omega (arith, r .case-rows .few-devices),
+        omega
+            (arith, n, r .case-rows .few-intervals),
+        omega (arith, n, r .forced-rows .starts-full),
+      ),
+      room-as (a .k) (sym (windows-are r (a .i) (a .a) (s .1) (s .2) (c .before .before .device-at .ensures))) (c .before .before .before .before .before .before .before .pre .1),
+    )
 
 same-length : tie.Need-same-length
 same-length c = search needs
 
 returns : tie.Need-returns
-returns c = let a : _ = c .before .before .before .before .before .before .before .before .before .before .args in let s : _ = c .before .before .before .before .before .before .before .before .before .before .pre .0 in notes-as (windows-are (s .0) (a .i) (a .a) (s .1) (s .2) (c .before .before .before .before .before .device-at .ensures)) (c .before .before .note-windows .ensures)
+returns c = let a : _ = c .before .before .before .before .before .before .before .before .before .before .args in
+    let s : _ = c .before .before .before .before .before .before .before .before .before .before .pre .0 in notes-as (windows-are (s .0) (a .i) (a .a) (s .1) (s .2)
+    (c .before .before .before .before .before .device-at .ensures)) (c .before .before .note-windows .ensures)
 
 pub note-device-spec : {M : Type 1} → statement M
 note-device-spec =

@@ -37,10 +37,14 @@ window-breach-requires c κs = search needs
 
 note-if-requires : tie.Need-note-if-requires Inv-loop μ-loop
 unfolding windowsHere
-note-if-requires c κs = let a : _ = c .before .before .before .before .before .before .before .before .before .args in let l : _ = c .before .before .before .before .before .loop in let k : _ = c .before .before .before .before .loop-test .taken in let here : _ = windowHere (a .t1) (a .settings .now) (a .starts .now) (a .i) in (
-  window-bytes (c .before .before .before .before .before .before .before .before .before .pre .0 .1) (omega (arith, k, c .before .before .before .before .before .before .before .before .before .pre .0 .0)) (c .before .window-breach .ensures),
-  window-room here (l .inv .2) k (window-noted (a .t1) (a .settings .now) (a .starts .now) (a .i) (l .w) (c .before .before .window-kept .ensures) (c .before .window-breach .ensures)) (c .before .before .before .before .before .before .before .before .before .pre .1),
-)
+note-if-requires c κs = let a : _ = c .before .before .before .before .before .before .before .before .before .args in
+    let l : _ = c .before .before .before .before .before .loop in let k : _ = c .before .before .before .before .loop-test .taken in let here : _ = windowHere (a .t1)
+    (a .settings .now) (a .starts .now) (a .i) in (
+      window-bytes (c .before .before .before .before .before .before .before .before .before .pre .0 .1) (omega
+          (arith, k, c .before .before .before .before .before .before .before .before .before .pre .0 .0)) (c .before .window-breach .ensures),
+      window-room here (l .inv .2) k (window-noted (a .t1) (a .settings .now) (a .starts .now) (a .i) (l .w) (c .before .before .window-kept .ensures)
+          (c .before .window-breach .ensures)) (c .before .before .before .before .before .before .before .before .before .pre .1),
+    )
 
 add-w : tie.Need-add-w Inv-loop μ-loop
 add-w c = search needs
@@ -49,19 +53,22 @@ loop-less : tie.Need-loop-less Inv-loop μ-loop
 loop-less c = search needs
 
 loop-again : tie.Need-loop-again Inv-loop μ-loop
-loop-again c = let a : _ = c .before .before .before .before .before .before .before .before .before .before .before .before .args in let l : _ = c .before .before .before .before .before .before .before .before .loop in let here : _ = windowHere (a .t1) (a .settings .now) (a .starts .now) (a .i) in (
-  search needs,
-  search needs,
-  window-more here (l .inv .2) (c .before .before .before .before .before .before .before .loop-test .taken)
-      (window-noted (a .t1) (a .settings .now) (a .starts .now) (a .i) (l .w) (c .before .before .before .before .before .window-kept .ensures) (c .before .before .before .before .window-breach .ensures)) (c .before .before .note-if .ensures),
-)
+loop-again c = let a : _ = c .before .before .before .before .before .before .before .before .before .before .before .before .args in
+    let l : _ = c .before .before .before .before .before .before .before .before .loop in let here : _ = windowHere (a .t1) (a .settings .now) (a .starts .now) (a .i) in (
+      search needs,
+      search needs,
+      window-more here (l .inv .2) (c .before .before .before .before .before .before .before .loop-test .taken)
+          (window-noted (a .t1) (a .settings .now) (a .starts .now) (a .i) (l .w) (c .before .before .before .before .before .window-kept .ensures)
+          (c .before .before .before .before .window-breach .ensures)) (c .before .before .note-if .ensures),
+    )
 
 same-length : tie.Need-same-length Inv-loop μ-loop
 same-length c = search needs
 
 returns : tie.Need-returns Inv-loop μ-loop
 unfolding windowsHere
-returns c = let a : _ = c .before .before .before .before .before .args in gather-done (windowHere (a .t1) (a .settings .now) (a .starts .now) (a .i)) _ (c .before .loop .inv .2) (omega (arith, c .loop-test .left))
+returns c = let a : _ = c .before .before .before .before .before .args in gather-done (windowHere (a .t1) (a .settings .now) (a .starts .now) (a .i)) _ (c .before .loop .inv .2)
+    (omega (arith, c .loop-test .left))
 
 pub note-windows-spec : {M : Type 1} → statement M
 note-windows-spec =

@@ -36,7 +36,8 @@ loop-again : tie.Need-loop-again Inv-loop μ-loop
 loop-again c = let a : _ = c .before .before .before .before .before .before .before .before .args in let l : _ = c .before .before .before .before .before .before .loop in (
   search needs,
   search needs,
-  word-next (a .t) (a .i) (a .word) (a .k) (a .list .now) (l .inv .2) (c .before .before .before .before .before .loop-test .taken) refl (c .before .before .before .before .cell-breach .ensures) (c .before .before .note-if .ensures),
+  word-next (a .t) (a .i) (a .word) (a .k) (a .list .now) (l .inv .2) (c .before .before .before .before .before .loop-test .taken) refl
+      (c .before .before .before .before .cell-breach .ensures) (c .before .before .note-if .ensures),
 )
 
 same-length : tie.Need-same-length Inv-loop μ-loop

@@ -93,18 +93,24 @@ returns c = let earlier : _ = c .before .before .before .before .before .before 
     omega (arith, c .before .before .before .before .before .before .before .before .before .before .before .next .ensures .0, turn .loop .inv .0)
 
 print-breaches-requires : tie.Need-print-breaches-requires Inv-loop μ-loop
-print-breaches-requires c κs = let told : _ = c .before .before .before .before .before .before .before .before .before .before in let answered : _ = told .before .before .before .before .before in let turn : _ = answered .before .before .before .before .before .before .before in
+print-breaches-requires c κs = let told : _ = c .before .before .before .before .before .before .before .before .before .before in
+    let answered : _ = told .before .before .before .before .before in let turn : _ = answered .before .before .before .before .before .before .before in
     let k : _ = answered .next .kept .1 .1 .1 .1 .1 .1 in (turn .before .before .before .before .before .before .before .pre .0 .0, work-kept (turn .loop .inv .3) (k .0) (k .1 .0) (k .1 .1 .0))
 
 add-index : tie.Need-add-index Inv-loop μ-loop
-add-index c = let told : _ = c .before .before .before .before .before .before .before .before .before .before in let answered : _ = told .before .before .before .before .before .before .before .before .before .before .before in let turn : _ = answered .before .before .before .before .before .before .before in
+add-index c = let told : _ = c .before .before .before .before .before .before .before .before .before .before in
+    let answered : _ = told .before .before .before .before .before .before .before .before .before .before .before in
+    let turn : _ = answered .before .before .before .before .before .before .before in
     omega (arith, turn .loop .inv .0 .0, turn .loop .inv .0 .1, answered .before .before .before .before .before .before .loop-test .taken)
 
 loop-less : tie.Need-loop-less Inv-loop μ-loop
-loop-less c = let told : _ = c .before .before .before .before .before .before .before .before .before .before in omega (arith, told .before .before .before .before .before .before .before .before .before .before .before .next .ensures .1 (not-false _ (told .if2 .left)))
+loop-less c = let told : _ = c .before .before .before .before .before .before .before .before .before .before in omega
+    (arith, told .before .before .before .before .before .before .before .before .before .before .before .next .ensures .1 (not-false _ (told .if2 .left)))
 
 loop-again : tie.Need-loop-again Inv-loop μ-loop
-loop-again c = let told : _ = c .before .before .before .before .before .before .before .before .before .before in let answered : _ = told .before .before .before .before .before .before .before .before .before .before .before in let turn : _ = answered .before .before .before .before .before .before .before in
+loop-again c = let told : _ = c .before .before .before .before .before .before .before .before .before .before in
+    let answered : _ = told .before .before .before .before .before .before .before .before .before .before .before in
+    let turn : _ = answered .before .before .before .before .before .before .before in
     let k : _ = answered .next .kept .1 .1 .1 .1 .1 .1 in let l : _ = c .before .before .before .before .before .print-breaches .kept .1 .1 .1 .1 .1 .1 .1 in (
       (
         omega (arith, answered .next .ensures .1 (not-false _ (told .if2 .left)), turn .loop .inv .0),
