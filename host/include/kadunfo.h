@@ -1,4 +1,5 @@
-/* The plan unit for hosts in C. A slice is a pointer and then a length; no two slices of a call overlap. */
+/* The plan unit for hosts in C. A slice is a pointer and then a length; no two slices of a call overlap.
+   Cases of editions 1 and 2 are judged, with plans of their own edition; a completion has its case's. */
 #ifndef KADUNFO_H
 #define KADUNFO_H
 
@@ -15,11 +16,16 @@ enum kadunfo_word {
     KADUNFO_FIGURES_SHORT = 5   /* figures has fewer than four places; nothing was done */
 };
 
-/* Bytes that hold every list of breaches: four for each of 19 rules of 16 devices in 48 intervals, and of 4 windows
+/* Bytes that hold every list of breaches: four for each of 25 rules of 16 devices in 48 intervals, and of 4 windows
    of each device. */
-#define KADUNFO_LONGEST_LIST 58624 /* 4 * (16 * 48 * 19 + 16 * 4) */
+#define KADUNFO_LONGEST_LIST 77056 /* 4 * (16 * 48 * 25 + 16 * 4) */
 
-/* Judges one plan against one case. Only acceptance writes to result: the completion's bytes, the rest stays. */
+/* Bytes that hold every completion: that of edition 2 with 16 devices, 48 intervals, 4 zones and 4 energy windows
+   of each device. */
+#define KADUNFO_LONGEST_COMPLETION 13887
+
+/* Judges one plan against one case. Only acceptance writes to result: the completion's bytes, the rest
+   stays. A completion never needs more than KADUNFO_LONGEST_COMPLETION bytes. */
 uint64_t kadunfo_judge(const uint8_t *kase, size_t case_length,
                        const uint8_t *plan, size_t plan_length,
                        uint8_t *result, size_t result_length,

@@ -11,6 +11,9 @@ pub enum Relation {
 pub enum Unit {
     State,
     Kilowatts,
+    Kilovars,
+    /// Thousandths of a kvar.
+    Vars,
     Minutes,
     Starts,
 }
@@ -21,6 +24,8 @@ impl Unit {
             Unit::State if figure == 1 => "on".to_string(),
             Unit::State => "off".to_string(),
             Unit::Kilowatts => format!("{figure} kW"),
+            Unit::Kilovars => format!("{figure} kvar"),
+            Unit::Vars => format!("{figure} var"),
             Unit::Minutes => format!("{figure} min"),
             Unit::Starts if figure == 1 => "1 start".to_string(),
             Unit::Starts => format!("{figure} starts"),
@@ -52,6 +57,11 @@ impl Figure {
             }
         }
         Figure::new(terms.iter().map(|(_, value)| value).sum(), origin)
+    }
+
+    /// The same in a unit of which so many make one.
+    pub fn in_units(self, of_one: i64) -> Figure {
+        Figure::new(of_one * self.value, self.origin)
     }
 }
 

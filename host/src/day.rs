@@ -96,31 +96,46 @@ impl<'a> Point<'a> {
         !self.on() && self.was_on()
     }
 
-    /// psu: what each later start leaves of its pmin here, where above 0.
-    pub fn startup_power(self) -> i64 {
-        self.later()
-            .filter(|start| start.starts())
-            .map(|start| {
-                let lead = start.time().end - self.time().end;
-                start.cell().pmin - self.device().starting_ramp * lead
-            })
-            .filter(|&power| power > 0)
-            .sum()
+    /// What each later start leaves of its pmin here, where above 0.
+    fn startup_terms(self) -> impl Iterator<Item = i64> + 'a {
+        let starts = self.later().filter(|start| start.starts());
+        let left = starts.map(move |start| {
+            let lead = start.time().end - self.time().end;
+            start.cell().pmin - self.device().starting_ramp * lead
+        });
+        left.filter(|&power| power > 0)
     }
 
-    /// psd: what each stop so far leaves here of pmin in the interval before it, where above 0.
+    /// What each stop so far leaves here of pmin in the interval before it, where above 0.
+    fn shutdown_terms(self) -> impl Iterator<Item = i64> + 'a {
+        let stops = self.earlier().chain([self]).filter(|stop| stop.stops());
+        let left = stops.map(move |stop| {
+            let from = stop
+                .before()
+                .map_or(self.device().initial_power, |before| before.cell().pmin);
+            from - self.device().stopping_ramp * (self.time().end - stop.time().start)
+        });
+        left.filter(|&power| power > 0)
+    }
+
+    /// psu.
+    pub fn startup_power(self) -> i64 {
+        self.startup_terms().sum()
+    }
+
+    /// psd.
     pub fn shutdown_power(self) -> i64 {
-        self.earlier()
-            .chain([self])
-            .filter(|stop| stop.stops())
-            .map(|stop| {
-                let from = stop
-                    .before()
-                    .map_or(self.device().initial_power, |before| before.cell().pmin);
-                from - self.device().stopping_ramp * (self.time().end - stop.time().start)
-            })
-            .filter(|&power| power > 0)
-            .sum()
+        self.shutdown_terms().sum()
+    }
+
+    /// u, later starts with power here and stops so far with power here: together n, how often
+    /// reactive limits and offsets count.
+    pub fn counted(self) -> [i64; 3] {
+        [
+            i64::from(self.on()),
+            self.startup_terms().map(|_| 1).sum(),
+            self.shutdown_terms().map(|_| 1).sum(),
+        ]
     }
 
     /// p.

@@ -1,28 +1,58 @@
 //! A case in words.
 
-use crate::message::{Case, Device, Interval};
+use crate::message::{Case, Device, Interval, Line, Link, Zone};
 
 /// The lines of a case, each with its end: the batch program's words and counts, the day, each
-/// device.
+/// zone's reactive needs where the edition has them, each device.
 pub fn describe(case: &Case) -> String {
     let (devices, intervals) = (case.devices.len(), case.intervals.len());
+    let zones = case.zones.len();
+    let mismatched = if case.has_reactive_power() {
+        "kW min and kvar min"
+    } else {
+        "kW min"
+    };
     let minutes = case.intervals.last().map_or(0, |last| last.end);
     let mut lines = vec![
-        format!("case {devices} {intervals} {}", case.zones),
+        format!("case {devices} {intervals} {zones}"),
         format!("edition {}", case.edition),
         format!("devices {devices}"),
         format!(
             "intervals {intervals}: {}; {minutes} min in all",
             durations(&case.intervals)
         ),
-        format!("zones {}", case.zones),
-        format!("mismatch price {} grains per kW min", case.mismatch_price),
+        format!("zones {zones}"),
+        format!(
+            "mismatch price {} grains per {mismatched}",
+            case.mismatch_price
+        ),
         format!("overrun price {} grains per kW min", case.overrun_price),
     ];
+    if case.has_reactive_power() {
+        for (number, zone) in (1..).zip(&case.zones) {
+            lines.push(format!("zone {number}: {}", zone_words(zone)));
+        }
+    }
     for (number, device) in (1..).zip(&case.devices) {
-        lines.push(format!("device {number}: {}", device_words(device)));
+        let mut words = device_words(device);
+        if case.has_reactive_power() {
+            words.extend([reactive_words(device), link_words(&device.link)]);
+        }
+        lines.push(format!("device {number}: {}", words.join("; ")));
     }
     lines.join("\n") + "\n"
+}
+
+/// The greatest minima of the day, and what a shortfall costs.
+fn zone_words(zone: &Zone) -> String {
+    let greatest = |kind: usize| zone.minima.iter().map(|minima| minima[kind]).max();
+    let [qru_price, qrd_price] = zone.prices;
+    format!(
+        "minima to {} kvar of qru, {} kvar of qrd; shortfall prices {qru_price} grains per var min \
+         of qru, {qrd_price} of qrd",
+        greatest(0).unwrap_or(0),
+        greatest(1).unwrap_or(0)
+    )
 }
 
 /// Durations that follow one another alike are told once: `2 x 60 min, 1 x 30 min`.
@@ -35,13 +65,13 @@ fn durations(intervals: &[Interval]) -> String {
     told.join(", ")
 }
 
-fn device_words(device: &Device) -> String {
+fn device_words(device: &Device) -> Vec<String> {
     let side = if device.consuming {
         "consuming"
     } else {
         "producing"
     };
-    let parts = [
+    vec![
         side.to_string(),
         zones_words(device),
         initial_words(device),
@@ -64,8 +94,7 @@ fn device_words(device: &Device) -> String {
             device.start_windows.len(),
             device.energy_windows
         ),
-    ];
-    parts.join("; ")
+    ]
 }
 
 fn zones_words(device: &Device) -> String {
@@ -95,4 +124,34 @@ fn power_words(device: &Device) -> String {
         lowest.unwrap_or(0),
         highest.unwrap_or(0)
     )
+}
+
+/// From the least qmin to the greatest qmax of the day.
+fn reactive_words(device: &Device) -> String {
+    let lowest = device.cells.iter().map(|cell| cell.qmin).min();
+    let highest = device.cells.iter().map(|cell| cell.qmax).max();
+    format!(
+        "qmin from {} kvar, qmax to {} kvar",
+        lowest.unwrap_or(0),
+        highest.unwrap_or(0)
+    )
+}
+
+fn link_words(link: &Link) -> String {
+    match link {
+        Link::None => "no link".to_string(),
+        Link::TwoLines { upper, lower } => format!(
+            "linked by two lines, upper {}, lower {}",
+            line_words(upper),
+            line_words(lower)
+        ),
+        Link::Equality(line) => format!("linked by an equality, {}", line_words(line)),
+    }
+}
+
+/// A slope in thousandths of a kvar per kW is one in var per kW.
+fn line_words(line: &Line) -> String {
+    let sign = if line.slope < 0 { '-' } else { '+' };
+    let slope = line.slope.abs();
+    format!("{} kvar {sign} {slope} var per kW", line.offset)
 }

@@ -5,6 +5,7 @@ use std::fmt;
 use crate::comparison::{Comparison, Figure, Relation, Unit};
 use crate::day::{Day, Point};
 use crate::message::Reserve::{self, *};
+use crate::reactive;
 
 /// A broken rule and its place, as a list holds it: each number from 1, or 0 where there is none.
 #[derive(Clone, Copy, PartialEq, Eq, Debug)]
@@ -53,7 +54,7 @@ impl fmt::Display for Breach {
 }
 
 /// What each rule is about, from rule 1.
-const RULES: [&str; 20] = [
+const RULES: [&str; 26] = [
     "fixed status",
     "initial state",
     "minimum down time",
@@ -74,6 +75,12 @@ const RULES: [&str; 20] = [
     "highest offline power",
     "block caps",
     "starts in a window",
+    "highest reactive power",
+    "lowest reactive power",
+    "upper line of the link",
+    "lower line of the link",
+    "equality of the link",
+    "reserves beside an equality",
 ];
 
 /// One line of a breach: its four numbers, then the rule, the place and both sides in words.
@@ -93,7 +100,7 @@ fn compare(day: &Day, breach: Breach) -> Option<Comparison> {
     let at = |number: u8| usize::from(number);
     match breach.rule {
         20 if breach.interval == 0 => starts_in_window(day, at(breach.device), at(breach.window)),
-        1..=19 if breach.window == 0 => compare_at(
+        1..=19 | 21..=26 if breach.window == 0 => compare_at(
             day.point(at(breach.interval), at(breach.device))?,
             breach.rule,
         ),
@@ -115,6 +122,7 @@ fn compare_at(point: Point, rule: u8) -> Option<Comparison> {
         17 => Some(lowest_online(point)),
         18 => Some(highest_offline(point)),
         19 => Some(block_caps(point)),
+        21..=26 => reactive::compare(point, rule),
         _ => None,
     }
 }

@@ -6,6 +6,7 @@ pub mod day;
 pub mod describe;
 pub mod explain;
 pub mod message;
+mod reactive;
 
 extern "C" {
     fn kadunfo_judge(
@@ -50,9 +51,13 @@ pub mod word {
     pub const FIGURES_SHORT: u64 = 5;
 }
 
-/// Bytes that hold every list of breaches: four for each of 19 rules of 16 devices in 48 intervals,
+/// Bytes that hold every list of breaches: four for each of 25 rules of 16 devices in 48 intervals,
 /// and of 4 windows of each device.
-pub const LONGEST_LIST: usize = 4 * (16 * 48 * 19 + 16 * 4);
+pub const LONGEST_LIST: usize = 4 * (16 * 48 * 25 + 16 * 4);
+
+/// Bytes that hold every completion: that of edition 2 with 16 devices, 48 intervals, 4 zones and 4
+/// energy windows of each device.
+pub const LONGEST_COMPLETION: usize = 13_887;
 
 /// A word and four numbers, as the header lists them.
 #[derive(Clone, Copy, PartialEq, Eq, Debug)]

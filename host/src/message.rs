@@ -7,7 +7,9 @@
 const CASE: i64 = 1;
 const PLAN: i64 = 2;
 /// The newest edition whose fields stand here.
-const NEWEST_EDITION: i64 = 1;
+const NEWEST_EDITION: i64 = 2;
+/// The edition that brought reactive power.
+const REACTIVE: i64 = 2;
 
 const COUNT: usize = 3;
 const POWER: usize = 17;
@@ -16,20 +18,40 @@ const STARTUP_STATE: usize = MINUTES + 31;
 const ENERGY_WINDOW: usize = 1 + 2 * MINUTES + 32;
 const BLOCK_PRICE: usize = 15;
 const RESERVE_PRICES: usize = 8 * 14;
-/// A zone's shares and shortfall prices.
+const REACTIVE_PRICES: usize = 2 * 14;
+/// A zone's shares and shortfall prices of real power.
 const ZONE_TERMS: usize = 4 * 10 + 6 * 7;
 /// A zone's ramping minima in one interval.
 const ZONE_MINIMA: usize = 2 * 23;
 
-/// A day to be planned. Power kW, time minutes, money grains.
+/// A day to be planned. Power kW, reactive power kvar, time minutes, money grains.
+///
+/// What an edition's messages lack is neutral: reactive figures 0, prices of a reactive shortfall 1,
+/// no link.
 #[derive(Clone, PartialEq, Eq, Debug)]
 pub struct Case {
     pub edition: i64,
-    pub zones: usize,
+    pub zones: Vec<Zone>,
     pub mismatch_price: i64,
     pub overrun_price: i64,
     pub intervals: Vec<Interval>,
     pub devices: Vec<Device>,
+}
+
+impl Case {
+    /// Whether the messages of its edition have reactive figures.
+    pub fn has_reactive_power(&self) -> bool {
+        self.edition >= REACTIVE
+    }
+}
+
+/// What the case says of a zone's reactive reserves, qru before qrd.
+#[derive(Clone, PartialEq, Eq, Debug)]
+pub struct Zone {
+    /// Of a shortfall, per var min.
+    pub prices: [i64; 2],
+    /// Per interval.
+    pub minima: Vec<[i64; 2]>,
 }
 
 /// S and E of an interval.
@@ -85,8 +107,24 @@ pub struct Device {
     pub startup_states: usize,
     pub start_windows: Vec<StartWindow>,
     pub energy_windows: usize,
+    pub link: Link,
     /// Per interval.
     pub cells: Vec<Cell>,
+}
+
+/// What holds a device's reactive power to its power.
+#[derive(Clone, Copy, PartialEq, Eq, Debug)]
+pub enum Link {
+    None,
+    TwoLines { upper: Line, lower: Line },
+    Equality(Line),
+}
+
+/// An offset in kvar and a slope in thousandths.
+#[derive(Clone, Copy, PartialEq, Eq, Debug)]
+pub struct Line {
+    pub offset: i64,
+    pub slope: i64,
 }
 
 #[derive(Clone, Copy, PartialEq, Eq, Debug)]
@@ -104,6 +142,8 @@ pub struct Cell {
     pub pmin: i64,
     pub pmax: i64,
     pub block_caps: Vec<i64>,
+    pub qmin: i64,
+    pub qmax: i64,
 }
 
 /// What a plan sets: by interval, then device.
@@ -117,6 +157,15 @@ pub struct Setting {
     pub on: bool,
     pub online: i64,
     pub reserves: Eight,
+    pub reactive: Reactive,
+}
+
+/// q and the two reactive reserves.
+#[derive(Clone, Copy, PartialEq, Eq, Debug, Default)]
+pub struct Reactive {
+    pub q: i64,
+    pub qru: i64,
+    pub qrd: i64,
 }
 
 /// A place in a message that advances by one field.
@@ -149,6 +198,26 @@ impl<'a> Fields<'a> {
         }
         self.place += width;
         Some(value)
+    }
+
+    /// The next field in two's complement.
+    fn signed(&mut self, width: usize) -> Option<i64> {
+        let value = self.take(width)?;
+        let is_negative = value >> (width - 1) == 1;
+        Some(value - (i64::from(is_negative) << width))
+    }
+
+    /// A reactive power of either sign.
+    fn kvar(&mut self) -> Option<i64> {
+        self.signed(18)
+    }
+
+    /// What came with reactive power; neutral in the messages of an older edition.
+    fn reactive<T>(&mut self, neutral: T, read: impl FnOnce(&mut Self) -> Option<T>) -> Option<T> {
+        if self.edition < REACTIVE {
+            return Some(neutral);
+        }
+        read(self)
     }
 
     fn flag(&mut self) -> Option<bool> {
@@ -202,10 +271,9 @@ pub fn read_case(message: &[u8]) -> Option<Case> {
     let mismatch_price = fields.take(14)?;
     let overrun_price = fields.take(14)?;
     let times = read_intervals(&mut fields, intervals)?;
-    fields.pass(zones * (ZONE_TERMS + intervals * ZONE_MINIMA));
     let case = Case {
         edition: fields.edition,
-        zones,
+        zones: fields.list(zones, |fields| read_zone(fields, intervals))?,
         mismatch_price,
         overrun_price,
         intervals: times,
@@ -222,6 +290,17 @@ fn read_intervals(fields: &mut Fields, count: usize) -> Option<Vec<Interval>> {
         let start = end;
         end += 2 * fields.take(8)?;
         Some(Interval { start, end })
+    })
+}
+
+fn read_zone(fields: &mut Fields, intervals: usize) -> Option<Zone> {
+    fields.pass(ZONE_TERMS);
+    Some(Zone {
+        prices: fields.reactive([1; 2], |fields| Some([fields.take(7)?, fields.take(7)?]))?,
+        minima: fields.list(intervals, |fields| {
+            fields.pass(ZONE_MINIMA);
+            fields.reactive([0; 2], |fields| Some([fields.take(23)?, fields.take(23)?]))
+        })?,
     })
 }
 
@@ -245,6 +324,7 @@ fn read_device(fields: &mut Fields, intervals: usize) -> Option<Device> {
         startup_states: fields.pass_counted(STARTUP_STATE)?,
         start_windows: read_start_windows(fields)?,
         energy_windows: fields.pass_counted(ENERGY_WINDOW)?,
+        link: fields.reactive(Link::None, read_link)?,
         cells: fields.list(intervals, read_cell)?,
     })
 }
@@ -260,8 +340,27 @@ fn read_start_windows(fields: &mut Fields) -> Option<Vec<StartWindow>> {
     })
 }
 
+fn read_link(fields: &mut Fields) -> Option<Link> {
+    match fields.take(2)? {
+        0 => Some(Link::None),
+        1 => Some(Link::TwoLines {
+            upper: read_line(fields)?,
+            lower: read_line(fields)?,
+        }),
+        2 => Some(Link::Equality(read_line(fields)?)),
+        _ => None,
+    }
+}
+
+fn read_line(fields: &mut Fields) -> Option<Line> {
+    Some(Line {
+        offset: fields.kvar()?,
+        slope: fields.signed(15)?,
+    })
+}
+
 fn read_cell(fields: &mut Fields) -> Option<Cell> {
-    let cell = Cell {
+    let mut cell = Cell {
         fixed: match fields.take(2)? {
             0 => None,
             status => Some(status == 1),
@@ -269,9 +368,19 @@ fn read_cell(fields: &mut Fields) -> Option<Cell> {
         pmin: fields.take(POWER)?,
         pmax: fields.take(POWER)?,
         block_caps: read_block_caps(fields)?,
+        qmin: 0,
+        qmax: 0,
     };
     fields.pass(RESERVE_PRICES);
+    (cell.qmin, cell.qmax) = fields.reactive((0, 0), read_limits)?;
     Some(cell)
+}
+
+/// qmin and qmax; of the reactive reserves' prices behind them no word is made.
+fn read_limits(fields: &mut Fields) -> Option<(i64, i64)> {
+    let limits = (fields.kvar()?, fields.kvar()?);
+    fields.pass(REACTIVE_PRICES);
+    Some(limits)
 }
 
 fn read_block_caps(fields: &mut Fields) -> Option<Vec<i64>> {
@@ -299,5 +408,12 @@ fn read_setting(fields: &mut Fields) -> Option<Setting> {
         on: fields.flag()?,
         online: fields.take(POWER)?,
         reserves: fields.eight()?,
+        reactive: fields.reactive(Reactive::default(), |fields| {
+            Some(Reactive {
+                q: fields.kvar()?,
+                qru: fields.take(POWER)?,
+                qrd: fields.take(POWER)?,
+            })
+        })?,
     })
 }

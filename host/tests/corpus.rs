@@ -4,12 +4,13 @@
 mod common;
 
 use common::{each_batch, each_pair};
-use host::{breaches, inspect, judge, word, Told, LONGEST_LIST};
+use host::{breaches, inspect, judge, word, Told, LONGEST_COMPLETION, LONGEST_LIST};
 use reference::breaches::breaches as expected_list;
 use reference::case::read_case;
 use reference::judge::{judge as expected, Refusal, Verdict};
 
-const ROOM: usize = 12_288;
+/// Longer than any completion, so that bytes behind it are seen to stay.
+const ROOM: usize = LONGEST_COMPLETION + 3;
 /// What a buffer holds before a call.
 const BEFORE: u8 = 0xa5;
 
@@ -60,7 +61,7 @@ fn corpus_agrees_in_every_verdict_and_byte() {
     each_batch(|case, plans| {
         let counts = inspect(case);
         match read_case(case) {
-            Ok(read) => {
+            Ok((_, read)) => {
                 assert_eq!(counts.word, 0);
                 assert_eq!(counts.figures[0], read.devices.len() as u64);
             }

@@ -9,11 +9,13 @@ use std::process::Command;
 
 use common::each_pair;
 use reference::breaches::breaches_of;
-use reference::case::{read_case, Reserves, StartWindow, Status};
-use reference::encode::{encode_case, encode_plan};
+use reference::case::{
+    read_case, Link, LinkLine, ReactiveReserves, Reserves, StartWindow, Status, Zone,
+};
+use reference::edition::Edition;
 use reference::judge::judge;
 use reference::plan::{read_plan, Setting};
-use reference::worked_day::{lettered_days, two_set_day, Day};
+use reference::worked_day::{lettered_days, reactive_days, two_set_day, Day};
 
 /// What a run left: text of both outputs, exit status.
 #[derive(Debug)]
@@ -83,10 +85,8 @@ impl Scratch {
 
     /// The files of a day's case and plan.
     fn day(&self, day: &Day) -> [String; 2] {
-        [
-            self.file("case", &encode_case(&day.case).bytes),
-            self.file("plan", &encode_plan(&day.plan).bytes),
-        ]
+        let (case, plan) = day.messages();
+        [self.file("case", &case), self.file("plan", &plan)]
     }
 }
 
@@ -111,20 +111,51 @@ fn judge_prints_the_verdict() {
     }
 }
 
+/// The days of edition 2 that were worked by hand, in their order.
+#[test]
+fn judge_prints_the_verdict_in_edition_2() {
+    let scratch = Scratch::new("judge-2");
+    let verdicts = [
+        "accepted 107860\n",
+        "accepted 167860\n",
+        "broken 21 1 2 0\n",
+        "accepted 107440\n",
+        "accepted -372560\n",
+        "accepted 164920\n",
+        "broken 23 2 1 0\n",
+        "broken 23 2 1 0\n",
+        "accepted 165580\n",
+        "broken 25 1 1 0\n",
+    ];
+    let days = reactive_days();
+    assert_eq!(days.len(), verdicts.len());
+    for ((about, day), line) in days.iter().zip(verdicts) {
+        let [case, plan] = scratch.day(day);
+        let status = i32::from(line.starts_with("broken"));
+        assert_eq!(answer(&["judge", &case, &plan], status), line, "{about}");
+    }
+}
+
+/// The completion that `judge` writes to a file is the reference's, of so many bytes.
+fn hold_completion(scratch: &Scratch, day: &Day, bytes: usize) {
+    let [case, plan] = scratch.day(day);
+    let result = scratch.path("result");
+    answer(&["judge", &case, &plan, "--result", &result], 0);
+    let mut expected = vec![0; bytes];
+    let (case, plan) = day.messages();
+    judge(&case, &plan, &mut expected);
+    assert_eq!(fs::read(&result).expect("a completion"), expected);
+}
+
+/// A header of 22 bits; in each interval 73 for a device, 198 for a zone and 23, in edition 2 66 for
+/// a zone and 23 more; 64 of surplus.
 #[test]
 fn judge_writes_the_completion_of_an_accepted_plan_alone() {
     let scratch = Scratch::new("result");
     let day = two_set_day();
-    let [case, plan] = scratch.day(&day);
-    let result = scratch.path("result");
-    answer(&["judge", &case, &plan, "--result", &result], 0);
-    let mut expected = [0; 53];
-    judge(
-        &encode_case(&day.case).bytes,
-        &encode_plan(&day.plan).bytes,
-        &mut expected,
-    );
-    assert_eq!(fs::read(&result).expect("a completion"), expected);
+    hold_completion(&scratch, &day, 53);
+    hold_completion(&scratch, &reactive_days()[0].1, 59);
+    hold_completion(&scratch, &reactive_days()[4].1, 125);
     let [case, plan] = scratch.day(&lettered('b'));
     let other = scratch.path("other");
     answer(&["judge", "--result", &other, &case, &plan], 1);
@@ -135,19 +166,26 @@ fn judge_writes_the_completion_of_an_accepted_plan_alone() {
     assert!(line.starts_with(&format!("desk: cannot write {nowhere}: ")));
 }
 
-/// The lines of the worked day after a change.
-fn lines_after(test: &str, change: impl Fn(&mut Day)) -> Vec<String> {
-    let mut day = two_set_day();
-    change(&mut day);
-    let [case, plan] = Scratch::new(test).day(&day);
+/// The lines of a day.
+fn lines_of(test: &str, day: &Day) -> Vec<String> {
+    let [case, plan] = Scratch::new(test).day(day);
     let text = answer(&["breaches", &case, &plan], 1);
     text.lines().map(String::from).collect()
 }
 
+/// The lines of the worked day after a change.
+fn lines_after(test: &str, change: impl Fn(&mut Day)) -> Vec<String> {
+    let mut day = two_set_day();
+    change(&mut day);
+    lines_of(test, &day)
+}
+
 #[test]
 fn no_breaches_of_an_accepted_plan() {
-    let [case, plan] = Scratch::new("none").day(&two_set_day());
-    assert_eq!(answer(&["breaches", &case, &plan], 0), "no breaches\n");
+    for day in [two_set_day(), reactive_days()[4].1.clone()] {
+        let [case, plan] = Scratch::new("none").day(&day);
+        assert_eq!(answer(&["breaches", &case, &plan], 0), "no breaches\n");
+    }
 }
 
 /// Startup power is 150 − 2·60 = 30 kW in interval 1, so 151 is 121 more.
@@ -317,6 +355,149 @@ fn a_startup_in_words() {
     assert_eq!(lines, expected);
 }
 
+/// The worked day in edition 2, with limits of −9 and 11 kvar on both devices.
+fn reactive_day() -> Day {
+    let mut day = Day {
+        edition: Edition::Two,
+        ..two_set_day()
+    };
+    for device in &mut day.case.devices {
+        for terms in &mut device.terms {
+            (terms.qmin, terms.qmax) = (-9, 11);
+        }
+    }
+    day
+}
+
+/// Sets q, qru and qrd of a device in an interval, both from 1.
+fn set(day: &mut Day, (interval, device): (usize, usize), [q, qru, qrd]: [i128; 3]) {
+    let setting = &mut day.plan.intervals[interval - 1][device - 1];
+    setting.reactive_power = q;
+    setting.reactive_reserves = ReactiveReserves { qru, qrd };
+}
+
+/// A producing device holds qru against qmax and qrd against qmin, a consuming device the other way
+/// round; device 1 gives startup power in interval 1.
+#[test]
+fn reactive_limits_in_words() {
+    let mut day = reactive_day();
+    set(&mut day, (1, 1), [7, 5, 0]);
+    set(&mut day, (1, 2), [7, 0, 5]);
+    set(&mut day, (2, 1), [7, 0, 17]);
+    set(&mut day, (2, 2), [-10, 1, 0]);
+    let expected = [
+        "21 1 1 0 rule 21 (highest reactive power) at interval 1, device 1: reactive power with up reserve is 12 kvar (q 7 + qru 5), at most 11 kvar (qmax 11 x n 1; n is on 0 + startups 1)",
+        "21 1 2 0 rule 21 (highest reactive power) at interval 1, device 2: reactive power with down reserve is 12 kvar (q 7 + qrd 5), at most 11 kvar (qmax 11 x n 1; n is on 1)",
+        "22 2 1 0 rule 22 (lowest reactive power) at interval 2, device 1: reactive power less down reserve is -10 kvar (q 7 - qrd 17), at least -9 kvar (qmin -9 x n 1; n is on 1)",
+        "22 2 2 0 rule 22 (lowest reactive power) at interval 2, device 2: reactive power less up reserve is -11 kvar (q -10 - qru 1), at least -9 kvar (qmin -9 x n 1; n is on 1)",
+    ];
+    assert_eq!(lines_of("limits", &day), expected);
+}
+
+/// Device 2 is off in interval 1 without any power left of its initial 30 kW.
+#[test]
+fn reactive_power_while_off_in_words() {
+    let mut day = reactive_day();
+    day.plan.intervals[0][1] = Setting::default();
+    set(&mut day, (1, 2), [1, 2, 0]);
+    let expected = [
+        "21 1 2 0 rule 21 (highest reactive power) at interval 1, device 2: reactive power with down reserve is 1 kvar (q 1), at most 0 kvar (qmax 11 x n 0; n is on 0)",
+        "22 1 2 0 rule 22 (lowest reactive power) at interval 1, device 2: reactive power less up reserve is -1 kvar (q 1 - qru 2), at least 0 kvar (qmin -9 x n 0; n is on 0)",
+    ];
+    assert_eq!(lines_of("off", &day), expected);
+}
+
+/// 150 kW, off, and 150 kW again at 2 kW/min: 30 kW of the stop and 30 of the start in interval 2,
+/// where limits and offsets count twice.
+#[test]
+fn trajectories_that_meet_in_words() {
+    let mut day = reactive_day();
+    day.case.durations.push(60);
+    for device in &mut day.case.devices {
+        device.terms.push(device.terms[1].clone());
+    }
+    let device_1 = &mut day.case.devices[0];
+    (device_1.initially_on, device_1.initial_power) = (true, 150);
+    device_1.link = Link::TwoLines {
+        upper: LinkLine {
+            offset: 8,
+            slope: 50,
+        },
+        lower: LinkLine {
+            offset: -8,
+            slope: -50,
+        },
+    };
+    let (off, on) = (day.plan.intervals[0][0], day.plan.intervals[1][0]);
+    let load = day.plan.intervals[1][1];
+    day.plan.intervals = vec![vec![on, load], vec![off, load], vec![on, load]];
+    set(&mut day, (2, 1), [20, 3, 40]);
+    let expected = [
+        "21 2 1 0 rule 21 (highest reactive power) at interval 2, device 1: reactive power with up reserve is 23 kvar (q 20 + qru 3), at most 22 kvar (qmax 11 x n 2; n is on 0 + startups 1 + shutdowns 1)",
+        "22 2 1 0 rule 22 (lowest reactive power) at interval 2, device 1: reactive power less down reserve is -20 kvar (q 20 - qrd 40), at least -18 kvar (qmin -9 x n 2; n is on 0 + startups 1 + shutdowns 1)",
+        "23 2 1 0 rule 23 (upper line of the link) at interval 2, device 1: reactive power with up reserve is 23000 var (q 20 + qru 3), at most 19000 var (1000 x offset 8 x n 2 + slope 50 x p 60; n is on 0 + startups 1 + shutdowns 1)",
+        "24 2 1 0 rule 24 (lower line of the link) at interval 2, device 1: reactive power less down reserve is -20000 var (q 20 - qrd 40), at least -19000 var (1000 x offset -8 x n 2 + slope -50 x p 60; n is on 0 + startups 1 + shutdowns 1)",
+    ];
+    assert_eq!(lines_of("meeting", &day), expected);
+}
+
+/// The worked days: 333 thousandths of 150 kW, and 1 kvar with 201 thousandths of 30 and of 150 kW.
+#[test]
+fn links_in_words() {
+    let days = reactive_days();
+    let line_of = |left: &str| {
+        format!("23 2 1 0 rule 23 (upper line of the link) at interval 2, device 1: reactive power with up reserve is 50000 var ({left}), at most 49950 var (1000 x offset 0 x n 1 + slope 333 x p 150; n is on 1)")
+    };
+    assert_eq!(lines_of("line", &days[6].1), [line_of("q 50")]);
+    assert_eq!(lines_of("line", &days[7].1), [line_of("q 49 + qru 1")]);
+    let expected = [
+        "25 1 1 0 rule 25 (equality of the link) at interval 1, device 1: reactive power is 7000 var (q 7), must be 7030 var (1000 x offset 1 x n 1 + slope 201 x p 30; n is on 0 + startups 1)",
+        "25 2 1 0 rule 25 (equality of the link) at interval 2, device 1: reactive power is 31000 var (q 31), must be 31150 var (1000 x offset 1 x n 1 + slope 201 x p 150; n is on 1)",
+    ];
+    assert_eq!(lines_of("equality", &days[9].1), expected);
+    // A lower line of device 2, which consumes: −1 kvar and −333 thousandths of 150 kW.
+    let mut day = reactive_day();
+    for terms in &mut day.case.devices[1].terms {
+        (terms.qmin, terms.qmax) = (-100, 100);
+    }
+    day.case.devices[1].link = Link::TwoLines {
+        upper: LinkLine {
+            offset: 100,
+            slope: 0,
+        },
+        lower: LinkLine {
+            offset: -1,
+            slope: -333,
+        },
+    };
+    set(&mut day, (2, 2), [-46, 5, 0]);
+    let expected = "24 2 2 0 rule 24 (lower line of the link) at interval 2, device 2: reactive power less up reserve is -51000 var (q -46 - qru 5), at least -50950 var (1000 x offset -1 x n 1 + slope -333 x p 150; n is on 1)";
+    assert_eq!(lines_of("lower", &day), [expected]);
+}
+
+/// One line for both reserves; rule 20 comes last.
+#[test]
+fn reserves_beside_an_equality_in_words() {
+    let mut day = reactive_day();
+    day.case.devices[0].link = Link::Equality(LinkLine {
+        offset: 0,
+        slope: 0,
+    });
+    day.case.devices[0].start_windows = vec![StartWindow {
+        start: 60,
+        end: 120,
+        most_starts: 0,
+    }];
+    set(&mut day, (1, 1), [0, 0, 1]);
+    set(&mut day, (2, 1), [0, 2, 3]);
+    let expected = [
+        "26 1 1 0 rule 26 (reserves beside an equality) at interval 1, device 1: reactive reserves are 1 kvar (qru 0 + qrd 1), must be 0 kvar (equality)",
+        "26 2 1 0 rule 26 (reserves beside an equality) at interval 2, device 1: reactive reserves are 5 kvar (qru 2 + qrd 3), must be 0 kvar (equality)",
+        "20 0 1 1 rule 20 (starts in a window) at device 1, window 1: has 1 start (from minute 60 before minute 120), at most 0 starts",
+    ];
+    assert_eq!(lines_of("beside", &day), expected);
+}
+
 #[test]
 fn inspect_prints_what_a_case_holds() {
     let mut day = lettered('h');
@@ -336,6 +517,53 @@ device 2: consuming; in zone 1; initially on for 600 min at 30 kW; minimum up 0 
     assert_eq!(answer(&["inspect", &case], 0), expected);
 }
 
+/// With limits, links of both kinds and a zone of device 2.
+#[test]
+fn inspect_prints_what_a_case_of_edition_2_holds() {
+    let mut day = reactive_day();
+    day.case.devices[0].terms[1].qmin = -100;
+    day.case.devices[0].link = Link::TwoLines {
+        upper: LinkLine {
+            offset: 0,
+            slope: 333,
+        },
+        lower: LinkLine {
+            offset: -100,
+            slope: -1,
+        },
+    };
+    day.case.devices[1].link = Link::Equality(LinkLine {
+        offset: 1,
+        slope: 200,
+    });
+    day.case.devices[1].zone_bits[1] = true;
+    day.case.zones = vec![
+        Zone::plain(2),
+        Zone {
+            shortfall_prices: [1, 1, 1, 1, 1, 1, 3, 5],
+            minima: vec![[0, 0, 2, 0], [0, 0, 0, 1]],
+            ..Zone::plain(2)
+        },
+    ];
+    let [case, _] = Scratch::new("inspect-2").day(&day);
+    let expected = "\
+case 2 2 2
+edition 2
+devices 2
+intervals 2: 2 x 60 min; 120 min in all
+zones 2
+mismatch price 1000 grains per kW min and kvar min
+overrun price 1 grains per kW min
+zone 1: minima to 0 kvar of qru, 0 kvar of qrd; shortfall prices 1 grains per var min of qru, 1 of qrd
+zone 2: minima to 2 kvar of qru, 1 kvar of qrd; shortfall prices 3 grains per var min of qru, 5 of qrd
+device 1: producing; in no zone; initially off for 600 min at 0 kW; minimum up 60 min, down 60 min; ramps up 10, down 10, starting 2, stopping 2 kW/min; pmin from 150 kW, pmax to 200 kW; costs in grains: on 4 per min, start 10000, stop 0; startup states 2, start windows 0, energy windows 0; qmin from -100 kvar, qmax to 11 kvar; linked by two lines, upper 0 kvar + 333 var per kW, lower -100 kvar - 1 var per kW
+device 2: consuming; in zone 2; initially on for 600 min at 30 kW; minimum up 0 min, down 0 min; ramps up 100, down 100, starting 100, stopping 100 kW/min; pmin from 0 kW, pmax to 200 kW; costs in grains: on 0 per min, start 0, stop 0; startup states 0, start windows 0, energy windows 0; qmin from -9 kvar, qmax to 11 kvar; linked by an equality, 1 kvar + 200 var per kW
+";
+    assert_eq!(answer(&["inspect", &case], 0), expected);
+    let unlinked = Scratch::new("inspect-plain").day(&reactive_day());
+    assert!(answer(&["inspect", &unlinked[0]], 0).ends_with("qmax to 11 kvar; no link\n"));
+}
+
 /// Plans of the worked day that are damaged, and how each is refused behind `refused`; `{}` is the
 /// file.
 fn refused_plans(whole: &[u8]) -> [(Vec<u8>, &'static str); 5] {
@@ -345,7 +573,10 @@ fn refused_plans(whole: &[u8]) -> [(Vec<u8>, &'static str); 5] {
             whole[..1].to_vec(),
             "1 8: plan {}: the message ends before or inside the field at this bit",
         ),
-        (changed(0, 0x31), "2 0: plan {}: wrong kind or edition"),
+        (
+            changed(0, 0x31),
+            "2 0: plan {}: wrong kind, or an edition that is unknown or unlike the case's",
+        ),
         (
             changed(1, 0x18),
             "3 8: plan {}: a count out of range, or unlike the case's",
@@ -383,25 +614,66 @@ fn a_refused_case_comes_first() {
     let scratch = Scratch::new("refused-case");
     let [_, plan] = scratch.day(&two_set_day());
     let empty = scratch.file("empty", &[]);
-    let expected = format!("refused 2 0: case {plan}: wrong kind or edition");
+    let expected = format!(
+        "refused 2 0: case {plan}: wrong kind, or an edition that is unknown or unlike the case's"
+    );
     assert_eq!(complaint(&["judge", &plan, &empty], 2), expected);
     assert_eq!(complaint(&["breaches", &plan, &empty], 2), expected);
     assert_eq!(complaint(&["inspect", &plan], 2), expected);
 }
 
+/// A plan of either edition for a case of the other; a case of an edition that is not there.
+#[test]
+fn another_edition_is_told() {
+    let scratch = Scratch::new("editions");
+    let meaning = "wrong kind, or an edition that is unknown or unlike the case's";
+    let [first, second] = Edition::ALL.map(|edition| {
+        let day = Day {
+            edition,
+            ..two_set_day()
+        };
+        let (case, plan) = day.messages();
+        let name = |kind: &str| format!("{kind}-{edition:?}");
+        [
+            scratch.file(&name("case"), &case),
+            scratch.file(&name("plan"), &plan),
+        ]
+    });
+    for ([case, _], [_, plan]) in [(&first, &second), (&second, &first)] {
+        let expected = format!("refused 2 4: plan {plan}: {meaning}");
+        assert_eq!(complaint(&["judge", case, plan], 2), expected);
+        assert_eq!(complaint(&["breaches", case, plan], 2), expected);
+    }
+    let mut case = fs::read(&second[0]).expect("a case");
+    case[0] = 0x13;
+    let unknown = scratch.file("unknown", &case);
+    let expected = format!("refused 2 4: case {unknown}: {meaning}");
+    assert_eq!(complaint(&["inspect", &unknown], 2), expected);
+}
+
+/// Behind pmin 201 and pmax 200 of device 2 in interval 2 of edition 1: 50 + 16 of the front, 455 and
+/// 430 of device 1, 361 and 183 of device 2, and 19. qmin 12 and qmax 11 of device 1 in interval 1
+/// of edition 2: 66, 457 and 215, and 18.
 #[test]
 fn a_contradiction_in_a_case_is_told() {
-    let mut day = two_set_day();
-    day.case.devices[1].terms[1].pmin = 201;
-    let [case, plan] = Scratch::new("contradiction").day(&day);
-    for words in [
-        vec!["inspect", &case],
-        vec!["judge", &case, &plan],
-        vec!["breaches", &case, &plan],
-    ] {
-        let line = complaint(&words, 2);
-        assert!(line.starts_with("refused 5 "));
-        assert!(line.contains(&format!(": case {case}: pmin above pmax, ")));
+    let scratch = Scratch::new("contradiction");
+    let mut real = two_set_day();
+    real.case.devices[1].terms[1].pmin = 201;
+    let mut reactive = reactive_day();
+    reactive.case.devices[0].terms[0].qmin = 12;
+    for (day, bit) in [(real, 1_514), (reactive, 756)] {
+        let [case, plan] = scratch.day(&day);
+        let expected = format!(
+            "refused 5 {bit}: case {case}: pmin above pmax, qmin above qmax, a window's start after \
+             its end, its end after the day's, or a zone bit above the zone count"
+        );
+        for words in [
+            vec!["inspect", &case],
+            vec!["judge", &case, &plan],
+            vec!["breaches", &case, &plan],
+        ] {
+            assert_eq!(complaint(&words, 2), expected);
+        }
     }
 }
 
@@ -568,10 +840,10 @@ fn only_figure(side: &str) -> i64 {
 /// reference has it.
 fn each_broken(mut visit: impl FnMut(&[u8], &[u8], Vec<[usize; 4]>)) {
     each_pair(|case_message, plan_message| {
-        let Ok(case) = read_case(case_message) else {
+        let Ok((edition, case)) = read_case(case_message) else {
             return;
         };
-        let Ok(plan) = read_plan(&case, plan_message) else {
+        let Ok(plan) = read_plan(edition, &case, plan_message) else {
             return;
         };
         let list: Vec<[usize; 4]> = breaches_of(&case, &plan)
@@ -591,7 +863,7 @@ const LONG: usize = 500;
 #[test]
 fn sentences_of_the_corpus_tell_figures_that_break_the_rule() {
     let scratch = Scratch::new("corpus");
-    let (mut broken, mut runs, mut lines) = (0, 0, [0; 21]);
+    let (mut broken, mut runs, mut lines) = (0, 0, [0; 27]);
     each_broken(|case, plan, list| {
         broken += 1;
         if broken % EVERY != 0 && list.len() < LONG {

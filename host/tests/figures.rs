@@ -7,11 +7,13 @@ use common::{each_batch, each_pair};
 use host::day::Day;
 use host::explain::{explain, Breach};
 use host::message::{
-    read_case, read_plan, Case, Cell, Device, Interval, Plan, Setting, StartWindow,
+    read_case, read_plan, Case, Cell, Device, Interval, Line, Link, Plan, Reactive, Setting,
+    StartWindow, Zone,
 };
 use reference::breaches::breaches_of;
 use reference::case::{self, Reserves, Side, Status};
 use reference::clock::spans;
+use reference::edition::Edition;
 use reference::forced::forced;
 use reference::plan;
 
@@ -24,10 +26,10 @@ fn eight(reserves: &Reserves) -> [i64; 8] {
 }
 
 /// The reference's case, as far as words are made of it.
-fn case_of(case: &case::Case) -> Case {
+fn case_of(edition: Edition, case: &case::Case) -> Case {
     Case {
-        edition: 1,
-        zones: case.zones.len(),
+        edition: small(edition.figure()),
+        zones: case.zones.iter().map(zone_of).collect(),
         mismatch_price: small(case.mismatch_price),
         overrun_price: small(case.overrun_price),
         intervals: spans(&case.durations)
@@ -38,6 +40,30 @@ fn case_of(case: &case::Case) -> Case {
             })
             .collect(),
         devices: case.devices.iter().map(device_of).collect(),
+    }
+}
+
+fn zone_of(zone: &case::Zone) -> Zone {
+    let [.., qru_price, qrd_price] = zone.shortfall_prices;
+    let minima = |&[_, _, qru, qrd]: &[i128; 4]| [small(qru), small(qrd)];
+    Zone {
+        prices: [small(qru_price), small(qrd_price)],
+        minima: zone.minima.iter().map(minima).collect(),
+    }
+}
+
+fn link_of(link: &case::Link) -> Link {
+    let line = |line: &case::LinkLine| Line {
+        offset: small(line.offset),
+        slope: small(line.slope),
+    };
+    match link {
+        case::Link::None => Link::None,
+        case::Link::TwoLines { upper, lower } => Link::TwoLines {
+            upper: line(upper),
+            lower: line(lower),
+        },
+        case::Link::Equality(equality) => Link::Equality(line(equality)),
     }
 }
 
@@ -61,6 +87,7 @@ fn device_of(device: &case::Device) -> Device {
         startup_states: device.startup_states.len(),
         start_windows: device.start_windows.iter().map(window_of).collect(),
         energy_windows: device.energy_windows.len(),
+        link: link_of(&device.link),
         cells: device.terms.iter().map(cell_of).collect(),
     }
 }
@@ -83,6 +110,8 @@ fn cell_of(terms: &case::Terms) -> Cell {
         pmin: small(terms.pmin),
         pmax: small(terms.pmax),
         block_caps: terms.blocks.iter().map(|block| small(block.cap)).collect(),
+        qmin: small(terms.qmin),
+        qmax: small(terms.qmax),
     }
 }
 
@@ -91,6 +120,11 @@ fn plan_of(plan: &plan::Plan) -> Plan {
         on: setting.on,
         online: small(setting.online_power),
         reserves: eight(&setting.reserves),
+        reactive: Reactive {
+            q: small(setting.reactive_power),
+            qru: small(setting.reactive_reserves.qru),
+            qrd: small(setting.reactive_reserves.qrd),
+        },
     };
     let row = |row: &Vec<plan::Setting>| row.iter().map(setting).collect();
     Plan {
@@ -100,31 +134,34 @@ fn plan_of(plan: &plan::Plan) -> Plan {
 
 #[test]
 fn messages_hold_the_references_figures() {
-    let (mut cases, mut plans) = (0, 0);
+    // Of each edition.
+    let (mut cases, mut plans) = ([0; 2], [0; 2]);
     each_batch(|message, messages| {
-        let Ok(case) = case::read_case(message) else {
+        let Ok((edition, case)) = case::read_case(message) else {
             return;
         };
         let read = read_case(message).expect("the case passes reading");
-        assert_eq!(read, case_of(&case));
-        cases += 1;
+        assert_eq!(read, case_of(edition, &case));
+        let index = edition as usize;
+        cases[index] += 1;
         for message in messages {
-            if let Ok(plan) = plan::read_plan(&case, message) {
+            if let Ok(plan) = plan::read_plan(edition, &case, message) {
                 assert_eq!(read_plan(&read, message), Some(plan_of(&plan)));
-                plans += 1;
+                plans[index] += 1;
             }
         }
     });
-    assert!(cases > 300 && plans > 2_000);
+    assert!(cases.iter().all(|&count| count > 200), "{cases:?}");
+    assert!(plans.iter().all(|&count| count > 1_000), "{plans:?}");
 }
 
 /// Calls `visit` with every pair of the corpus that passes reading, read by both sides.
 fn each_day(mut visit: impl FnMut(&Day, &case::Case, &plan::Plan)) {
     each_pair(|case_message, plan_message| {
-        let Ok(case) = case::read_case(case_message) else {
+        let Ok((edition, case)) = case::read_case(case_message) else {
             return;
         };
-        if let Ok(plan) = plan::read_plan(&case, plan_message) {
+        if let Ok(plan) = plan::read_plan(edition, &case, plan_message) {
             let day = Day::read(case_message, plan_message).expect("both pass reading");
             visit(&day, &case, &plan);
         }
@@ -144,6 +181,8 @@ fn forced_figures_are_the_references() {
                 assert_eq!(i128::from(point.startup_power()), commitment.psu[t]);
                 assert_eq!(i128::from(point.shutdown_power()), commitment.psd[t]);
                 assert_eq!(i128::from(point.power()), forced.power[t]);
+                let n: i64 = point.counted().iter().sum();
+                assert_eq!(i128::from(n), commitment.bracket[t]);
             }
         }
     });
@@ -155,7 +194,8 @@ fn places(day: &Day) -> impl Iterator<Item = Breach> {
     let (intervals, devices) = (byte(day.case.intervals.len()), byte(day.case.devices.len()));
     let cells = (1..=intervals).flat_map(move |interval| {
         (1..=devices).flat_map(move |device| {
-            (1..=19).map(move |rule| Breach::from([rule, interval, device, 0]))
+            let rules = (1..=19).chain(21..=26);
+            rules.map(move |rule| Breach::from([rule, interval, device, 0]))
         })
     });
     let windows = (1..=devices)
@@ -211,7 +251,7 @@ fn what_does_not_pass_reading_has_no_figures() {
         cut += 1;
         assert_eq!(read_case(&[message, &[0]].concat()), None);
         longer += 1;
-        for first in [0x10, 0x1f, 0x21, 0x01] {
+        for first in [0x10, 0x13, 0x1f, 0x21, 0x01] {
             assert_eq!(read_case(&[&[first], &message[1..]].concat()), None);
         }
     });

@@ -8,10 +8,9 @@
 
 #define BEFORE 0xa5
 #define LONGEST_FILE 65536
-#define LONGEST_COMPLETION 12288
 
 static uint8_t kase[LONGEST_FILE], plan[LONGEST_FILE];
-static uint8_t result[LONGEST_COMPLETION], list[KADUNFO_LONGEST_LIST];
+static uint8_t result[KADUNFO_LONGEST_COMPLETION], list[KADUNFO_LONGEST_LIST];
 static uint64_t figures[4];
 
 static size_t load(const char *path, uint8_t *bytes) {

@@ -5,9 +5,13 @@ use std::fs;
 use std::path::{Path, PathBuf};
 use std::process::Command;
 
-use host::LONGEST_LIST;
-use reference::encode::{encode_case, encode_plan};
-use reference::worked_day::lettered_days;
+use host::{LONGEST_COMPLETION, LONGEST_LIST};
+use reference::batch;
+use reference::busiest::busiest_batch;
+use reference::case::read_case;
+use reference::completion::completion_bits;
+use reference::edition::Edition;
+use reference::worked_day::{lettered_days, reactive_days};
 
 const HOST: &str = env!("CARGO_MANIFEST_DIR");
 const SCRATCH: &str = env!("CARGO_TARGET_TMPDIR");
@@ -55,12 +59,8 @@ fn run(program: &Path, case: &[u8], plan: &[u8]) -> String {
 fn header_serves_a_program_in_c() {
     let program = compile();
     let days = lettered_days();
-    let messages = |index: usize| {
-        let day = &days[index].1;
-        (encode_case(&day.case).bytes, encode_plan(&day.plan).bytes)
-    };
-    let (case, plan_a) = messages(0);
-    let (_, plan_b) = messages(1);
+    let (case, plan_a) = days[0].1.messages();
+    let (_, plan_b) = days[1].1.messages();
     assert_eq!(
         run(&program, &case, &plan_a),
         "inspect 0 2 2 0 0\njudge 0 167860 0 0 0\nshort 0 0 0 0 0\nbreaches 0 0 0 0 0\n"
@@ -77,6 +77,36 @@ fn header_serves_a_program_in_c() {
         run(&program, &case[..1], &plan_a[..1]),
         "inspect 2 1 8 0 0\njudge 2 1 8 0 0\nshort 2 1 8 0 0\nbreaches 2 1 8 0 0\n"
     );
+    // Edition 2: q 1 of device 2 in interval 1 at qmax 1, then qrd 1 besides; a plan of edition 1.
+    let days = reactive_days();
+    let (case, accepted) = days[0].1.messages();
+    let (_, broken) = days[2].1.messages();
+    assert_eq!(
+        run(&program, &case, &accepted),
+        "inspect 0 2 2 0 0\njudge 0 107860 0 0 0\nshort 0 0 0 0 0\nbreaches 0 0 0 0 0\n"
+    );
+    assert_eq!(
+        run(&program, &case, &broken),
+        "inspect 0 2 2 0 0\njudge 1 21 1 2 0\nshort 4 7 4 0 0\nbreaches 0 1 0 0 0\n21 1 2 0\n"
+    );
+    assert_eq!(
+        run(&program, &case, &plan_a),
+        "inspect 0 2 2 0 0\njudge 3 2 4 0 0\nshort 3 2 4 0 0\nbreaches 3 2 4 0 0\n"
+    );
+}
+
+/// The header and the wrappers name one length, that of the largest case of the newest edition.
+#[test]
+fn longest_completion_is_the_headers() {
+    let header = fs::read_to_string(format!("{HOST}/include/kadunfo.h")).expect("the header");
+    let defined = format!("#define KADUNFO_LONGEST_COMPLETION {LONGEST_COMPLETION}\n");
+    assert!(header.contains(&defined));
+    let longest = Edition::ALL.map(|edition| {
+        let largest = busiest_batch(edition, 1, 16, 48);
+        let (_, case) = read_case(batch::messages(&largest)[0]).expect("it passes reading");
+        completion_bits(edition, &case).div_ceil(8)
+    });
+    assert_eq!(longest, [12_165, LONGEST_COMPLETION]);
 }
 
 /// The header and the wrappers name one length.
@@ -84,6 +114,6 @@ fn header_serves_a_program_in_c() {
 fn longest_list_is_the_headers() {
     let header = fs::read_to_string(format!("{HOST}/include/kadunfo.h")).expect("the header");
     let defined = format!("#define KADUNFO_LONGEST_LIST {LONGEST_LIST} ");
-    assert_eq!(LONGEST_LIST, 58_624);
+    assert_eq!(LONGEST_LIST, 77_056);
     assert!(header.contains(&defined));
 }

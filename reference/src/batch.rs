@@ -4,6 +4,7 @@ use std::fmt;
 
 use crate::breaches::{breaches_of, bytes_of};
 use crate::case::{read_case, Case};
+use crate::edition::Edition;
 use crate::fault::{Fault, Number};
 use crate::judge::{find, Finding};
 use crate::plan::read_plan;
@@ -66,6 +67,8 @@ pub fn messages(batch: &[u8]) -> Vec<&[u8]> {
 pub enum Line {
     Case {
         index: usize,
+        /// No part of the printed line.
+        edition: Edition,
         devices: usize,
         intervals: usize,
         zones: usize,
@@ -98,6 +101,7 @@ impl fmt::Display for Line {
                 devices,
                 intervals,
                 zones,
+                ..
             } => write!(out, "{index} case {devices} {intervals} {zones}"),
             Line::Accepted { index, surplus, .. } => write!(out, "{index} accepted {surplus}"),
             Line::Broken { index, place, .. } => write!(
@@ -135,11 +139,13 @@ pub fn run(batch: &[u8]) -> Vec<Line> {
             }
             Split::Message { message, next } => {
                 match &case {
-                    Some(case) => lines.push(judge_message(case, index, message)),
+                    Some((edition, case)) => {
+                        lines.push(judge_message(*edition, case, index, message));
+                    }
                     None => match read_case(message) {
-                        Ok(read) => {
-                            lines.push(case_line(index, &read));
-                            case = Some(read);
+                        Ok((edition, read)) => {
+                            lines.push(case_line(index, edition, &read));
+                            case = Some((edition, read));
                         }
                         // "A refused case ends the run after its line."
                         Err(fault) => {
@@ -154,19 +160,20 @@ pub fn run(batch: &[u8]) -> Vec<Line> {
     }
 }
 
-fn case_line(index: usize, case: &Case) -> Line {
+fn case_line(index: usize, edition: Edition, case: &Case) -> Line {
     Line::Case {
         index,
+        edition,
         devices: case.devices.len(),
         intervals: case.intervals(),
         zones: case.zones.len(),
     }
 }
 
-fn judge_message(case: &Case, index: usize, message: &[u8]) -> Line {
-    match read_plan(case, message) {
+fn judge_message(edition: Edition, case: &Case, index: usize, message: &[u8]) -> Line {
+    match read_plan(edition, case, message) {
         Err(fault) => Line::Refused { index, fault },
-        Ok(plan) => match find(case, &plan) {
+        Ok(plan) => match find(edition, case, &plan) {
             Finding::Broken(place) => Line::Broken {
                 index,
                 place,

@@ -4,7 +4,8 @@
 
 use crate::fault::{Fault, Number};
 
-/// The highest power a 17-bit field may hold: "A 17-bit power is 0..100,000."
+/// The highest power a 17-bit field may hold: "A 17-bit power is 0..100,000." The 18 bits of a
+/// reactive power hold as much either way.
 pub const HIGHEST_POWER: i128 = 100_000;
 
 /// A place in a message "that advances by one field", with the first contradiction met so far.
@@ -62,10 +63,15 @@ impl<'a> FieldReader<'a> {
         Ok(Field { first_bit, value })
     }
 
-    /// A kind or an edition: one value alone is right.
+    /// A kind or an edition of which one value alone is right.
     pub fn fixed(&mut self, width: usize, value: i128) -> Result<(), Fault> {
-        self.take(width)?.within(value, value, Number::Kind)?;
+        self.one_of(width, value, value)?;
         Ok(())
+    }
+
+    /// A kind or an edition of which the values from `low` to `high` are right.
+    pub fn one_of(&mut self, width: usize, low: i128, high: i128) -> Result<i128, Fault> {
+        self.take(width)?.within(low, high, Number::Kind)
     }
 
     /// A count of devices, intervals, zones, states, windows or blocks.
@@ -93,6 +99,11 @@ impl<'a> FieldReader<'a> {
     /// "A 17-bit power is 0..100,000."
     pub fn power(&mut self) -> Result<i128, Fault> {
         self.figure(17, 0, HIGHEST_POWER)
+    }
+
+    /// A reactive power or an offset "in kvar (18 bits, ±100,000)".
+    pub fn reactive_power(&mut self) -> Result<i128, Fault> {
+        self.signed(18, HIGHEST_POWER)
     }
 
     /// A field of one bit, which no value puts out of range.

@@ -2,6 +2,7 @@
 
 use crate::case::{read_case, Case};
 use crate::clock::spans;
+use crate::edition::Edition;
 use crate::forced::forced;
 use crate::judge::Refusal;
 use crate::plan::{read_plan, Plan};
@@ -19,13 +20,18 @@ pub fn breaches(
     plan_message: &[u8],
     buffer: &mut [u8],
 ) -> Result<usize, Refusal> {
-    let case = read_case(case_message).map_err(Refusal::Case)?;
-    breaches_for(&case, plan_message, buffer)
+    let (edition, case) = read_case(case_message).map_err(Refusal::Case)?;
+    breaches_for(edition, &case, plan_message, buffer)
 }
 
 /// The same for a plan of a case that passed reading.
-pub fn breaches_for(case: &Case, plan_message: &[u8], buffer: &mut [u8]) -> Result<usize, Refusal> {
-    let plan = read_plan(case, plan_message).map_err(Refusal::Plan)?;
+pub fn breaches_for(
+    edition: Edition,
+    case: &Case,
+    plan_message: &[u8],
+    buffer: &mut [u8],
+) -> Result<usize, Refusal> {
+    let plan = read_plan(edition, case, plan_message).map_err(Refusal::Plan)?;
     let list = bytes_of(&breaches_of(case, &plan));
     let bytes_needed = list.len();
     let room = buffer

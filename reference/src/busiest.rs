@@ -1,28 +1,74 @@
 //! The busiest day that a plan unit can be given: every count at its largest, each device a member
-//! of every zone, and a plan that starts or stops every device in every interval.
+//! of every zone, and a plan that starts or stops every device in every interval. In edition 2 each
+//! device has two link lines and every reactive price, and reactive reserves while on.
 
 use crate::batch::join;
 use crate::case::{
-    Block, Case, Device, EnergyKind, EnergyWindow, Reserves, Side, StartWindow, StartupState,
-    Status, Terms, Zone, MOST_ITEMS, MOST_STATES, MOST_ZONES,
+    Block, Case, Device, EnergyKind, EnergyWindow, Link, LinkLine, ReactiveReserves, Reserves,
+    Side, StartWindow, StartupState, Terms, Zone, MOST_ITEMS, MOST_SHORTFALLS, MOST_STATES,
+    MOST_ZONES,
 };
-use crate::encode::{encode_case, encode_plan};
+use crate::edition::Edition;
 use crate::plan::{Plan, Setting};
+use crate::worked_day::Day;
 
 const MINUTES: i128 = 30;
 
 /// The case, then the plan so many times; with fewer devices or intervals, for growth.
-pub fn busiest_batch(times: usize, devices: usize, intervals: usize) -> Vec<u8> {
-    let mut messages = vec![encode_case(&case(devices, intervals)).bytes];
-    messages.resize(1 + times, encode_plan(&plan(devices, intervals)).bytes);
+pub fn busiest_batch(edition: Edition, times: usize, devices: usize, intervals: usize) -> Vec<u8> {
+    let (case, plan) = busiest_day(edition, devices, intervals).messages();
+    let mut messages = vec![case];
+    messages.resize(1 + times, plan);
     join(&messages)
+}
+
+fn busiest_day(edition: Edition, devices: usize, intervals: usize) -> Day {
+    let mut day = Day {
+        edition,
+        case: case(devices, intervals),
+        plan: plan(devices, intervals),
+    };
+    if edition.has_reactive_power() {
+        add_reactive_power(&mut day);
+    }
+    day
+}
+
+/// Prices, minima and lines everywhere; 20 kvar while on, with reserves below a line that cuts a
+/// kvar: 40·n + 333 thousandths of 50 kW.
+fn add_reactive_power(day: &mut Day) {
+    for minima in day.case.zones.iter_mut().flat_map(|zone| &mut zone.minima) {
+        *minima = [10; 4];
+    }
+    for device in &mut day.case.devices {
+        device.link = Link::TwoLines {
+            upper: LinkLine {
+                offset: 40,
+                slope: 333,
+            },
+            lower: LinkLine {
+                offset: -40,
+                slope: -333,
+            },
+        };
+        for terms in &mut device.terms {
+            (terms.qmin, terms.qmax) = (-100, 100);
+            terms.reactive_prices = ReactiveReserves::from_order([1; 2]);
+        }
+    }
+    for setting in day.plan.intervals.iter_mut().flatten() {
+        if setting.on {
+            setting.reactive_power = 20;
+            setting.reactive_reserves = ReactiveReserves::from_order([3; 2]);
+        }
+    }
 }
 
 fn case(devices: usize, intervals: usize) -> Case {
     let zone = Zone {
         shares: [100; 4],
-        shortfall_prices: [1; 6],
-        ramping_minima: vec![[10, 10]; intervals],
+        shortfall_prices: [1; MOST_SHORTFALLS],
+        minima: vec![[10, 10, 0, 0]; intervals],
     };
     Case {
         mismatch_price: 10,
@@ -39,13 +85,12 @@ fn device(number: usize, intervals: usize) -> Device {
     let day = MINUTES * intervals as i128;
     let side = [Side::Producing, Side::Consuming][number % 2];
     let terms = Terms {
-        status: Status::Free,
-        pmin: 0,
         pmax: 200,
         blocks: (0..MOST_ITEMS as i128)
             .map(|price| Block { cap: 100, price })
             .collect(),
         reserve_prices: Reserves::from_order([1; 8]),
+        ..Terms::default()
     };
     let state = StartupState {
         longest_downtime: 600,
@@ -81,6 +126,7 @@ fn plan(devices: usize, intervals: usize) -> Plan {
             1 => Reserves::from_order([3, 3, 3, 0, 3, 0, 3, 0]),
             _ => Reserves::default(),
         },
+        ..Setting::default()
     };
     Plan {
         intervals: (0..intervals)

@@ -1,10 +1,10 @@
-//! The case: its figures and its reading ("Messages", paragraph **Case**).
+//! The case: its figures and its reading ("Messages", paragraph **Case**, and A.1).
 
 use crate::bits::FieldReader;
+use crate::edition::{read_edition, CountField, Edition};
 use crate::fault::Fault;
 
 pub const KIND_CASE: i128 = 1;
-pub const EDITION: i128 = 1;
 pub const MOST_DEVICES: usize = 16;
 pub const MOST_INTERVALS: usize = 48;
 pub const MOST_ZONES: usize = 4;
@@ -12,8 +12,17 @@ pub const MOST_ZONES: usize = 4;
 pub const MOST_STATES: usize = 3;
 /// Start windows and energy windows of a device, blocks of an interval.
 pub const MOST_ITEMS: usize = 4;
+/// Shortfalls of a zone, those of reactive reserves included.
+pub const MOST_SHORTFALLS: usize = 8;
+/// Minima of a zone in an interval, those of reactive reserves included.
+pub const MOST_MINIMA: usize = 4;
+/// The price of a reactive shortfall where the edition has none: the least that is in range.
+const NEUTRAL_PRICE: i128 = 1;
 
-/// A day to be planned. Power kW, time minutes, energy kW·min, money grains.
+/// A day to be planned. Power kW, reactive power kvar, time minutes, energy kW·min, money grains.
+///
+/// Where an edition's messages lack a figure, it has its neutral value: reactive limits, prices and
+/// minima 0, prices of reactive shortfalls 1, no link.
 #[derive(Clone, PartialEq, Eq, Debug)]
 pub struct Case {
     pub mismatch_price: i128,
@@ -28,10 +37,27 @@ pub struct Case {
 pub struct Zone {
     /// Thousandths, for rgu, rgd, scr, nsc.
     pub shares: [i128; 4],
-    /// Per W·min, for rgu, rgd, scr, nsc, rru, rrd.
-    pub shortfall_prices: [i128; 6],
-    /// Per interval, the rru and the rrd minimum in kW.
-    pub ramping_minima: Vec<[i128; 2]>,
+    /// Per W·min, for rgu, rgd, scr, nsc, rru, rrd; then per var·min, for qru, qrd.
+    pub shortfall_prices: [i128; MOST_SHORTFALLS],
+    /// Per interval, the rru and the rrd minimum in kW, the qru and the qrd minimum in kvar.
+    pub minima: Vec<[i128; MOST_MINIMA]>,
+}
+
+impl Zone {
+    /// A zone that needs nothing, with prices of 1.
+    pub fn plain(intervals: usize) -> Zone {
+        Zone {
+            shares: [0; 4],
+            shortfall_prices: [1; MOST_SHORTFALLS],
+            minima: vec![[0; MOST_MINIMA]; intervals],
+        }
+    }
+
+    fn has_reactive_power(&self) -> bool {
+        let [_, _, _, _, _, _, qru_price, qrd_price] = self.shortfall_prices;
+        [qru_price, qrd_price] != [NEUTRAL_PRICE; 2]
+            || self.minima.iter().any(|[_, _, qru, qrd]| qru + qrd > 0)
+    }
 }
 
 #[derive(Clone, Copy, PartialEq, Eq, Debug)]
@@ -84,6 +110,44 @@ impl Reserves {
     }
 }
 
+/// One figure for each of the two reactive reserves, "up before down": prices or amounts.
+#[derive(Clone, Copy, PartialEq, Eq, Debug, Default)]
+pub struct ReactiveReserves {
+    pub qru: i128,
+    pub qrd: i128,
+}
+
+impl ReactiveReserves {
+    pub fn from_order([qru, qrd]: [i128; 2]) -> ReactiveReserves {
+        ReactiveReserves { qru, qrd }
+    }
+
+    pub fn in_order(&self) -> [i128; 2] {
+        [self.qru, self.qrd]
+    }
+}
+
+/// A line that bounds reactive power by real power: "an offset (18, ±100,000) and a slope in
+/// thousandths (15, ±10,000)".
+#[derive(Clone, Copy, PartialEq, Eq, Debug)]
+pub struct LinkLine {
+    pub offset: i128,
+    pub slope: i128,
+}
+
+/// What links a device's reactive power to its real power: "a link kind (2 bits: 0 none, 1 two
+/// lines, 2 equality)".
+#[derive(Clone, Copy, PartialEq, Eq, Debug, Default)]
+pub enum Link {
+    #[default]
+    None,
+    TwoLines {
+        upper: LinkLine,
+        lower: LinkLine,
+    },
+    Equality(LinkLine),
+}
+
 /// Ramps in kW/min.
 #[derive(Clone, Copy, PartialEq, Eq, Debug)]
 pub struct Ramps {
@@ -121,8 +185,9 @@ pub struct EnergyWindow {
     pub energy: i128,
 }
 
-#[derive(Clone, Copy, PartialEq, Eq, Debug)]
+#[derive(Clone, Copy, PartialEq, Eq, Debug, Default)]
 pub enum Status {
+    #[default]
     Free,
     On,
     Off,
@@ -136,13 +201,16 @@ pub struct Block {
 }
 
 /// What the case says of one device in one interval.
-#[derive(Clone, PartialEq, Eq, Debug)]
+#[derive(Clone, PartialEq, Eq, Debug, Default)]
 pub struct Terms {
     pub status: Status,
     pub pmin: i128,
     pub pmax: i128,
     pub blocks: Vec<Block>,
     pub reserve_prices: Reserves,
+    pub qmin: i128,
+    pub qmax: i128,
+    pub reactive_prices: ReactiveReserves,
 }
 
 impl Terms {
@@ -169,6 +237,7 @@ pub struct Device {
     pub startup_states: Vec<StartupState>,
     pub start_windows: Vec<StartWindow>,
     pub energy_windows: Vec<EnergyWindow>,
+    pub link: Link,
     /// Per interval.
     pub terms: Vec<Terms>,
 }
@@ -197,8 +266,17 @@ impl Device {
             startup_states: Vec::new(),
             start_windows: Vec::new(),
             energy_windows: Vec::new(),
+            link: Link::None,
             terms,
         }
+    }
+
+    fn has_reactive_power(&self) -> bool {
+        self.link != Link::None
+            || self.terms.iter().any(|terms| {
+                (terms.qmin, terms.qmax) != (0, 0)
+                    || terms.reactive_prices != ReactiveReserves::default()
+            })
     }
 }
 
@@ -206,38 +284,52 @@ impl Case {
     pub fn intervals(&self) -> usize {
         self.durations.len()
     }
+
+    /// Whether any figure of A.1 has another than its neutral value.
+    pub fn has_reactive_power(&self) -> bool {
+        self.zones.iter().any(Zone::has_reactive_power)
+            || self.devices.iter().any(Device::has_reactive_power)
+    }
 }
 
-/// Reads a case, or gives back its first fault.
-pub fn read_case(message: &[u8]) -> Result<Case, Fault> {
+/// Reads a case and its edition, or gives back its first fault.
+pub fn read_case(message: &[u8]) -> Result<(Edition, Case), Fault> {
     let mut fields = FieldReader::new(message);
     fields.fixed(4, KIND_CASE)?;
-    fields.fixed(4, EDITION)?;
-    let devices = fields.count(5, 1, MOST_DEVICES)?;
-    let intervals = fields.count(6, 1, MOST_INTERVALS)?;
-    let zones = fields.count(3, 0, MOST_ZONES)?;
+    let edition = read_edition(&mut fields)?;
+    let case = read_content(&mut fields, edition)?;
+    fields.finish()?;
+    Ok((edition, case))
+}
+
+fn read_content(fields: &mut FieldReader, edition: Edition) -> Result<Case, Fault> {
+    let count = |fields: &mut FieldReader, field: CountField, least| {
+        fields.count(field.width, least, field.most)
+    };
+    let devices = count(fields, edition.devices(), 1)?;
+    let intervals = count(fields, edition.intervals(), 1)?;
+    let zones = count(fields, edition.zones(), 0)?;
     let mismatch_price = fields.figure(14, 1, 10_000)?;
     let overrun_price = fields.figure(14, 1, 10_000)?;
     let durations = list(intervals, || Ok(2 * fields.figure(8, 1, 180)?))?;
-    let zones = list(zones, || read_zone(&mut fields, intervals))?;
     let frame = Frame {
+        edition,
         intervals,
-        zones: zones.len(),
+        zones,
         last_end: durations.iter().sum(),
     };
-    let devices = list(devices, || read_device(&mut fields, &frame))?;
-    fields.finish()?;
     Ok(Case {
         mismatch_price,
         overrun_price,
         durations,
-        zones,
-        devices,
+        zones: list(zones, || read_zone(fields, &frame))?,
+        devices: list(devices, || read_device(fields, &frame))?,
     })
 }
 
-/// What the reading of a device needs of the fields before it.
+/// What the reading of a zone or a device needs of the fields before it.
 struct Frame {
+    edition: Edition,
     intervals: usize,
     zones: usize,
     last_end: i128,
@@ -247,25 +339,42 @@ fn list<T>(count: usize, mut read: impl FnMut() -> Result<T, Fault>) -> Result<V
     (0..count).map(|_| read()).collect()
 }
 
-fn array<const N: usize>(
+fn array<const N: usize>(read: impl FnMut() -> Result<i128, Fault>) -> Result<[i128; N], Fault> {
+    leading(N, 0, read)
+}
+
+/// The first `count` figures as they are read, those behind them neutral: an edition's messages
+/// lack them.
+fn leading<const N: usize>(
+    count: usize,
+    neutral: i128,
     mut read: impl FnMut() -> Result<i128, Fault>,
 ) -> Result<[i128; N], Fault> {
-    let mut figures = [0; N];
-    for figure in &mut figures {
+    let mut figures = [neutral; N];
+    for figure in &mut figures[..count] {
         *figure = read()?;
     }
     Ok(figures)
 }
 
-fn read_zone(fields: &mut FieldReader, intervals: usize) -> Result<Zone, Fault> {
+/// "Zones gain two minima in kvar and two prices, with rru's widths and ranges".
+fn read_zone(fields: &mut FieldReader, frame: &Frame) -> Result<Zone, Fault> {
+    let Frame {
+        edition, intervals, ..
+    } = *frame;
     Ok(Zone {
         shares: array(|| fields.figure(10, 0, 1_000))?,
-        shortfall_prices: array(|| fields.figure(7, 1, 100))?,
-        ramping_minima: list(intervals, || array(|| fields.figure(23, 0, 6_400_000)))?,
+        shortfall_prices: leading(edition.shortfalls(), NEUTRAL_PRICE, || {
+            fields.figure(7, 1, 100)
+        })?,
+        minima: list(intervals, || {
+            leading(edition.minima(), 0, || fields.figure(23, 0, 6_400_000))
+        })?,
     })
 }
 
 fn read_device(fields: &mut FieldReader, frame: &Frame) -> Result<Device, Fault> {
+    let edition = frame.edition;
     Ok(Device {
         side: read_side(fields)?,
         zone_bits: read_zone_bits(fields, frame.zones)?,
@@ -283,12 +392,13 @@ fn read_device(fields: &mut FieldReader, frame: &Frame) -> Result<Device, Fault>
             read_startup_state(fields)
         })?,
         start_windows: list(fields.count(3, 0, MOST_ITEMS)?, || {
-            read_start_window(fields, frame.last_end)
+            read_start_window(fields, frame)
         })?,
         energy_windows: list(fields.count(3, 0, MOST_ITEMS)?, || {
             read_energy_window(fields, frame.last_end)
         })?,
-        terms: list(frame.intervals, || read_terms(fields))?,
+        link: read_link(fields, edition)?,
+        terms: list(frame.intervals, || read_terms(fields, edition))?,
     })
 }
 
@@ -340,12 +450,13 @@ fn read_span(fields: &mut FieldReader, last_end: i128) -> Result<(i128, i128), F
     Ok((start, end))
 }
 
-fn read_start_window(fields: &mut FieldReader, last_end: i128) -> Result<StartWindow, Fault> {
-    let (start, end) = read_span(fields, last_end)?;
+fn read_start_window(fields: &mut FieldReader, frame: &Frame) -> Result<StartWindow, Fault> {
+    let (start, end) = read_span(fields, frame.last_end)?;
+    let most_starts = frame.edition.most_starts();
     Ok(StartWindow {
         start,
         end,
-        most_starts: fields.figure(6, 0, 48)?,
+        most_starts: fields.figure(most_starts.width, 0, most_starts.most as i128)?,
     })
 }
 
@@ -364,7 +475,31 @@ fn read_energy_window(fields: &mut FieldReader, last_end: i128) -> Result<Energy
     })
 }
 
-fn read_terms(fields: &mut FieldReader) -> Result<Terms, Fault> {
+/// "Per device comes a link kind (2 bits: 0 none, 1 two lines, 2 equality), then per line, upper
+/// before lower, the equality once, an offset [...] and a slope". A kind of 3 is out of range like
+/// any other figure.
+fn read_link(fields: &mut FieldReader, edition: Edition) -> Result<Link, Fault> {
+    if !edition.has_reactive_power() {
+        return Ok(Link::None);
+    }
+    Ok(match fields.figure(2, 0, 2)? {
+        0 => Link::None,
+        1 => Link::TwoLines {
+            upper: read_link_line(fields)?,
+            lower: read_link_line(fields)?,
+        },
+        _ => Link::Equality(read_link_line(fields)?),
+    })
+}
+
+fn read_link_line(fields: &mut FieldReader) -> Result<LinkLine, Fault> {
+    Ok(LinkLine {
+        offset: fields.reactive_power()?,
+        slope: fields.signed(15, 10_000)?,
+    })
+}
+
+fn read_terms(fields: &mut FieldReader, edition: Edition) -> Result<Terms, Fault> {
     let status = match fields.figure(2, 0, 2)? {
         0 => Status::Free,
         1 => Status::On,
@@ -376,7 +511,7 @@ fn read_terms(fields: &mut FieldReader) -> Result<Terms, Fault> {
     if pmin > pmax {
         fields.contradiction_at(first_bit_of_pmax);
     }
-    Ok(Terms {
+    let mut terms = Terms {
         status,
         pmin,
         pmax,
@@ -387,5 +522,25 @@ fn read_terms(fields: &mut FieldReader) -> Result<Terms, Fault> {
             })
         })?,
         reserve_prices: Reserves::from_order(array(|| fields.figure(14, 0, 10_000))?),
-    })
+        ..Terms::default()
+    };
+    if edition.has_reactive_power() {
+        read_reactive_terms(fields, &mut terms)?;
+    }
+    Ok(terms)
+}
+
+/// "Per device and interval come qmin and qmax in kvar (18 bits, ±100,000)", behind the eight
+/// prices, and the reactive reserves' "prices of 14 bits (0..10,000)". "A qmin above qmax is a
+/// contradiction at qmax."
+fn read_reactive_terms(fields: &mut FieldReader, terms: &mut Terms) -> Result<(), Fault> {
+    terms.qmin = fields.reactive_power()?;
+    let first_bit_of_qmax = fields.place();
+    terms.qmax = fields.reactive_power()?;
+    if terms.qmin > terms.qmax {
+        fields.contradiction_at(first_bit_of_qmax);
+    }
+    let prices = array(|| fields.figure(14, 0, 10_000))?;
+    terms.reactive_prices = ReactiveReserves::from_order(prices);
+    Ok(())
 }

@@ -4,6 +4,21 @@ use std::fmt;
 
 use crate::batch::Line;
 use crate::breaches::BREACH_BYTES;
+use crate::edition::Edition;
+
+/// One more than the greatest number of a rule.
+const RULES: usize = 27;
+/// One more than the greatest number of an edition.
+const EDITIONS: usize = Edition::ALL.len() + 1;
+
+/// Counts of one edition's cases and of plans for them.
+#[derive(Clone, Copy, PartialEq, Eq, Debug, Default)]
+pub struct EditionCounts {
+    pub cases: usize,
+    pub accepted: usize,
+    pub broken: usize,
+    pub refused: usize,
+}
 
 /// Counts of lines.
 #[derive(Clone, PartialEq, Eq, Debug, Default)]
@@ -12,10 +27,10 @@ pub struct Census {
     pub empty_batches: usize,
     pub cases: usize,
     pub accepted: usize,
-    /// Plans by the first rule that they break, 1 to 20.
-    pub broken: [usize; 21],
+    /// Plans by the first rule that they break, 1 to 26.
+    pub broken: [usize; RULES],
     /// Entries in the lists of breaches, by rule.
-    pub listed: [usize; 21],
+    pub listed: [usize; RULES],
     pub longest_list: usize,
     /// By number, 1 to 6.
     pub refused_cases: [usize; 7],
@@ -26,6 +41,8 @@ pub struct Census {
     pub greatest: [usize; 3],
     pub least_surplus: Option<i128>,
     pub greatest_surplus: Option<i128>,
+    /// By the number of the edition, 1 and 2.
+    by_edition: [EditionCounts; EDITIONS],
 }
 
 impl Census {
@@ -35,6 +52,27 @@ impl Census {
         self.empty_batches += usize::from(lines.is_empty());
         for line in lines {
             self.add_line(line);
+        }
+        if let Some(Line::Case { edition, .. }) = lines.first() {
+            self.add_to_edition(*edition, &lines[1..]);
+        }
+    }
+
+    /// Counts of an edition.
+    pub fn of(&self, edition: Edition) -> &EditionCounts {
+        &self.by_edition[edition.figure() as usize]
+    }
+
+    fn add_to_edition(&mut self, edition: Edition, plans: &[Line]) {
+        let counts = &mut self.by_edition[edition.figure() as usize];
+        counts.cases += 1;
+        for line in plans {
+            match line {
+                Line::Accepted { .. } => counts.accepted += 1,
+                Line::Broken { .. } => counts.broken += 1,
+                Line::Refused { .. } => counts.refused += 1,
+                Line::Case { .. } | Line::Framing { .. } => {}
+            }
         }
     }
 
@@ -90,6 +128,16 @@ impl Census {
     }
 }
 
+impl fmt::Display for EditionCounts {
+    fn fmt(&self, out: &mut fmt::Formatter) -> fmt::Result {
+        write!(
+            out,
+            "cases {}; plans accepted {}, broken {}, refused {}",
+            self.cases, self.accepted, self.broken, self.refused
+        )
+    }
+}
+
 impl fmt::Display for Census {
     fn fmt(&self, out: &mut fmt::Formatter) -> fmt::Result {
         writeln!(
@@ -100,6 +148,9 @@ impl fmt::Display for Census {
             self.cases,
             self.plans()
         )?;
+        for edition in Edition::ALL {
+            writeln!(out, "edition {}: {}", edition.figure(), self.of(edition))?;
+        }
         writeln!(out, "accepted {}", self.accepted)?;
         writeln!(out, "broken by rule: {}", numbered(&self.broken[1..]))?;
         writeln!(

@@ -52,13 +52,15 @@ const CHUNK_BATCHES: usize = 256;
 const CHUNK_BYTES: usize = 8 << 20;
 /// Batches of the greatest sizes are kept to about so many bytes of plans.
 const PLAN_BYTES_PER_BATCH: usize = 1 << 20;
+/// The length of the largest plan of the newest edition.
+const LARGEST_PLAN_BYTES: usize = 19_779;
 
 /// Batch `number` of a seed.
 pub fn numbered_batch(seed: u64, number: u64, plans_per_batch: usize) -> Vec<u8> {
     let mut rng = Rng::numbered(seed, number);
     let size = random_size(&mut rng);
     let largest_plan_bytes = match size {
-        Size::Large | Size::Full => 14_787,
+        Size::Large | Size::Full => LARGEST_PLAN_BYTES,
         _ => 1,
     };
     let plans = plans_per_batch.min(PLAN_BYTES_PER_BATCH / largest_plan_bytes);

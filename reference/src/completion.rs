@@ -1,12 +1,16 @@
-//! The completion message: its fields and its bytes ("Messages", paragraph **Completion**).
+//! The completion message: its fields and its bytes ("Messages", paragraph **Completion**, and
+//! A.1).
 
 use crate::bits::BitWriter;
-use crate::case::{Case, EDITION, MOST_ITEMS};
+use crate::case::{Case, MOST_ITEMS, MOST_SHORTFALLS};
+use crate::edition::Edition;
 
 pub const KIND_COMPLETION: i128 = 3;
 
 /// "A completion of a plan for a case is any choice of whole numbers, of whatever size or sign,
 /// one for each field of the completion message between the zone count and the surplus."
+///
+/// Where an edition's messages lack a field, its choice is 0.
 #[derive(Clone, PartialEq, Eq, Debug)]
 pub struct Completion {
     pub intervals: Vec<IntervalChoices>,
@@ -17,10 +21,12 @@ pub struct Completion {
 #[derive(Clone, PartialEq, Eq, Debug)]
 pub struct IntervalChoices {
     pub devices: Vec<DeviceChoices>,
-    /// Per zone, in W: rgu, rgd, scr, nsc, rru, rrd.
-    pub shortfalls: Vec<[i128; 6]>,
+    /// Per zone, in W: rgu, rgd, scr, nsc, rru, rrd; then in var: qru, qrd.
+    pub shortfalls: Vec<[i128; MOST_SHORTFALLS]>,
     /// In kW.
     pub mismatch: i128,
+    /// In kvar.
+    pub reactive_mismatch: i128,
 }
 
 #[derive(Clone, Copy, PartialEq, Eq, Debug)]
@@ -33,29 +39,41 @@ pub struct DeviceChoices {
     pub blocks: [i128; MOST_ITEMS],
 }
 
-/// The size in bits of a completion for `case`, fill bits left out.
-pub fn completion_bits(case: &Case) -> usize {
+const SHORTFALL_BITS: usize = 33;
+const MISMATCH_BITS: usize = 23;
+
+/// The size in bits of a completion for a case of an edition, fill bits left out.
+pub fn completion_bits(edition: Edition, case: &Case) -> usize {
+    let counts = [edition.devices(), edition.intervals(), edition.zones()];
+    let header = 4 + 4 + counts.iter().map(|count| count.width).sum::<usize>();
     let per_device = 1 + 1 + 3 + MOST_ITEMS * 17;
-    let per_zone = 6 * 33;
-    let per_interval = case.devices.len() * per_device + case.zones.len() * per_zone + 23;
+    let per_zone = edition.shortfalls() * SHORTFALL_BITS;
+    let per_interval = case.devices.len() * per_device
+        + case.zones.len() * per_zone
+        + edition.mismatches() * MISMATCH_BITS;
     let energy_windows: usize = case
         .devices
         .iter()
         .map(|device| device.energy_windows.len())
         .sum();
-    (4 + 4 + 5 + 6 + 3) + case.intervals() * per_interval + energy_windows * 32 + 64
+    header + case.intervals() * per_interval + energy_windows * 32 + 64
 }
 
-/// The completion message.
-pub fn completion_bytes(case: &Case, completion: &Completion, surplus: i128) -> Vec<u8> {
+/// The completion message, in its case's edition.
+pub fn completion_bytes(
+    edition: Edition,
+    case: &Case,
+    completion: &Completion,
+    surplus: i128,
+) -> Vec<u8> {
     let mut message = BitWriter::new();
     message.put(4, KIND_COMPLETION);
-    message.put(4, EDITION);
-    message.put(5, case.devices.len() as i128);
-    message.put(6, case.intervals() as i128);
-    message.put(3, case.zones.len() as i128);
+    message.put(4, edition.figure());
+    message.put(edition.devices().width, case.devices.len() as i128);
+    message.put(edition.intervals().width, case.intervals() as i128);
+    message.put(edition.zones().width, case.zones.len() as i128);
     for interval in &completion.intervals {
-        put_interval(&mut message, interval);
+        put_interval(&mut message, edition, interval);
     }
     for &overrun in completion.overruns.iter().flatten() {
         message.put(32, overrun);
@@ -64,7 +82,9 @@ pub fn completion_bytes(case: &Case, completion: &Completion, surplus: i128) -> 
     message.into_bytes()
 }
 
-fn put_interval(message: &mut BitWriter, interval: &IntervalChoices) {
+/// "the reactive shortfalls (var, 33 bits each, after the zone's six) and mismatch (23 bits, after
+/// the real one) too".
+fn put_interval(message: &mut BitWriter, edition: Edition, interval: &IntervalChoices) {
     for device in &interval.devices {
         message.put(1, device.started);
         message.put(1, device.stopped);
@@ -73,8 +93,13 @@ fn put_interval(message: &mut BitWriter, interval: &IntervalChoices) {
             message.put(17, power);
         }
     }
-    for &shortfall in interval.shortfalls.iter().flatten() {
-        message.put(33, shortfall);
+    for shortfalls in &interval.shortfalls {
+        for &shortfall in &shortfalls[..edition.shortfalls()] {
+            message.put(SHORTFALL_BITS, shortfall);
+        }
     }
-    message.put(23, interval.mismatch);
+    let mismatches = [interval.mismatch, interval.reactive_mismatch];
+    for &mismatch in &mismatches[..edition.mismatches()] {
+        message.put(MISMATCH_BITS, mismatch);
+    }
 }

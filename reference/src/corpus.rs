@@ -5,27 +5,30 @@ use std::fs;
 use std::path::Path;
 
 use crate::batch::{append_length, append_message, join, run, LONGEST_MESSAGE};
-use crate::case::{Case, Status, MOST_DEVICES, MOST_INTERVALS, MOST_STATES, MOST_ZONES};
+use crate::case::{Case, Link, Status, MOST_DEVICES, MOST_INTERVALS, MOST_STATES, MOST_ZONES};
 use crate::census::Census;
 use crate::edges::Edges;
+use crate::edition::Edition;
 use crate::encode::{encode_case, encode_plan, Encoded, Field};
-use crate::generate::batches::{random_batch, spoil_framing};
+use crate::generate::batches::{plan_of_another_edition, random_batch, spoil_framing};
 use crate::generate::breaks::{break_at, metered_plan, plan_breaking};
 use crate::generate::damage::{
-    contradict, cut_at, give_states, values_out_of_range, with_fill_bit, with_surplus_bytes,
-    with_value, Contradiction, CONTRADICTIONS, MOST_STATES_SAID,
+    contradict, contradictions, cut_at, give_states, values_out_of_range, with_fill_bit,
+    with_other_edition, with_surplus_bytes, with_value, Contradiction, MOST_STATES_SAID,
 };
 use crate::generate::device::Scale;
-use crate::generate::extreme::{most_breaches_day, very_high_surplus_day, very_low_surplus_day};
+use crate::generate::extreme::{
+    costly_reactive_reserves_day, most_breaches_day, very_high_surplus_day, very_low_surplus_day,
+};
 use crate::generate::plans::{good_plan, wild_plan};
-use crate::generate::sample::{random_sample, sample_of, Sample};
+use crate::generate::sample::{random_sample, sample_in, sample_of, Sample};
 use crate::generate::schedule::Schedule;
 use crate::generate::shape::{Shape, Size};
 use crate::packed::{output, pack, unpack};
 use crate::plan::{Plan, Setting};
 use crate::rng::Rng;
 use crate::tables;
-use crate::worked_day::{example_batch, lettered_days};
+use crate::worked_day::{example_batch, lettered_days, reactive_days, Day};
 
 pub const DEFAULT_SEED: u64 = 20_260;
 
@@ -101,11 +104,13 @@ struct Part {
 
 type Maker = fn(&mut Rng) -> Vec<Vec<u8>>;
 
-/// Every part, made from its own random numbers so that none depends on the others.
-const PARTS: [(&str, Maker); 12] = [
-    ("the paper's example batch and days (a) to (m)", |_| {
-        worked_days()
-    }),
+/// Every part, made from its own random numbers so that none depends on the others. Each has
+/// batches of both editions.
+const PARTS: [(&str, Maker); 13] = [
+    (
+        "the paper's example batch, days (a) to (m), worked days of edition 2",
+        |_| worked_days(),
+    ),
     ("tiny days at the edges of the wording", |_| edge_days()),
     ("framing, empty and misplaced messages", framing_batches),
     ("cases cut in every kind of field", cut_cases),
@@ -129,6 +134,7 @@ const PARTS: [(&str, Maker); 12] = [
         cases_with_many_states,
     ),
     ("metered days: plans with many breaches", metered_days),
+    ("plans and cases of the other edition", mixed_editions),
 ];
 
 fn parts_of(seed: u64) -> Vec<Part> {
@@ -143,19 +149,23 @@ fn parts_of(seed: u64) -> Vec<Part> {
 }
 
 /// A batch of a case and plans of it.
-fn batch_of(case: &Case, plans: &[Plan]) -> Vec<u8> {
-    let mut batch = join(&[encode_case(case).bytes]);
+fn batch_of(edition: Edition, case: &Case, plans: &[Plan]) -> Vec<u8> {
+    let mut batch = join(&[encode_case(edition, case).bytes]);
     for plan in plans {
-        append_message(&mut batch, &encode_plan(plan).bytes);
+        append_message(&mut batch, &encode_plan(edition, plan).bytes);
     }
     batch
 }
 
+fn batch_of_day(day: &Day) -> Vec<u8> {
+    let (case, plan) = day.messages();
+    join(&[case, plan])
+}
+
 fn worked_days() -> Vec<Vec<u8>> {
     let mut batches = vec![example_batch()];
-    for (_, day) in lettered_days() {
-        batches.push(batch_of(&day.case, &[day.plan]));
-    }
+    batches.extend(lettered_days().iter().map(|(_, day)| batch_of_day(day)));
+    batches.extend(reactive_days().iter().map(|(_, day)| batch_of_day(day)));
     batches
 }
 
@@ -166,22 +176,26 @@ fn edge_days() -> Vec<Vec<u8>> {
         .collect()
 }
 
-/// A case with every kind of field, as small as that allows.
-fn case_with_every_field(rng: &mut Rng) -> Sample {
+/// A case with every kind of field that the edition's devices can have together, as small as that
+/// allows: in edition 2 one device with two lines and one with an equality.
+fn case_with_every_field(rng: &mut Rng, edition: Edition) -> Sample {
     let shape = Shape {
         size: Size::Small,
         devices: 2,
-        intervals: 2,
+        intervals: 1 + rng.below(3),
         zones: 1 + rng.below(MOST_ZONES - 1),
     };
     loop {
-        let sample = sample_of(rng, &shape, Scale::Low);
-        let has_all = sample.case.devices.iter().any(|device| {
+        let sample = sample_of(rng, edition, &shape, Scale::Low);
+        let has = |holds: fn(&Link) -> bool| sample.case.devices.iter().any(|d| holds(&d.link));
+        let has_every_link = has(|link| matches!(link, Link::TwoLines { .. }))
+            && has(|link| matches!(link, Link::Equality(_)));
+        let has_every_list = sample.case.devices.iter().any(|device| {
             !device.startup_states.is_empty()
                 && !device.start_windows.is_empty()
                 && !device.energy_windows.is_empty()
         });
-        if has_all {
+        if has_every_list && (has_every_link || !edition.has_reactive_power()) {
             return sample;
         }
     }
@@ -189,8 +203,8 @@ fn case_with_every_field(rng: &mut Rng) -> Sample {
 
 fn framing_batches(rng: &mut Rng) -> Vec<Vec<u8>> {
     let sample = random_sample(rng, Size::Small);
-    let case = encode_case(&sample.case).bytes;
-    let plan = encode_plan(&good_plan(rng, &sample)).bytes;
+    let case = encode_case(sample.edition, &sample.case).bytes;
+    let plan = encode_plan(sample.edition, &good_plan(rng, &sample)).bytes;
     let whole = join(&[&case, &plan]);
     let mut batches = vec![
         Vec::new(),
@@ -279,13 +293,27 @@ fn can_be_cut(field: &Field) -> bool {
 /// Fields of a case that no byte ends before or inside: bits 4 to 7 and 19 to 21.
 const NEVER_CUT: [&str; 2] = ["case edition", "zones"];
 
+/// What is made of each edition, one behind the other.
+fn of_each_edition(
+    rng: &mut Rng,
+    make: impl Fn(&mut Rng, Edition) -> Vec<Vec<u8>>,
+) -> Vec<Vec<u8>> {
+    let editions = Edition::ALL.into_iter();
+    editions.flat_map(|edition| make(rng, edition)).collect()
+}
+
+fn cut_cases(rng: &mut Rng) -> Vec<Vec<u8>> {
+    of_each_edition(rng, cut_cases_in)
+}
+
 /// A case cut in each kind of field; of several cases, because a field of few bits can be cut only
 /// where a byte ends at it.
-fn cut_cases(rng: &mut Rng) -> Vec<Vec<u8>> {
+fn cut_cases_in(rng: &mut Rng, edition: Edition) -> Vec<Vec<u8>> {
     let mut cut_names = Vec::new();
     let mut batches = Vec::new();
     loop {
-        let message = encode_case(&case_with_every_field(rng).case);
+        let sample = case_with_every_field(rng, edition);
+        let message = encode_case(edition, &sample.case);
         let new = |field: &Field| can_be_cut(field) && !cut_names.contains(&field.name);
         for field in one_field_of_each_name(rng, &message, new) {
             if let Some(cut) = cut_at(rng, &message, &field) {
@@ -300,7 +328,11 @@ fn cut_cases(rng: &mut Rng) -> Vec<Vec<u8>> {
 }
 
 fn cases_out_of_range(rng: &mut Rng) -> Vec<Vec<u8>> {
-    let message = encode_case(&case_with_every_field(rng).case);
+    of_each_edition(rng, cases_out_of_range_in)
+}
+
+fn cases_out_of_range_in(rng: &mut Rng, edition: Edition) -> Vec<Vec<u8>> {
+    let message = encode_case(edition, &case_with_every_field(rng, edition).case);
     let fields = one_field_of_each_name(rng, &message, |_| true);
     fields
         .iter()
@@ -313,31 +345,35 @@ fn cases_out_of_range(rng: &mut Rng) -> Vec<Vec<u8>> {
 }
 
 fn cases_with_later_faults(rng: &mut Rng) -> Vec<Vec<u8>> {
+    of_each_edition(rng, cases_with_later_faults_in)
+}
+
+fn cases_with_later_faults_in(rng: &mut Rng, edition: Edition) -> Vec<Vec<u8>> {
     let mut cases = Vec::new();
     for _ in 0..4 {
-        let message = encode_case(&case_with_every_field(rng).case);
+        let message = encode_case(edition, &case_with_every_field(rng, edition).case);
         cases.push(with_surplus_bytes(rng, &message.bytes));
         if let Some(filled) = with_fill_bit(rng, &message) {
             cases.push(with_surplus_bytes(rng, &filled));
             cases.push(filled);
         }
     }
-    for contradiction in CONTRADICTIONS {
+    for &contradiction in contradictions(edition) {
         for _ in 0..3 {
-            let mut case = case_with_every_field(rng).case;
+            let mut case = case_with_every_field(rng, edition).case;
             while !contradict(rng, &mut case, contradiction) {}
-            cases.push(encode_case(&case).bytes);
+            cases.push(encode_case(edition, &case).bytes);
         }
     }
     for _ in 0..6 {
-        cases.extend(several_contradictions(rng));
+        cases.extend(several_contradictions(rng, edition));
     }
-    cases.extend(zone_bits_above_every_count(rng));
+    cases.extend(zone_bits_above_every_count(rng, edition));
     cases.into_iter().map(|case| join(&[case])).collect()
 }
 
 /// For each zone count and each zone above it, a case with that zone's bit alone set above it.
-fn zone_bits_above_every_count(rng: &mut Rng) -> Vec<Vec<u8>> {
+fn zone_bits_above_every_count(rng: &mut Rng, edition: Edition) -> Vec<Vec<u8>> {
     let mut cases = Vec::new();
     for zones in 0..MOST_ZONES {
         for z in zones..MOST_ZONES {
@@ -347,22 +383,22 @@ fn zone_bits_above_every_count(rng: &mut Rng) -> Vec<Vec<u8>> {
                 intervals: 1,
                 zones,
             };
-            let mut case = sample_of(rng, &shape, Scale::Low).case;
+            let mut case = sample_of(rng, edition, &shape, Scale::Low).case;
             case.devices[1].zone_bits[z] = true;
-            cases.push(encode_case(&case).bytes);
+            cases.push(encode_case(edition, &case).bytes);
         }
     }
     cases
 }
 
 /// A case with several contradictions, as it stands and with a fault that comes before them.
-fn several_contradictions(rng: &mut Rng) -> Vec<Vec<u8>> {
-    let mut case: Case = case_with_every_field(rng).case;
+fn several_contradictions(rng: &mut Rng, edition: Edition) -> Vec<Vec<u8>> {
+    let mut case: Case = case_with_every_field(rng, edition).case;
     for _ in 0..4 {
-        let contradiction = rng.pick(&CONTRADICTIONS);
+        let contradiction = rng.pick(contradictions(edition));
         contradict(rng, &mut case, contradiction);
     }
-    let message = encode_case(&case);
+    let message = encode_case(edition, &case);
     let last = message.fields[message.fields.len() - 1];
     let mut cases = vec![
         message.bytes.clone(),
@@ -375,18 +411,23 @@ fn several_contradictions(rng: &mut Rng) -> Vec<Vec<u8>> {
 
 /// Batches of one case and many damaged plans, a good one at the end.
 fn damaged_plans(rng: &mut Rng) -> Vec<Vec<u8>> {
-    (0..6)
-        .map(|_| {
-            let sample = random_sample(rng, Size::Small);
-            let message = encode_plan(&good_plan(rng, &sample));
-            let mut batch = join(&[encode_case(&sample.case).bytes]);
-            for plan in damaged_forms(rng, &message) {
-                append_message(&mut batch, &plan);
-            }
-            append_message(&mut batch, &message.bytes);
-            batch
-        })
-        .collect()
+    const BATCHES_PER_EDITION: usize = 3;
+    of_each_edition(rng, |rng, edition| {
+        (0..BATCHES_PER_EDITION)
+            .map(|_| damaged_plans_of_a_case(rng, edition))
+            .collect()
+    })
+}
+
+fn damaged_plans_of_a_case(rng: &mut Rng, edition: Edition) -> Vec<u8> {
+    let sample = sample_in(rng, edition, Size::Small);
+    let message = encode_plan(edition, &good_plan(rng, &sample));
+    let mut batch = join(&[encode_case(edition, &sample.case).bytes]);
+    for plan in damaged_forms(rng, &message) {
+        append_message(&mut batch, &plan);
+    }
+    append_message(&mut batch, &message.bytes);
+    batch
 }
 
 /// A plan cut in each kind of field, out of range in each kind, with every other count, with fill
@@ -416,22 +457,21 @@ fn damaged_forms(rng: &mut Rng, message: &Encoded) -> Vec<Vec<u8>> {
     forms
 }
 
-/// For each rule, batches of one case, a good plan and plans broken at the rule.
+/// For each rule, batches of one case of either edition, where both have the rule, a good plan and
+/// plans broken at the rule.
 fn broken_plans(rng: &mut Rng) -> Vec<Vec<u8>> {
     const BATCHES_PER_RULE: usize = 6;
-    const PLANS_PER_BATCH: usize = 4;
     let mut batches = Vec::new();
-    for rule in 1..=20 {
+    for rule in 1..=Edition::NEWEST.last_rule() {
+        let having: Vec<Edition> = Edition::ALL
+            .into_iter()
+            .filter(|edition| rule <= edition.last_rule())
+            .collect();
         let mut made = 0;
         while made < BATCHES_PER_RULE {
-            let size = rng.pick(&[Size::Tiny, Size::Small, Size::Medium]);
-            let sample = random_sample(rng, size);
-            let mut plans: Vec<Plan> = (0..PLANS_PER_BATCH)
-                .filter_map(|_| plan_breaking(rng, &sample, rule))
-                .collect();
-            if !plans.is_empty() {
-                plans.push(good_plan(rng, &sample));
-                batches.push(batch_of(&sample.case, &plans));
+            let edition = having[made % having.len()];
+            if let Some(batch) = batch_broken_at(rng, edition, rule) {
+                batches.push(batch);
                 made += 1;
             }
         }
@@ -439,36 +479,59 @@ fn broken_plans(rng: &mut Rng) -> Vec<Vec<u8>> {
     batches
 }
 
+/// A batch with plans broken at a rule, if the case drawn lets any be.
+fn batch_broken_at(rng: &mut Rng, edition: Edition, rule: u8) -> Option<Vec<u8>> {
+    const PLANS: usize = 4;
+    let size = rng.pick(&[Size::Tiny, Size::Small, Size::Medium]);
+    let sample = sample_in(rng, edition, size);
+    let mut plans: Vec<Plan> = (0..PLANS)
+        .filter_map(|_| plan_breaking(rng, &sample, rule))
+        .collect();
+    if plans.is_empty() {
+        return None;
+    }
+    plans.push(good_plan(rng, &sample));
+    Some(batch_of(edition, &sample.case, &plans))
+}
+
 const LAST_INTERVAL: usize = MOST_INTERVALS - 1;
 const LAST_DEVICE: usize = MOST_DEVICES - 1;
 
 /// Plans of the largest counts that keep every rule until device 16 in interval 48: there they are
-/// broken at one of rules 5 to 19, or switched off, which breaks rule 1 where the device must be on.
+/// broken at one of rules 5 to 19 or 21 to 26, or switched off, which breaks rule 1 where the
+/// device must be on.
 fn broken_at_the_end(rng: &mut Rng) -> Vec<Vec<u8>> {
-    let mut batches = Vec::new();
-    for on_at_the_end in [true, false] {
-        let sample = sample_ending(rng, on_at_the_end);
-        let mut plans = Vec::new();
-        for rule in 5..=19 {
-            let mut plan = good_plan(rng, &sample);
-            if break_at(rng, &sample, &mut plan, rule, (LAST_INTERVAL, LAST_DEVICE)) {
-                plans.push(plan);
-            }
-        }
+    let endings = [
+        (Edition::One, true),
+        (Edition::One, false),
+        (Edition::Two, true),
+    ];
+    endings
+        .map(|(edition, on)| batch_broken_at_the_end(rng, edition, on))
+        .to_vec()
+}
+
+fn batch_broken_at_the_end(rng: &mut Rng, edition: Edition, on_at_the_end: bool) -> Vec<u8> {
+    let sample = sample_ending(rng, edition, on_at_the_end);
+    let mut plans = Vec::new();
+    for rule in 5..=edition.last_rule() {
         let mut plan = good_plan(rng, &sample);
-        plan.intervals[LAST_INTERVAL][LAST_DEVICE] = Setting::default();
-        plans.push(plan);
-        batches.push(batch_of(&sample.case, &plans));
+        if break_at(rng, &sample, &mut plan, rule, (LAST_INTERVAL, LAST_DEVICE)) {
+            plans.push(plan);
+        }
     }
-    batches
+    let mut plan = good_plan(rng, &sample);
+    plan.intervals[LAST_INTERVAL][LAST_DEVICE] = Setting::default();
+    plans.push(plan);
+    batch_of(edition, &sample.case, &plans)
 }
 
 /// A case of the largest counts whose device 16 must be on, or is off, in interval 48.
-fn sample_ending(rng: &mut Rng, on_at_the_end: bool) -> Sample {
+fn sample_ending(rng: &mut Rng, edition: Edition, on_at_the_end: bool) -> Sample {
     let ends_on = |schedule: &Schedule| schedule.commitment.on[LAST_INTERVAL];
     loop {
         let shape = Shape::random(rng, Size::Full);
-        let mut sample = sample_of(rng, &shape, Scale::Calm);
+        let mut sample = sample_of(rng, edition, &shape, Scale::Calm);
         let schedules = &sample.pools[LAST_DEVICE].good;
         if schedules
             .iter()
@@ -488,23 +551,33 @@ fn random_batches(rng: &mut Rng) -> Vec<Vec<u8>> {
         (Size::Tiny, 30, 20),
         (Size::Small, 60, 20),
         (Size::Medium, 25, 12),
-        (Size::Large, 3, 6),
-        (Size::Full, 2, 6),
+        (Size::Large, 3, 5),
+        (Size::Full, 2, 5),
     ] {
         for _ in 0..count {
             batches.push(random_batch(rng, size, plans));
         }
     }
-    for day in [very_low_surplus_day(), very_high_surplus_day()] {
-        batches.push(batch_of(&day.case, &[day.plan]));
-    }
-    for scale in [Scale::Low, Scale::Extreme] {
-        let shape = Shape::random(rng, Size::Full);
-        let sample = sample_of(rng, &shape, scale);
-        let plans = [(); 5].map(|_| good_plan(rng, &sample));
-        batches.push(batch_of(&sample.case, &plans));
+    batches.extend(extreme_days().iter().map(batch_of_day));
+    for edition in Edition::ALL {
+        for scale in [Scale::Low, Scale::Extreme] {
+            let shape = Shape::random(rng, Size::Full);
+            let sample = sample_of(rng, edition, &shape, scale);
+            let plans = [(); 2].map(|_| good_plan(rng, &sample));
+            batches.push(batch_of(edition, &sample.case, &plans));
+        }
     }
     batches
+}
+
+/// The lowest and the highest surpluses.
+fn extreme_days() -> Vec<Day> {
+    vec![
+        very_low_surplus_day(Edition::One),
+        very_low_surplus_day(Edition::Two),
+        very_high_surplus_day(),
+        costly_reactive_reserves_day(),
+    ]
 }
 
 /// Cases of up to three states at a device, with a plan, and of four to seven, which are refused
@@ -512,28 +585,28 @@ fn random_batches(rng: &mut Rng) -> Vec<Vec<u8>> {
 fn cases_with_many_states(rng: &mut Rng) -> Vec<Vec<u8>> {
     let mut batches = Vec::new();
     for count in 0..=MOST_STATES_SAID {
-        for j in [0, 1] {
-            let mut sample = case_with_every_field(rng);
+        for (j, edition) in Edition::ALL.into_iter().enumerate() {
+            let mut sample = case_with_every_field(rng, edition);
             give_states(&mut sample.case, j, count);
             let plans = [(); 3].map(|_| good_plan(rng, &sample));
-            batches.push(batch_of(&sample.case, &plans));
+            batches.push(batch_of(edition, &sample.case, &plans));
             if count > MOST_STATES {
                 while !contradict(rng, &mut sample.case, Contradiction::PminAbovePmax) {}
-                batches.push(batch_of(&sample.case, &plans[..1]));
+                batches.push(batch_of(edition, &sample.case, &plans[..1]));
             }
         }
     }
     // The largest case that could be stored: four states at each of 16 devices.
-    let mut largest = very_low_surplus_day();
+    let mut largest = very_low_surplus_day(Edition::One);
     for j in 0..MOST_DEVICES {
         give_states(&mut largest.case, j, MOST_STATES + 1);
     }
-    batches.push(batch_of(&largest.case, &[largest.plan]));
+    batches.push(batch_of_day(&largest));
     batches
 }
 
 /// "Dispatchers load yesterday's meters as a plan and want all the breaches": plans with many, wild
-/// ones, and the one with the most that there can be.
+/// ones, and the ones with the most that there can be.
 fn metered_days(rng: &mut Rng) -> Vec<Vec<u8>> {
     let mut batches = Vec::new();
     for (size, count, plans) in [
@@ -544,13 +617,40 @@ fn metered_days(rng: &mut Rng) -> Vec<Vec<u8>> {
     ] {
         for _ in 0..count {
             let sample = random_sample(rng, size);
+            let Sample { edition, case, .. } = &sample;
             let mut metered: Vec<Plan> = (0..plans).map(|_| metered_plan(rng, &sample)).collect();
-            metered.push(wild_plan(rng, &sample.case));
-            batches.push(batch_of(&sample.case, &metered));
+            metered.push(wild_plan(rng, *edition, case));
+            batches.push(batch_of(*edition, case, &metered));
         }
     }
-    let most = most_breaches_day();
-    batches.push(batch_of(&most.case, &[most.plan]));
+    for edition in Edition::ALL {
+        batches.push(batch_of_day(&most_breaches_day(edition)));
+    }
+    batches
+}
+
+/// "A plan's edition equals its case's, else 2": plans of each edition for a case of each, and the
+/// same content in both editions. A case whose header names the other edition is read with that
+/// edition's fields.
+fn mixed_editions(rng: &mut Rng) -> Vec<Vec<u8>> {
+    let mut batches = Vec::new();
+    for edition in Edition::ALL {
+        for size in [Size::Tiny, Size::Small, Size::Small, Size::Medium] {
+            let sample = sample_in(rng, edition, size);
+            let good = encode_plan(edition, &good_plan(rng, &sample)).bytes;
+            let other = plan_of_another_edition(rng, &sample);
+            let case = encode_case(edition, &sample.case);
+            batches.push(join(&[&case.bytes, &other, &good, &other]));
+            batches.push(join(&[with_other_edition(rng, &case), other, good]));
+        }
+    }
+    for size in [Size::Tiny, Size::Small, Size::Medium] {
+        let sample = sample_in(rng, Edition::One, size);
+        let plans = [(); 3].map(|_| good_plan(rng, &sample));
+        for edition in Edition::ALL {
+            batches.push(batch_of(edition, &sample.case, &plans));
+        }
+    }
     batches
 }
 
@@ -581,7 +681,13 @@ fn readme(seed: u64, parts: &[Part], stdin: &[u8], stdout: &str) -> String {
         totals_paragraph(&census),
         table(
             "| Rule | Plans, by the first rule broken | Breaches listed |",
-            (1..=20).map(|rule| rule_row(&census, rule)),
+            (1..=26).map(|rule| rule_row(&census, rule)),
+        ),
+        table(
+            "| Edition | Cases read | Plans accepted | Broken | Refused |",
+            Edition::ALL
+                .into_iter()
+                .map(|edition| edition_row(&census, edition)),
         ),
         table(
             "| Number | Cases refused | Plans refused | Framing |",
@@ -643,6 +749,18 @@ fn rule_row(census: &Census, rule: usize) -> String {
     )
 }
 
+fn edition_row(census: &Census, edition: Edition) -> String {
+    let of = census.of(edition);
+    format!(
+        "| {} | {} | {} | {} | {} |",
+        edition.figure(),
+        of.cases,
+        of.accepted,
+        of.broken,
+        of.refused
+    )
+}
+
 fn number_row(census: &Census, number: usize) -> String {
     format!(
         "| {number} | {} | {} | {} |",
@@ -671,5 +789,5 @@ const NUMBERS_NOTE: &str = "\
 A plan has no field that could contradict another, so number 5 is never a plan's. Number 7 needs a
 short buffer, which the batch program has not; the reference's own tests hold it. Two kinds of field
 of a case (its edition and its zone count) and one of a plan (its edition) are never cut: no byte
-ends before or inside them. Framing has the numbers 1 and 4 alone.
+ends before or inside them. Framing has the numbers 1 and 4 alone. Rules 21 to 26 are edition 2's.
 ";

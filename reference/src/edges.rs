@@ -3,14 +3,21 @@
 use std::collections::BTreeMap;
 
 use crate::batch::{split, Split};
-use crate::case::{read_case, Case, Device, EnergyKind, EnergyWindow, Side, MOST_STATES};
+use crate::case::{
+    read_case, Case, Device, EnergyKind, EnergyWindow, Side, MOST_SHORTFALLS, MOST_STATES,
+};
 use crate::clock::{spans, Span};
 use crate::completion::{Completion, DeviceChoices};
+use crate::edition::Edition;
 use crate::energy::EnergyRule;
 use crate::forced::{forced, Forced};
 use crate::ours::{complete, complete_by, downtime};
 use crate::plan::{read_plan, Plan};
 use crate::rules::{broken_rules, most_fall, most_rise, Place};
+
+mod reactive;
+
+use reactive::{REACTIVE_ACCEPTED_EDGES, REACTIVE_BROKEN_EDGES};
 
 /// An edge's name, and whether a day shows it.
 type Edge<D> = (&'static str, fn(&D) -> bool);
@@ -24,8 +31,10 @@ pub struct Edges {
 impl Edges {
     /// Every edge with its count, 0 included.
     pub fn in_order(&self) -> Vec<(&'static str, usize)> {
-        let of_accepted = ACCEPTED_EDGES.iter().map(|(name, _)| *name);
-        let of_broken = BROKEN_EDGES.iter().map(|(name, _)| *name);
+        let accepted = [ACCEPTED_EDGES, REACTIVE_ACCEPTED_EDGES];
+        let broken = [BROKEN_EDGES, REACTIVE_BROKEN_EDGES];
+        let of_accepted = accepted.into_iter().flatten().map(|(name, _)| *name);
+        let of_broken = broken.into_iter().flatten().map(|(name, _)| *name);
         of_accepted
             .chain(of_broken)
             .map(|name| (name, self.counts.get(name).copied().unwrap_or(0)))
@@ -37,7 +46,7 @@ impl Edges {
         let Split::Message { message, mut next } = split(batch, 0) else {
             return;
         };
-        let Ok(case) = read_case(message) else {
+        let Ok((edition, case)) = read_case(message) else {
             return;
         };
         while let Split::Message {
@@ -45,41 +54,40 @@ impl Edges {
             next: then,
         } = split(batch, next)
         {
-            if let Ok(plan) = read_plan(&case, message) {
-                self.add_plan(&case, &plan);
+            if let Ok(plan) = read_plan(edition, &case, message) {
+                self.add_plan(edition, &case, &plan);
             }
             next = then;
         }
     }
 
-    fn add_plan(&mut self, case: &Case, plan: &Plan) {
+    fn add_plan(&mut self, edition: Edition, case: &Case, plan: &Plan) {
         let spans = &spans(&case.durations);
         let forced = &forced(case, spans, plan);
         let breaches: Vec<Place> = broken_rules(case, spans, plan, forced).collect();
         if breaches.is_empty() {
             let ours = complete(case, spans, plan, forced);
-            self.count(
-                ACCEPTED_EDGES,
-                &Day {
-                    case,
-                    spans,
-                    plan,
-                    forced,
-                    completion: &ours.completion,
-                    surplus: ours.surplus,
-                },
-            );
+            let day = Day {
+                edition,
+                case,
+                spans,
+                plan,
+                forced,
+                completion: &ours.completion,
+                surplus: ours.surplus,
+            };
+            self.count(ACCEPTED_EDGES, &day);
+            self.count(REACTIVE_ACCEPTED_EDGES, &day);
         } else {
-            self.count(
-                BROKEN_EDGES,
-                &BrokenDay {
-                    case,
-                    spans,
-                    plan,
-                    forced,
-                    breaches,
-                },
-            );
+            let day = BrokenDay {
+                case,
+                spans,
+                plan,
+                forced,
+                breaches,
+            };
+            self.count(BROKEN_EDGES, &day);
+            self.count(REACTIVE_BROKEN_EDGES, &day);
         }
     }
 
@@ -94,6 +102,7 @@ impl Edges {
 
 /// An accepted plan with all that follows from it.
 struct Day<'a> {
+    edition: Edition,
     case: &'a Case,
     spans: &'a [Span],
     plan: &'a Plan,
@@ -150,7 +159,7 @@ impl<'a> Day<'a> {
         })
     }
 
-    fn any_shortfalls(&self, shows: impl Fn(&[i128; 6]) -> bool) -> bool {
+    fn any_shortfalls(&self, shows: impl Fn(&[i128; MOST_SHORTFALLS]) -> bool) -> bool {
         self.completion
             .intervals
             .iter()

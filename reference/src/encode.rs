@@ -3,9 +3,10 @@
 
 use crate::bits::{BitWriter, HIGHEST_POWER};
 use crate::case::{
-    Case, Device, EnergyKind, Side, StartupState, Status, Terms, Zone, EDITION, KIND_CASE,
+    Case, Device, EnergyKind, Link, LinkLine, Side, StartupState, Status, Terms, Zone, KIND_CASE,
     MOST_STATES,
 };
+use crate::edition::{CountField, Edition};
 use crate::plan::{Plan, Setting, KIND_PLAN};
 
 /// Which number a wrong value of a field is refused with.
@@ -107,6 +108,11 @@ impl Encoder {
         self.put(name, Class::Count, width, range, count as i128);
     }
 
+    /// A count of a case's header.
+    fn header_count(&mut self, name: &'static str, field: CountField, least: i128, count: usize) {
+        self.count(name, field.width, (least, field.most as i128), count);
+    }
+
     fn figure(&mut self, name: &'static str, width: usize, high: i128, value: i128) {
         self.put(name, Class::Figure, width, (0, high), value);
     }
@@ -123,6 +129,10 @@ impl Encoder {
         self.figure(name, 17, HIGHEST_POWER, value);
     }
 
+    fn reactive_power(&mut self, name: &'static str, value: i128) {
+        self.signed(name, 18, HIGHEST_POWER, value);
+    }
+
     fn into_encoded(self) -> Encoded {
         Encoded {
             bytes: self.message.into_bytes(),
@@ -135,15 +145,21 @@ const PRODUCTS: [&str; 8] = [
     "rgu", "rgd", "scr", "nsc", "rru_on", "rru_off", "rrd_on", "rrd_off",
 ];
 
-/// The message of a case. Contradictions (number 5) and a device's startup states, also where
-/// they are more than three, are written as they stand.
-pub fn encode_case(case: &Case) -> Encoded {
+/// The message of a case in an edition. Contradictions (number 5) and a device's startup states,
+/// also where they are more than three, are written as they stand. Figures that the edition lacks
+/// must have their neutral values.
+pub fn encode_case(edition: Edition, case: &Case) -> Encoded {
+    assert!(
+        edition.has_reactive_power() || !case.has_reactive_power(),
+        "edition 1 cannot say a reactive figure"
+    );
     let mut message = Encoder::default();
     message.kind("case kind", KIND_CASE);
-    message.kind("case edition", EDITION);
-    message.count("devices", 5, (1, 16), case.devices.len());
-    message.count("intervals", 6, (1, 48), case.intervals());
-    message.count("zones", 3, (0, 4), case.zones.len());
+    let editions = (Edition::ALL[0].figure(), Edition::NEWEST.figure());
+    message.put("case edition", Class::Kind, 4, editions, edition.figure());
+    message.header_count("devices", edition.devices(), 1, case.devices.len());
+    message.header_count("intervals", edition.intervals(), 1, case.intervals());
+    message.header_count("zones", edition.zones(), 0, case.zones.len());
     message.price("mismatch price", 14, 10_000, case.mismatch_price);
     message.price("overrun price", 14, 10_000, case.overrun_price);
     for &duration in &case.durations {
@@ -151,37 +167,42 @@ pub fn encode_case(case: &Case) -> Encoded {
         message.price("d/2", 8, 180, duration / 2);
     }
     for zone in &case.zones {
-        put_zone(&mut message, zone);
+        put_zone(&mut message, edition, zone);
     }
     for device in &case.devices {
-        put_device(&mut message, device);
+        put_device(&mut message, edition, device);
     }
     message.into_encoded()
 }
 
-fn put_zone(message: &mut Encoder, zone: &Zone) {
+fn put_zone(message: &mut Encoder, edition: Edition, zone: &Zone) {
     const SHARES: [&str; 4] = ["rgu share", "rgd share", "scr share", "nsc share"];
-    const PRICES: [&str; 6] = [
+    const PRICES: [&str; 8] = [
         "rgu shortfall price",
         "rgd shortfall price",
         "scr shortfall price",
         "nsc shortfall price",
         "rru shortfall price",
         "rrd shortfall price",
+        "qru shortfall price",
+        "qrd shortfall price",
     ];
+    const MINIMA: [&str; 4] = ["rru minimum", "rrd minimum", "qru minimum", "qrd minimum"];
     for (name, share) in SHARES.into_iter().zip(zone.shares) {
         message.figure(name, 10, 1_000, share);
     }
-    for (name, price) in PRICES.into_iter().zip(zone.shortfall_prices) {
+    let prices = &zone.shortfall_prices[..edition.shortfalls()];
+    for (name, &price) in PRICES.into_iter().zip(prices) {
         message.price(name, 7, 100, price);
     }
-    for [rru, rrd] in &zone.ramping_minima {
-        message.figure("rru minimum", 23, 6_400_000, *rru);
-        message.figure("rrd minimum", 23, 6_400_000, *rrd);
+    for minima in &zone.minima {
+        for (name, &minimum) in MINIMA.into_iter().zip(&minima[..edition.minima()]) {
+            message.figure(name, 23, 6_400_000, minimum);
+        }
     }
 }
 
-fn put_device(message: &mut Encoder, device: &Device) {
+fn put_device(message: &mut Encoder, edition: Edition, device: &Device) {
     message.figure("side", 1, 1, i128::from(device.side == Side::Consuming));
     let zone_bits = device
         .zone_bits
@@ -200,6 +221,18 @@ fn put_device(message: &mut Encoder, device: &Device) {
     message.figure("on cost", 17, 100_000, device.on_cost);
     message.figure("start cost", 30, 1_000_000_000, device.start_cost);
     message.figure("stop cost", 30, 1_000_000_000, device.stop_cost);
+    put_reserve_limits(message, device);
+    put_startup_states(message, &device.startup_states);
+    put_windows(message, edition, device);
+    if edition.has_reactive_power() {
+        put_link(message, &device.link);
+    }
+    for terms in &device.terms {
+        put_terms(message, edition, terms);
+    }
+}
+
+fn put_reserve_limits(message: &mut Encoder, device: &Device) {
     const LIMITS: [&str; 8] = [
         "rgu limit",
         "rgd limit",
@@ -213,12 +246,15 @@ fn put_device(message: &mut Encoder, device: &Device) {
     for (name, limit) in LIMITS.into_iter().zip(device.reserve_limits.in_order()) {
         message.power(name, limit);
     }
-    put_startup_states(message, &device.startup_states);
+}
+
+fn put_windows(message: &mut Encoder, edition: Edition, device: &Device) {
     message.count("start windows", 3, (0, 4), device.start_windows.len());
+    let CountField { width, most } = edition.most_starts();
     for window in &device.start_windows {
         message.figure("start window start", 16, 65_535, window.start);
         message.figure("start window end", 16, 65_535, window.end);
-        message.figure("most starts", 6, 48, window.most_starts);
+        message.figure("most starts", width, most as i128, window.most_starts);
     }
     message.count("energy windows", 3, (0, 4), device.energy_windows.len());
     for window in &device.energy_windows {
@@ -228,9 +264,27 @@ fn put_device(message: &mut Encoder, device: &Device) {
         message.figure("energy window end", 16, 65_535, window.end);
         message.figure("energy", 32, 4_000_000_000, window.energy);
     }
-    for terms in &device.terms {
-        put_terms(message, terms);
+}
+
+fn put_link(message: &mut Encoder, link: &Link) {
+    let mut kind = |value| message.figure("link kind", 2, 2, value);
+    match link {
+        Link::None => kind(0),
+        Link::TwoLines { upper, lower } => {
+            kind(1);
+            put_link_line(message, ["upper offset", "upper slope"], upper);
+            put_link_line(message, ["lower offset", "lower slope"], lower);
+        }
+        Link::Equality(line) => {
+            kind(2);
+            put_link_line(message, ["equality offset", "equality slope"], line);
+        }
     }
+}
+
+fn put_link_line(message: &mut Encoder, [offset, slope]: [&'static str; 2], line: &LinkLine) {
+    message.reactive_power(offset, line.offset);
+    message.signed(slope, 15, 10_000, line.slope);
 }
 
 /// The states of a device behind their count, in the reading's range or not.
@@ -244,7 +298,7 @@ fn put_startup_states(message: &mut Encoder, states: &[StartupState]) {
     }
 }
 
-fn put_terms(message: &mut Encoder, terms: &Terms) {
+fn put_terms(message: &mut Encoder, edition: Edition, terms: &Terms) {
     let status = match terms.status {
         Status::Free => 0,
         Status::On => 1,
@@ -271,28 +325,44 @@ fn put_terms(message: &mut Encoder, terms: &Terms) {
     for (name, price) in PRICES.into_iter().zip(terms.reserve_prices.in_order()) {
         message.figure(name, 14, 10_000, price);
     }
+    if edition.has_reactive_power() {
+        message.reactive_power("qmin", terms.qmin);
+        message.reactive_power("qmax", terms.qmax);
+        message.figure("qru price", 14, 10_000, terms.reactive_prices.qru);
+        message.figure("qrd price", 14, 10_000, terms.reactive_prices.qrd);
+    }
 }
 
-/// The message of a plan. Its counts must be the plan's own.
-pub fn encode_plan(plan: &Plan) -> Encoded {
+/// The message of a plan in an edition. Its counts must be the plan's own.
+pub fn encode_plan(edition: Edition, plan: &Plan) -> Encoded {
+    assert!(
+        edition.has_reactive_power() || !plan.has_reactive_power(),
+        "edition 1 cannot say a reactive figure"
+    );
     let mut message = Encoder::default();
     let devices = plan.intervals[0].len();
     let intervals = plan.intervals.len();
     message.kind("plan kind", KIND_PLAN);
-    message.kind("plan edition", EDITION);
+    message.kind("plan edition", edition.figure());
     let only = |count: usize| (count as i128, count as i128);
-    message.count("plan devices", 5, only(devices), devices);
-    message.count("plan intervals", 6, only(intervals), intervals);
+    let (device_bits, interval_bits) = (edition.devices().width, edition.intervals().width);
+    message.count("plan devices", device_bits, only(devices), devices);
+    message.count("plan intervals", interval_bits, only(intervals), intervals);
     for setting in plan.intervals.iter().flatten() {
-        put_setting(&mut message, setting);
+        put_setting(&mut message, edition, setting);
     }
     message.into_encoded()
 }
 
-fn put_setting(message: &mut Encoder, setting: &Setting) {
+fn put_setting(message: &mut Encoder, edition: Edition, setting: &Setting) {
     message.figure("on", 1, 1, i128::from(setting.on));
     message.power("online power", setting.online_power);
     for (name, reserve) in PRODUCTS.into_iter().zip(setting.reserves.in_order()) {
         message.power(name, reserve);
+    }
+    if edition.has_reactive_power() {
+        message.reactive_power("q", setting.reactive_power);
+        message.power("qru", setting.reactive_reserves.qru);
+        message.power("qrd", setting.reactive_reserves.qrd);
     }
 }

@@ -12,7 +12,7 @@ pub enum Number {
     /// 4: "other field out of range".
     Range,
     /// 5: "pmin above pmax; window start after end; window end after the last E; zone bit above
-    /// the zone count".
+    /// the zone count"; and "A qmin above qmax is a contradiction at qmax."
     Contradiction,
     /// 6: "fill bit not 0, or first bit of a surplus byte".
     Fill,

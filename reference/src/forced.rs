@@ -1,4 +1,5 @@
-//! The figures a plan forces ("Forced figures"): starts, stops, startup and shutdown power.
+//! The figures a plan forces ("Forced figures"): starts, stops, startup and shutdown power, and the
+//! bracket of the reactive limits.
 //!
 //! Intervals and devices count from 0 here and in every module but [`crate::meets`]; places in
 //! verdicts count from 1.
@@ -17,6 +18,10 @@ pub struct Commitment {
     pub stopped: Vec<bool>,
     pub psu: Vec<i128>,
     pub psd: Vec<i128>,
+    /// The bracket of 000 (112) to (116) and (122) to (126), "u + Σ su + Σ sd" over the sets of
+    /// (205) and (208): u, one for each later start whose psu term is above 0, one for each stop so
+    /// far whose psd term is. It is a count, and 2 or more where trajectories overlap.
+    pub bracket: Vec<i128>,
 }
 
 /// The forced figures of one device.
@@ -53,23 +58,29 @@ pub fn commit(device: &Device, spans: &[Span], on: Vec<bool>) -> Commitment {
     let intervals = spans.len();
     let started: Vec<bool> = (0..intervals).map(|t| on[t] && !was_on(t)).collect();
     let stopped: Vec<bool> = (0..intervals).map(|t| !on[t] && was_on(t)).collect();
-    let psu = (0..intervals)
-        .map(|t| startup_power(device, spans, &started, t))
+    let of_starts: Vec<Vec<i128>> = (0..intervals)
+        .map(|t| startup_powers(device, spans, &started, t))
         .collect();
-    let psd = (0..intervals)
-        .map(|t| shutdown_power(device, spans, &stopped, t))
+    let of_stops: Vec<Vec<i128>> = (0..intervals)
+        .map(|t| shutdown_powers(device, spans, &stopped, t))
+        .collect();
+    let sum = |powers: &Vec<i128>| powers.iter().sum();
+    let bracket = (0..intervals)
+        .map(|t| i128::from(on[t]) + (of_starts[t].len() + of_stops[t].len()) as i128)
         .collect();
     Commitment {
         on,
         started,
         stopped,
-        psu,
-        psd,
+        psu: of_starts.iter().map(sum).collect(),
+        psd: of_stops.iter().map(sum).collect(),
+        bracket,
     }
 }
 
-/// "psu in t sums, over later t' with su, pmin(t') − starting ramp·(E(t') − E(t)) where above 0."
-fn startup_power(device: &Device, spans: &[Span], started: &[bool], t: usize) -> i128 {
+/// The terms of "psu in t sums, over later t' with su, pmin(t') − starting ramp·(E(t') − E(t))
+/// where above 0."
+fn startup_powers(device: &Device, spans: &[Span], started: &[bool], t: usize) -> Vec<i128> {
     (t + 1..spans.len())
         .filter(|&later| started[later])
         .map(|later| {
@@ -77,12 +88,12 @@ fn startup_power(device: &Device, spans: &[Span], started: &[bool], t: usize) ->
             device.terms[later].pmin - device.ramps.starting * lead
         })
         .filter(|&power| power > 0)
-        .sum()
+        .collect()
 }
 
-/// "psd in t sums, over t' ≤ t with sd, pmin(t'−1) − stopping ramp·(E(t) − S(t')) where above 0;
-/// for t' = 1 the initial power replaces pmin."
-fn shutdown_power(device: &Device, spans: &[Span], stopped: &[bool], t: usize) -> i128 {
+/// The terms of "psd in t sums, over t' ≤ t with sd, pmin(t'−1) − stopping ramp·(E(t) − S(t'))
+/// where above 0; for t' = 1 the initial power replaces pmin."
+fn shutdown_powers(device: &Device, spans: &[Span], stopped: &[bool], t: usize) -> Vec<i128> {
     (0..=t)
         .filter(|&stop| stopped[stop])
         .map(|stop| {
@@ -94,7 +105,7 @@ fn shutdown_power(device: &Device, spans: &[Span], stopped: &[bool], t: usize) -
             before - device.ramps.stopping * (spans[t].end - spans[stop].start)
         })
         .filter(|&power| power > 0)
-        .sum()
+        .collect()
 }
 
 impl Commitment {

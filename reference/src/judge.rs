@@ -3,6 +3,7 @@
 use crate::case::{read_case, Case};
 use crate::clock::spans;
 use crate::completion::completion_bytes;
+use crate::edition::Edition;
 use crate::energy::EnergyRule;
 use crate::fault::Fault;
 use crate::forced::forced;
@@ -39,17 +40,17 @@ pub enum Finding {
 pub fn judge(case_message: &[u8], plan_message: &[u8], buffer: &mut [u8]) -> Verdict {
     match read_case(case_message) {
         Err(fault) => Verdict::Refused(Refusal::Case(fault)),
-        Ok(case) => judge_for(&case, plan_message, buffer),
+        Ok((edition, case)) => judge_for(edition, &case, plan_message, buffer),
     }
 }
 
 /// Judges one plan against a case that passed reading.
-pub fn judge_for(case: &Case, plan_message: &[u8], buffer: &mut [u8]) -> Verdict {
-    let plan = match read_plan(case, plan_message) {
+pub fn judge_for(edition: Edition, case: &Case, plan_message: &[u8], buffer: &mut [u8]) -> Verdict {
+    let plan = match read_plan(edition, case, plan_message) {
         Err(fault) => return Verdict::Refused(Refusal::Plan(fault)),
         Ok(plan) => plan,
     };
-    match find(case, &plan) {
+    match find(edition, case, &plan) {
         Finding::Broken(place) => Verdict::Broken(place),
         Finding::Accepted { message, .. } if buffer.len() < message.len() => {
             Verdict::Refused(Refusal::BufferTooShort {
@@ -64,13 +65,13 @@ pub fn judge_for(case: &Case, plan_message: &[u8], buffer: &mut [u8]) -> Verdict
 }
 
 /// The first broken rule of a plan, or its surplus and completion message, with energy by the
-/// minute.
-pub fn find(case: &Case, plan: &Plan) -> Finding {
-    find_by(EnergyRule::ByMinute, case, plan)
+/// minute. The edition decides on nothing but the message.
+pub fn find(edition: Edition, case: &Case, plan: &Plan) -> Finding {
+    find_by(EnergyRule::ByMinute, edition, case, plan)
 }
 
 /// The same with energy by either rule.
-pub fn find_by(energy_rule: EnergyRule, case: &Case, plan: &Plan) -> Finding {
+pub fn find_by(energy_rule: EnergyRule, edition: Edition, case: &Case, plan: &Plan) -> Finding {
     let spans = spans(&case.durations);
     let forced = forced(case, &spans, plan);
     match first_broken(case, &spans, plan, &forced) {
@@ -79,7 +80,7 @@ pub fn find_by(energy_rule: EnergyRule, case: &Case, plan: &Plan) -> Finding {
             let ours = complete_by(energy_rule, case, &spans, plan, &forced);
             Finding::Accepted {
                 surplus: ours.surplus,
-                message: completion_bytes(case, &ours.completion, ours.surplus),
+                message: completion_bytes(edition, case, &ours.completion, ours.surplus),
             }
         }
     }

@@ -1,14 +1,18 @@
 //! An independent reading of paper 01, "Plan unit: judging a day's commitment", with requests A.4
-//! (three startup states), A.3 (energy by the minute) and A.5 (every broken rule) of paper 02.
+//! (three startup states), A.3 (energy by the minute), A.5 (every broken rule) and A.1 (reactive
+//! power: edition 2) of paper 02.
 //!
 //! Written from the papers alone, it shares no code and no tables with the product that it is held
 //! against. Every figure is an `i128` and arithmetic is checked in every profile, so that nothing
-//! can wrap unseen. Quotations in comments are the papers'.
+//! can wrap unseen. Quotations in comments are the papers' or, where these leave a point open,
+//! those of the decisions on it. "000 (n)" is an equation of document 000.
 //!
 //! The reading itself:
 //!
+//! - [`edition`]: the editions of messages; what each has.
 //! - [`fault`], [`bits`], [`case`], [`plan`]: messages and every refusal of them.
 //! - [`clock`], [`forced`], [`rules`]: times, forced figures, the rules that a plan breaks.
+//! - [`reactive`]: rules 21 to 26, those of reactive power.
 //! - [`energy`]: which minutes count in an energy window, by A.3 or by the formulation's midpoint.
 //! - [`completion`], [`ours`]: the completion message, our completion and its surplus.
 //! - [`judge`], [`batch`]: the judgement, the splitter, the batch program's lines.
@@ -19,7 +23,8 @@
 //! What tries it, and the product:
 //!
 //! - [`encode`]: writing of messages, with a record of their fields.
-//! - [`worked_day`]: the paper's worked day and example batch.
+//! - [`worked_day`]: the paper's worked day and example batch, the worked days of edition 2.
+//! - [`busiest`]: the day on which instructions are counted.
 //! - [`rng`], [`generate`]: random cases, plans and batches from a seed.
 //! - [`rivals`]: other completions of a plan.
 //! - [`crc`], [`packed`], [`census`], [`edges`], [`corpus`]: the corpus and what it reaches.
@@ -40,6 +45,7 @@ pub mod completion;
 pub mod corpus;
 pub mod crc;
 pub mod edges;
+pub mod edition;
 pub mod encode;
 pub mod energy;
 pub mod fault;
@@ -50,6 +56,7 @@ pub mod meets;
 pub mod ours;
 pub mod packed;
 pub mod plan;
+pub mod reactive;
 pub mod rivals;
 pub mod rng;
 pub mod rules;

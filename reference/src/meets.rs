@@ -6,8 +6,10 @@
 //! u as a number. What is read from the case and the plan, and the name of the energy rule, is all
 //! that the two have in common.
 
-use crate::case::{Case, Device, EnergyKind, EnergyWindow, Reserves, Side, Status, Terms};
-use crate::completion::{Completion, DeviceChoices};
+use crate::case::{
+    Case, Device, EnergyKind, EnergyWindow, Link, LinkLine, Reserves, Side, Status, Terms,
+};
+use crate::completion::{Completion, DeviceChoices, IntervalChoices};
 use crate::energy::EnergyRule;
 use crate::plan::{Plan, Setting};
 
@@ -34,7 +36,8 @@ pub fn keeps_every_rule(case: &Case, plan: &Plan) -> bool {
     Day { case, plan }.keeps_every_rule()
 }
 
-/// The numbers of rules 1 to 19 that a device breaks in an interval, both counted from 1.
+/// The numbers of rules 1 to 19 and 21 to 26 that a device breaks in an interval, both counted from
+/// 1.
 pub fn broken_rules_at(case: &Case, plan: &Plan, interval: usize, device: usize) -> Vec<u8> {
     Day { case, plan }.broken_rules_at(device, interval)
 }
@@ -132,28 +135,49 @@ impl Day<'_> {
         (self.u(j, t - 1) - self.u(j, t)).max(0)
     }
 
+    /// "pmin(t') − starting ramp·(E(t') − E(t))" of a later t' (000 (204)).
+    fn supc(&self, j: usize, t: usize, later: usize) -> i128 {
+        let lead = self.e(later) - self.e(t);
+        self.terms(j, later).pmin - self.device(j).ramps.starting * lead
+    }
+
+    /// "pmin(t'−1) − stopping ramp·(E(t) − S(t'))" of an earlier t' or t itself (000 (206), (207)).
+    fn sdpc(&self, j: usize, t: usize, stop: usize) -> i128 {
+        let device = self.device(j);
+        let from = match stop {
+            1 => device.initial_power,
+            _ => self.terms(j, stop - 1).pmin,
+        };
+        from - device.ramps.stopping * (self.e(t) - self.s(stop))
+    }
+
     fn psu(&self, j: usize, t: usize) -> i128 {
-        let starting = self.device(j).ramps.starting;
         let mut psu = 0;
         for later in t + 1..=self.case.durations.len() {
-            let power = self.terms(j, later).pmin - starting * (self.e(later) - self.e(t));
-            psu += self.su(j, later) * power.max(0);
+            psu += self.su(j, later) * self.supc(j, t, later).max(0);
         }
         psu
     }
 
     fn psd(&self, j: usize, t: usize) -> i128 {
-        let device = self.device(j);
         let mut psd = 0;
         for stop in 1..=t {
-            let from = match stop {
-                1 => device.initial_power,
-                _ => self.terms(j, stop - 1).pmin,
-            };
-            let power = from - device.ramps.stopping * (self.e(t) - self.s(stop));
-            psd += self.sd(j, stop) * power.max(0);
+            psd += self.sd(j, stop) * self.sdpc(j, t, stop).max(0);
         }
         psd
+    }
+
+    /// "u + the number of later starts whose psu term in t is above 0 + the number of stops up to t
+    /// whose psd term in t is above 0".
+    fn n(&self, j: usize, t: usize) -> i128 {
+        let mut n = self.u(j, t);
+        for later in t + 1..=self.case.durations.len() {
+            n += self.su(j, later) * self.supc(j, t, later).signum().max(0);
+        }
+        for stop in 1..=t {
+            n += self.sd(j, stop) * self.sdpc(j, t, stop).signum().max(0);
+        }
+        n
     }
 
     /// p, and in interval 0 the initial power.
@@ -176,16 +200,18 @@ impl Day<'_> {
         })
     }
 
-    /// The numbers of rules 1 to 19 that device `j` breaks in interval `t`.
+    /// The numbers of rules 1 to 19 and 21 to 26 that device `j` breaks in interval `t`.
     fn broken_rules_at(&self, j: usize, t: usize) -> Vec<u8> {
         let kept = [
             &self.commitment_rules(j, t)[..],
             &self.ramping_rules(j, t),
             &self.reserve_rules(j, t),
             &self.power_rules(j, t),
+            &self.reactive_rules(j, t),
         ]
         .concat();
-        (1..)
+        let numbers = (1..).filter(|&number| number != 20);
+        numbers
             .zip(kept)
             .filter(|(_, kept)| !kept)
             .map(|(number, _)| number)
@@ -272,6 +298,38 @@ impl Day<'_> {
         [rule_16, rule_17, rule_18, rule_19]
     }
 
+    /// Whether rules 21 to 26 hold: of producing devices 000 (112) to (118), of consuming devices
+    /// (122) to (128), "with the two zero reserves as one rule".
+    fn reactive_rules(&self, j: usize, t: usize) -> [bool; 6] {
+        let terms = self.terms(j, t);
+        let setting = self.setting(j, t);
+        let (q, r) = (setting.reactive_power, &setting.reactive_reserves);
+        let n = self.n(j, t);
+        let [most, least] = match self.device(j).side {
+            Side::Producing => [q + r.qru, q - r.qrd],
+            Side::Consuming => [q + r.qrd, q - r.qru],
+        };
+        let above = |line: &LinkLine, kvar: i128| {
+            1000 * (kvar - line.offset * n) - line.slope * self.p(j, t)
+        };
+        let [rule_23, rule_24, rule_25, rule_26] = match &self.device(j).link {
+            Link::None => [true; 4],
+            Link::TwoLines { upper, lower } => [
+                above(upper, most) <= 0,
+                above(lower, least) >= 0,
+                true,
+                true,
+            ],
+            Link::Equality(line) => {
+                let no_reserves = r.qru == 0 && r.qrd == 0;
+                [true, true, above(line, q) == 0, no_reserves]
+            }
+        };
+        let rule_21 = most <= terms.qmax * n;
+        let rule_22 = least >= terms.qmin * n;
+        [rule_21, rule_22, rule_23, rule_24, rule_25, rule_26]
+    }
+
     /// The start windows, from 1, in which device `j` breaks rule 20.
     fn windows_broken(&self, j: usize) -> Vec<usize> {
         (1..)
@@ -300,7 +358,10 @@ impl Day<'_> {
                     && self
                         .zones()
                         .all(|z| self.shortfalls_suffice(z, t, &choices.shortfalls[z - 1]))
-                    && self.mismatch_suffices(t, choices.mismatch)
+                    && self.mismatch_suffices(choices.mismatch, |j| self.p(j, t))
+                    && self.mismatch_suffices(choices.reactive_mismatch, |j| {
+                        self.setting(j, t).reactive_power
+                    })
             })
     }
 
@@ -354,18 +415,35 @@ impl Day<'_> {
         }
     }
 
-    fn shortfalls_suffice(&self, z: usize, t: usize, shortfalls: &[i128; 6]) -> bool {
-        let needs = self.zone_needs(z, t);
-        (0..6).all(|k| shortfalls[k] >= 0 && shortfalls[k] >= needs[k])
+    fn shortfalls_suffice(&self, z: usize, t: usize, shortfalls: &[i128; 8]) -> bool {
+        let [qru, qrd] = self.reactive_needs(z, t);
+        let [rgu, rgd, scr, nsc, rru, rrd] = self.zone_needs(z, t);
+        let needs = [rgu, rgd, scr, nsc, rru, rrd, qru, qrd];
+        (0..8).all(|k| shortfalls[k] >= 0 && shortfalls[k] >= needs[k])
+    }
+
+    fn members(&self, z: usize) -> Vec<usize> {
+        self.devices()
+            .filter(|&j| self.device(j).zone_bits[z - 1])
+            .collect()
+    }
+
+    /// The needs of reactive reserves in var, "1000·(minimum − sum of the members' reserves, both
+    /// sides)".
+    fn reactive_needs(&self, z: usize, t: usize) -> [i128; 2] {
+        let [_, _, mut qru, mut qrd] = self.case.zones[z - 1].minima[t - 1];
+        for j in self.members(z) {
+            let held = &self.setting(j, t).reactive_reserves;
+            qru -= held.qru;
+            qrd -= held.qrd;
+        }
+        [1000 * qru, 1000 * qrd]
     }
 
     /// "Zone needs in W, over member devices", in the order of the shortfall prices.
     fn zone_needs(&self, z: usize, t: usize) -> [i128; 6] {
         let zone = &self.case.zones[z - 1];
-        let members: Vec<usize> = self
-            .devices()
-            .filter(|&j| self.device(j).zone_bits[z - 1])
-            .collect();
+        let members = self.members(z);
         let mut consuming_sum = 0;
         let mut largest_producing = 0;
         for &j in &members {
@@ -382,7 +460,7 @@ impl Day<'_> {
         let rgd_required = zone.shares[1] * consuming_sum;
         let scr_required = zone.shares[2] * largest_producing;
         let nsc_required = zone.shares[3] * largest_producing;
-        let [rru_minimum, rrd_minimum] = zone.ramping_minima[t - 1];
+        let [rru_minimum, rrd_minimum, ..] = zone.minima[t - 1];
         [
             rgu_required - 1000 * sum(|r| r.rgu),
             rgd_required - 1000 * sum(|r| r.rgd),
@@ -393,11 +471,11 @@ impl Day<'_> {
         ]
     }
 
-    fn mismatch_suffices(&self, t: usize, mismatch: i128) -> bool {
+    fn mismatch_suffices(&self, mismatch: i128, power: impl Fn(usize) -> i128) -> bool {
         let sum_of = |side: Side| -> i128 {
             self.devices()
                 .filter(|&j| self.device(j).side == side)
-                .map(|j| self.p(j, t))
+                .map(&power)
                 .sum()
         };
         let difference = sum_of(Side::Consuming) - sum_of(Side::Producing);
@@ -472,14 +550,9 @@ impl Day<'_> {
                     + self.state_cost(j, chosen.startup_state);
                 reserve_costs += d * self.reserve_money(j, t);
             }
-            for z in self.zones() {
-                for k in 0..6 {
-                    shortfall_and_mismatch += d
-                        * self.case.zones[z - 1].shortfall_prices[k]
-                        * choices.shortfalls[z - 1][k];
-                }
-            }
+            shortfall_and_mismatch += d * self.shortfall_money(choices);
             shortfall_and_mismatch += d * self.case.mismatch_price * choices.mismatch;
+            shortfall_and_mismatch += d * self.case.mismatch_price * choices.reactive_mismatch;
         }
         let overrun: i128 = completion.overruns.iter().flatten().sum();
         consuming_blocks
@@ -489,6 +562,17 @@ impl Day<'_> {
             - reserve_costs
             - shortfall_and_mismatch
             - self.case.overrun_price * overrun
+    }
+
+    fn shortfall_money(&self, choices: &IntervalChoices) -> i128 {
+        let mut money = 0;
+        for z in self.zones() {
+            for k in 0..8 {
+                let price = self.case.zones[z - 1].shortfall_prices[k];
+                money += price * choices.shortfalls[z - 1][k];
+            }
+        }
+        money
     }
 
     fn block_money(&self, j: usize, t: usize, chosen: &DeviceChoices) -> i128 {
@@ -509,6 +593,14 @@ impl Day<'_> {
             + price.rru_off * r.rru_off
             + price.rrd_on * r.rrd_on
             + price.rrd_off * r.rrd_off
+            + self.reactive_money(j, t)
+    }
+
+    /// 000 (96) and (97), without d.
+    fn reactive_money(&self, j: usize, t: usize) -> i128 {
+        let price = &self.terms(j, t).reactive_prices;
+        let r = &self.setting(j, t).reactive_reserves;
+        price.qru * r.qru + price.qrd * r.qrd
     }
 
     fn state_cost(&self, j: usize, state: i128) -> i128 {

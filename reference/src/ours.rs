@@ -6,7 +6,8 @@
 //! choices alone.
 
 use crate::case::{
-    Block, Case, Device, EnergyKind, EnergyWindow, Reserves, Side, Terms, Zone, MOST_ITEMS,
+    Block, Case, Device, EnergyKind, EnergyWindow, ReactiveReserves, Reserves, Side, Terms, Zone,
+    MOST_ITEMS, MOST_SHORTFALLS,
 };
 use crate::clock::Span;
 use crate::completion::{Completion, DeviceChoices, IntervalChoices};
@@ -69,7 +70,7 @@ impl Day<'_> {
         let devices = (0..self.case.devices.len())
             .map(|j| self.complete_device(j, t, surplus))
             .collect();
-        let shortfalls: Vec<[i128; 6]> = self
+        let shortfalls: Vec<[i128; MOST_SHORTFALLS]> = self
             .case
             .zones
             .iter()
@@ -79,12 +80,14 @@ impl Day<'_> {
         for (zone, shortfall) in self.case.zones.iter().zip(&shortfalls) {
             *surplus -= duration * product_sum(&zone.shortfall_prices, shortfall);
         }
-        let mismatch = self.mismatch(t);
-        *surplus -= duration * self.case.mismatch_price * mismatch;
+        let mismatch = self.mismatch(|j| self.forced[j].power[t]);
+        let reactive_mismatch = self.mismatch(|j| self.plan.intervals[t][j].reactive_power);
+        *surplus -= duration * self.case.mismatch_price * (mismatch + reactive_mismatch);
         IntervalChoices {
             devices,
             shortfalls,
             mismatch,
+            reactive_mismatch,
         }
     }
 
@@ -129,8 +132,8 @@ impl Day<'_> {
         self.case.devices[j].side == Side::Consuming
     }
 
-    /// "Zone needs in W, over member devices", none below 0.
-    fn shortfalls(&self, z: usize, zone: &Zone, t: usize) -> [i128; 6] {
+    /// "Zone needs in W, over member devices", and those of reactive reserves in var, none below 0.
+    fn shortfalls(&self, z: usize, zone: &Zone, t: usize) -> [i128; MOST_SHORTFALLS] {
         let consuming_power: i128 = self
             .members(z, t)
             .filter(|(j, _)| self.is_consuming(*j))
@@ -143,12 +146,13 @@ impl Day<'_> {
             .max()
             .unwrap_or(0);
         let [rgu_share, rgd_share, scr_share, nsc_share] = zone.shares;
-        let [rru_minimum, rrd_minimum] = zone.ramping_minima[t];
+        let [rru_minimum, rrd_minimum, qru_minimum, qrd_minimum] = zone.minima[t];
         let required_rgu = rgu_share * consuming_power;
         let required_rgd = rgd_share * consuming_power;
         let required_scr = scr_share * largest_producing_power;
         let required_nsc = nsc_share * largest_producing_power;
         let held = self.held_reserves(z, t);
+        let reactive = self.held_reactive_reserves(z, t);
         [
             required_rgu - 1_000 * held.rgu,
             required_rgd - 1_000 * held.rgd,
@@ -156,6 +160,8 @@ impl Day<'_> {
             required_rgu + required_scr + required_nsc - 1_000 * (held.rgu + held.scr + held.nsc),
             1_000 * (rru_minimum - (held.rru_on + held.rru_off)),
             1_000 * (rrd_minimum - (held.rrd_on + held.rrd_off)),
+            1_000 * (qru_minimum - reactive.qru),
+            1_000 * (qrd_minimum - reactive.qrd),
         ]
         .map(|need| need.max(0))
     }
@@ -171,15 +177,25 @@ impl Day<'_> {
         Reserves::from_order(held)
     }
 
-    /// "Mismatch ≥ |consuming − producing p|".
-    fn mismatch(&self, t: usize) -> i128 {
+    /// The reactive reserves that the members of zone `z` hold together, of both sides (000 (46),
+    /// (47)).
+    fn held_reactive_reserves(&self, z: usize, t: usize) -> ReactiveReserves {
+        let mut held = ReactiveReserves::default();
+        for (_, setting) in self.members(z, t) {
+            held.qru += setting.reactive_reserves.qru;
+            held.qrd += setting.reactive_reserves.qrd;
+        }
+        held
+    }
+
+    /// "Mismatch ≥ |consuming − producing p|", and of reactive power alike (000 (18)).
+    fn mismatch(&self, power: impl Fn(usize) -> i128) -> i128 {
         let consuming_minus_producing: i128 = (0..self.forced.len())
             .map(|j| {
-                let power = self.forced[j].power[t];
                 if self.is_consuming(j) {
-                    power
+                    power(j)
                 } else {
-                    -power
+                    -power(j)
                 }
             })
             .sum();
@@ -268,10 +284,15 @@ fn running_value(
         &terms.reserve_prices.in_order(),
         &setting.reserves.in_order(),
     );
+    let reactive_reserves = product_sum(
+        &terms.reactive_prices.in_order(),
+        &setting.reactive_reserves.in_order(),
+    );
     let on_cost = if setting.on { device.on_cost } else { 0 };
+    let costs = on_cost + reserves + reactive_reserves;
     match device.side {
-        Side::Consuming => energy - on_cost - reserves,
-        Side::Producing => -energy - on_cost - reserves,
+        Side::Consuming => energy - costs,
+        Side::Producing => -energy - costs,
     }
 }
 

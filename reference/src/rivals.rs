@@ -1,14 +1,16 @@
 //! Rivals of our completion: other choices for the same plan.
 
 use crate::case::{Case, MOST_STATES};
-use crate::completion::Completion;
+use crate::completion::{Completion, IntervalChoices};
+use crate::edition::Edition;
 use crate::rng::Rng;
 
 /// Another completion of a plan, made from ours by a few random changes of the kinds that rules
 /// allow: power moved between blocks, another startup state, more shortfall, mismatch or overrun.
+/// Reactive choices are changed where the edition's completions have them.
 ///
 /// Whether it meets every rule is for [`crate::meets::meets`] to say.
-pub fn random_rival(rng: &mut Rng, case: &Case, ours: &Completion) -> Completion {
+pub fn random_rival(rng: &mut Rng, edition: Edition, case: &Case, ours: &Completion) -> Completion {
     let mut rival = ours.clone();
     for _ in 0..1 + rng.below(6) {
         let t = rng.below(rival.intervals.len());
@@ -16,7 +18,7 @@ pub fn random_rival(rng: &mut Rng, case: &Case, ours: &Completion) -> Completion
         match rng.below(5) {
             0 | 1 => move_power(rng, case, &mut rival, t, j),
             2 => take_another_state(rng, case, &mut rival, j),
-            3 => add_shortfall_or_mismatch(rng, &mut rival, t),
+            3 => add_shortfall_or_mismatch(rng, edition, &mut rival, t),
             _ => add_overrun(rng, &mut rival, j),
         }
     }
@@ -51,13 +53,25 @@ fn take_another_state(rng: &mut Rng, case: &Case, rival: &mut Completion, j: usi
     }
 }
 
-fn add_shortfall_or_mismatch(rng: &mut Rng, rival: &mut Completion, t: usize) {
+fn add_shortfall_or_mismatch(rng: &mut Rng, edition: Edition, rival: &mut Completion, t: usize) {
     let interval = &mut rival.intervals[t];
     let more = rng.pick(&[1, 1_000, 1 << 70]);
     let z = rng.below(interval.shortfalls.len() + 1);
     match interval.shortfalls.get_mut(z) {
-        Some(shortfalls) => shortfalls[rng.below(6)] += more,
-        None => interval.mismatch += more,
+        Some(shortfalls) => shortfalls[rng.below(edition.shortfalls())] += more,
+        None => *any_mismatch(rng, edition, interval) += more,
+    }
+}
+
+/// The mismatch of an interval, real or reactive.
+fn any_mismatch<'a>(
+    rng: &mut Rng,
+    edition: Edition,
+    interval: &'a mut IntervalChoices,
+) -> &'a mut i128 {
+    match rng.below(edition.mismatches()) {
+        0 => &mut interval.mismatch,
+        _ => &mut interval.reactive_mismatch,
     }
 }
 
@@ -74,7 +88,12 @@ const LAST_STATE: i128 = MOST_STATES as i128;
 
 /// A completion that does not meet every rule: ours with one choice changed so that it must not be
 /// taken for one of "these".
-pub fn random_misfit(rng: &mut Rng, case: &Case, ours: &Completion) -> Completion {
+pub fn random_misfit(
+    rng: &mut Rng,
+    edition: Edition,
+    case: &Case,
+    ours: &Completion,
+) -> Completion {
     let mut misfit = ours.clone();
     let t = rng.below(misfit.intervals.len());
     let j = rng.below(case.devices.len());
@@ -94,13 +113,13 @@ pub fn random_misfit(rng: &mut Rng, case: &Case, ours: &Completion) -> Completio
         5 if device.started == 0 => device.startup_state = rng.from_to(1, LAST_STATE),
         6 if !interval.shortfalls.is_empty() => {
             let z = rng.below(interval.shortfalls.len());
-            interval.shortfalls[z][rng.below(6)] -= 1;
+            interval.shortfalls[z][rng.below(edition.shortfalls())] -= 1;
         }
         7 => match misfit.overruns.iter_mut().flatten().next() {
             Some(overrun) => *overrun -= 1,
-            None => interval.mismatch -= 1,
+            None => *any_mismatch(rng, edition, interval) -= 1,
         },
-        _ => interval.mismatch -= 1,
+        _ => *any_mismatch(rng, edition, interval) -= 1,
     }
     misfit
 }

@@ -4,6 +4,7 @@ use crate::case::{Case, Device, Side, StartWindow, Status, Terms};
 use crate::clock::Span;
 use crate::forced::{Commitment, Forced};
 use crate::plan::{Plan, Setting};
+use crate::reactive::{ReactivePoint, REACTIVE_RULES};
 
 /// A broken rule and its place: "interval, device, window from 1, else 0".
 #[derive(Clone, Copy, PartialEq, Eq, Debug)]
@@ -14,13 +15,13 @@ pub struct Place {
     pub window: usize,
 }
 
-/// The rules of one device in one interval.
+/// The rules of one device in one interval that paper 01 has.
 const RULES_OF_A_POINT: std::ops::RangeInclusive<u8> = 1..=19;
 /// The rule of a device's start windows.
 const RULE_OF_WINDOWS: u8 = 20;
 
 /// Every broken rule: "Checked by interval, then device, then number. Rule 20 comes after all
-/// intervals, by device, then window."
+/// intervals, by device, then window." Rules 21 to 26 "come after 19 and before 20".
 pub fn broken_rules<'a>(
     case: &'a Case,
     spans: &'a [Span],
@@ -50,6 +51,7 @@ pub fn first_broken(case: &Case, spans: &[Span], plan: &Plan, forced: &[Forced])
 fn broken_at_point(point: Point<'_>, j: usize) -> impl Iterator<Item = Place> + '_ {
     let interval = point.t + 1;
     RULES_OF_A_POINT
+        .chain(REACTIVE_RULES)
         .filter(move |&rule| !point.keeps(rule))
         .map(move |rule| Place {
             rule,
@@ -77,7 +79,7 @@ fn broken_in_windows<'a>(
         })
 }
 
-/// One device in one interval: all that rules 1 to 19 speak of.
+/// One device in one interval: all that rules 1 to 19 and 21 to 26 speak of.
 struct Point<'a> {
     device: &'a Device,
     terms: &'a Terms,
@@ -143,7 +145,17 @@ impl<'a> Point<'a> {
                     <= self.while_off(self.terms.pmax)
             }
             19 => self.power <= self.terms.sum_of_caps(),
-            _ => unreachable!("rules of one device in one interval are 1 to 19"),
+            _ => self.reactive().keeps(rule),
+        }
+    }
+
+    fn reactive(&self) -> ReactivePoint<'_> {
+        ReactivePoint {
+            device: self.device,
+            t: self.t,
+            setting: self.setting,
+            bracket: self.commitment.bracket[self.t],
+            power: self.power,
         }
     }
 

@@ -10,11 +10,13 @@ use crate::case::{
     Block, Case, Device, EnergyKind, EnergyWindow, Reserves, Side, StartWindow, StartupState,
     Status, Terms, Zone,
 };
+use crate::edition::Edition;
 use crate::encode::{encode_case, encode_plan, Class, Encoded};
+use crate::generate::batches::plan_of_another_edition;
 use crate::generate::breaks::plan_breaking;
 use crate::generate::damage::{
-    any_out_of_range, contradict, cut_at, with_fill_bit, with_surplus_bytes, with_value,
-    Contradiction, CONTRADICTIONS,
+    any_out_of_range, contradict, contradictions, cut_at, with_fill_bit, with_surplus_bytes,
+    with_value, Contradiction,
 };
 use crate::generate::device::Scale;
 use crate::generate::plans::good_plan;
@@ -24,6 +26,8 @@ use crate::judge::{judge, Refusal, Verdict};
 use crate::plan::{Plan, Setting};
 use crate::rng::Rng;
 
+mod reactive;
+
 /// A row: a case message, a plan message, and what the row is about.
 pub struct Row {
     pub about: String,
@@ -32,11 +36,11 @@ pub struct Row {
 }
 
 impl Row {
-    fn new(about: &str, case: &Case, plan: &Plan) -> Row {
+    fn new(about: &str, edition: Edition, case: &Case, plan: &Plan) -> Row {
         Row {
             about: about.to_string(),
-            case: encode_case(case).bytes,
-            plan: encode_plan(plan).bytes,
+            case: encode_case(edition, case).bytes,
+            plan: encode_plan(edition, plan).bytes,
         }
     }
 
@@ -103,46 +107,59 @@ fn hex(bytes: &[u8]) -> String {
 }
 
 /// All rows: those written by hand, then those drawn from a seed: one for each rule, one for each
-/// way of refusing, and `accepted` that keep every rule.
+/// way of refusing in each edition, and `accepted` of both editions that keep every rule.
 pub fn rows(seed: u64, accepted: usize) -> Vec<Row> {
     let mut rows = written_rows();
     let mut rng = Rng::new(seed);
-    for rule in 1..=20 {
+    for rule in 1..=Edition::NEWEST.last_rule() {
         rows.push(row_breaking(&mut rng, rule));
     }
-    rows.extend(refused_rows(&mut rng));
-    for _ in 0..accepted {
-        let sample = tiny_sample(&mut rng);
+    for edition in Edition::ALL {
+        rows.extend(refused_rows(&mut rng, edition));
+    }
+    for edition in Edition::ALL.into_iter().cycle().take(accepted) {
+        let sample = tiny_sample(&mut rng, edition);
         let plan = good_plan(&mut rng, &sample);
-        rows.push(Row::new("drawn, accepted", &sample.case, &plan));
+        let about = format!("drawn in edition {}, accepted", edition.figure());
+        rows.push(Row::new(&about, edition, &sample.case, &plan));
     }
     rows
 }
 
-/// The most bytes of a drawn case.
+/// The most bytes of a drawn case of edition 1; one of edition 2 may have half as many more.
 const MOST_CASE_BYTES: usize = 150;
 
-fn tiny_sample(rng: &mut Rng) -> Sample {
+fn tiny_sample(rng: &mut Rng, edition: Edition) -> Sample {
+    let most = if edition.has_reactive_power() {
+        MOST_CASE_BYTES * 3 / 2
+    } else {
+        MOST_CASE_BYTES
+    };
     loop {
         let shape = Shape::random(rng, Size::Tiny);
-        let sample = sample_of(rng, &shape, Scale::Low);
-        if encode_case(&sample.case).bytes.len() <= MOST_CASE_BYTES {
+        let sample = sample_of(rng, edition, &shape, Scale::Low);
+        if encode_case(edition, &sample.case).bytes.len() <= most {
             return sample;
         }
     }
 }
 
+/// A row that breaks a rule, of the first edition that has it.
 fn row_breaking(rng: &mut Rng, rule: u8) -> Row {
+    let mut editions = Edition::ALL.into_iter();
+    let having = editions.find(|edition| rule <= edition.last_rule());
+    let edition = having.expect("some edition has the rule");
     loop {
-        let sample = tiny_sample(rng);
+        let sample = tiny_sample(rng, edition);
         if let Some(plan) = plan_breaking(rng, &sample, rule) {
-            return Row::new(&format!("drawn, rule {rule}"), &sample.case, &plan);
+            let about = format!("drawn, rule {rule}");
+            return Row::new(&about, edition, &sample.case, &plan);
         }
     }
 }
 
-/// A row for each way of refusing either message.
-fn refused_rows(rng: &mut Rng) -> Vec<Row> {
+/// A row of an edition for each way of refusing either message.
+fn refused_rows(rng: &mut Rng, edition: Edition) -> Vec<Row> {
     let mut rows = Vec::new();
     for (about, class) in [
         ("kind or edition", Class::Kind),
@@ -151,8 +168,7 @@ fn refused_rows(rng: &mut Rng) -> Vec<Row> {
     ] {
         let about = format!("{about} wrong");
         let wrong = |rng: &mut Rng, message: &Encoded| any_out_of_range(rng, message, class);
-        rows.push(row_with_damaged_case(rng, &about, wrong));
-        rows.push(row_with_damaged_plan(rng, &about, wrong));
+        rows.extend(rows_with_damage(rng, edition, &about, &wrong));
     }
     let surplus = |rng: &mut Rng, message: &Encoded| Some(with_surplus_bytes(rng, &message.bytes));
     for (about, damage) in [
@@ -160,27 +176,35 @@ fn refused_rows(rng: &mut Rng) -> Vec<Row> {
         ("fill bit", &with_fill_bit),
         ("surplus byte", &surplus),
     ] {
-        rows.push(row_with_damaged_case(rng, about, damage));
-        rows.push(row_with_damaged_plan(rng, about, damage));
+        rows.extend(rows_with_damage(rng, edition, about, damage));
     }
-    for contradiction in CONTRADICTIONS {
-        let (case, plan) = contradictory_day(rng, contradiction);
-        rows.push(Row::new(&format!("case, {contradiction:?}"), &case, &plan));
+    for &contradiction in contradictions(edition) {
+        let (case, plan) = contradictory_day(rng, edition, contradiction);
+        let about = format!("case, {contradiction:?}");
+        rows.push(Row::new(&about, edition, &case, &plan));
     }
-    rows.push(row_with_earlier_fault(
-        rng,
-        "fill bit: 6 before 5",
-        &with_fill_bit,
-    ));
-    rows.push(row_with_earlier_fault(
-        rng,
-        "later price: 4 before 5",
-        &|_, message| {
-            let last = message.fields.last()?;
-            Some(with_value(message, last, last.high + 1))
-        },
-    ));
+    let later_price = |_: &mut Rng, message: &Encoded| {
+        let last = message.fields.last()?;
+        Some(with_value(message, last, last.high + 1))
+    };
+    for (about, damage) in [
+        ("fill bit: 6 before 5", &with_fill_bit as Damage),
+        ("later price: 4 before 5", &later_price),
+    ] {
+        rows.push(row_with_earlier_fault(rng, edition, about, damage));
+    }
+    rows.push(row_of_two_editions(rng, edition));
     rows
+}
+
+/// A case of an edition and a plan of another.
+fn row_of_two_editions(rng: &mut Rng, edition: Edition) -> Row {
+    let sample = tiny_sample(rng, edition);
+    Row {
+        about: "plan of the other edition".to_string(),
+        case: encode_case(edition, &sample.case).bytes,
+        plan: plan_of_another_edition(rng, &sample),
+    }
 }
 
 /// A way to damage a message; none where it cannot be done.
@@ -192,30 +216,30 @@ fn cut_somewhere(rng: &mut Rng, message: &Encoded) -> Option<Vec<u8>> {
     cut_at(rng, message, &field).filter(|cut| !cut.is_empty())
 }
 
-fn row_with_damaged_case(
-    rng: &mut Rng,
-    about: &str,
-    damage: impl Fn(&mut Rng, &Encoded) -> Option<Vec<u8>>,
-) -> Row {
+/// Two rows: a damaged case with a good plan, a good case with a damaged plan.
+fn rows_with_damage(rng: &mut Rng, edition: Edition, about: &str, damage: Damage) -> [Row; 2] {
+    [
+        row_with_damaged_case(rng, edition, about, damage),
+        row_with_damaged_plan(rng, edition, about, damage),
+    ]
+}
+
+fn row_with_damaged_case(rng: &mut Rng, edition: Edition, about: &str, damage: Damage) -> Row {
     loop {
-        let sample = tiny_sample(rng);
-        let plan = encode_plan(&good_plan(rng, &sample)).bytes;
-        if let Some(case) = damage(rng, &encode_case(&sample.case)) {
+        let sample = tiny_sample(rng, edition);
+        let plan = encode_plan(edition, &good_plan(rng, &sample)).bytes;
+        if let Some(case) = damage(rng, &encode_case(edition, &sample.case)) {
             let about = format!("case, {about}");
             return Row { about, case, plan };
         }
     }
 }
 
-fn row_with_damaged_plan(
-    rng: &mut Rng,
-    about: &str,
-    damage: impl Fn(&mut Rng, &Encoded) -> Option<Vec<u8>>,
-) -> Row {
+fn row_with_damaged_plan(rng: &mut Rng, edition: Edition, about: &str, damage: Damage) -> Row {
     loop {
-        let sample = tiny_sample(rng);
-        let case = encode_case(&sample.case).bytes;
-        let message = encode_plan(&good_plan(rng, &sample));
+        let sample = tiny_sample(rng, edition);
+        let case = encode_case(edition, &sample.case).bytes;
+        let message = encode_plan(edition, &good_plan(rng, &sample));
         if let Some(plan) = damage(rng, &message) {
             let about = format!("plan, {about}");
             return Row { about, case, plan };
@@ -223,9 +247,13 @@ fn row_with_damaged_plan(
     }
 }
 
-fn contradictory_day(rng: &mut Rng, contradiction: Contradiction) -> (Case, Plan) {
+fn contradictory_day(
+    rng: &mut Rng,
+    edition: Edition,
+    contradiction: Contradiction,
+) -> (Case, Plan) {
     loop {
-        let mut sample = tiny_sample(rng);
+        let mut sample = tiny_sample(rng, edition);
         let plan = good_plan(rng, &sample);
         if contradict(rng, &mut sample.case, contradiction) {
             return (sample.case, plan);
@@ -234,21 +262,23 @@ fn contradictory_day(rng: &mut Rng, contradiction: Contradiction) -> (Case, Plan
 }
 
 /// A case that contradicts itself and, later in the message, shows a fault that comes first.
-fn row_with_earlier_fault(rng: &mut Rng, about: &str, damage: Damage) -> Row {
+fn row_with_earlier_fault(rng: &mut Rng, edition: Edition, about: &str, damage: Damage) -> Row {
     loop {
-        let (case, plan) = contradictory_day(rng, Contradiction::PminAbovePmax);
-        if let Some(case) = damage(rng, &encode_case(&case)) {
+        let (case, plan) = contradictory_day(rng, edition, Contradiction::PminAbovePmax);
+        if let Some(case) = damage(rng, &encode_case(edition, &case)) {
             return Row {
                 about: format!("case, contradiction and {about}"),
                 case,
-                plan: encode_plan(&plan).bytes,
+                plan: encode_plan(edition, &plan).bytes,
             };
         }
     }
 }
 
 /// A day with one device, before a row changes what it is about.
+#[derive(Clone)]
 struct Draft {
+    edition: Edition,
     case: Case,
     plan: Plan,
 }
@@ -258,11 +288,9 @@ struct Draft {
 /// pmin 0, pmax 100, ramps 100, reserve limits 20, one block of 100 at 7, no other figure.
 fn draft(side: Side, initially_on: bool, minutes: i128, on: &[bool]) -> Draft {
     let terms = Terms {
-        status: Status::Free,
-        pmin: 0,
         pmax: 100,
         blocks: vec![Block { cap: 100, price: 7 }],
-        reserve_prices: Reserves::default(),
+        ..Terms::default()
     };
     let device = Device {
         initially_on,
@@ -273,6 +301,7 @@ fn draft(side: Side, initially_on: bool, minutes: i128, on: &[bool]) -> Draft {
         ..Setting::default()
     };
     Draft {
+        edition: Edition::One,
         case: Case {
             mismatch_price: 1,
             overrun_price: 3,
@@ -304,7 +333,7 @@ impl Draft {
     }
 
     fn row(&self, about: &str) -> Row {
-        Row::new(about, &self.case, &self.plan)
+        Row::new(about, self.edition, &self.case, &self.plan)
     }
 }
 
@@ -320,6 +349,7 @@ pub fn written_rows() -> Vec<Row> {
     rows.extend(trajectory_rows());
     rows.extend(order_rows());
     rows.extend(breach_rows());
+    rows.extend(reactive::rows());
     rows
 }
 
@@ -471,10 +501,11 @@ fn startup_state_rows() -> Vec<Row> {
 fn zone_rows() -> Vec<Row> {
     let with = |side, shares, minima, power, change: &dyn Fn(&mut Reserves), about: &str| {
         let mut draft = draft(side, true, 10, &[true]);
+        let [rru, rrd] = minima;
         draft.case.zones.push(Zone {
             shares,
-            shortfall_prices: [1, 2, 3, 4, 5, 6],
-            ramping_minima: vec![minima],
+            shortfall_prices: [1, 2, 3, 4, 5, 6, 1, 1],
+            minima: vec![[rru, rrd, 0, 0]],
         });
         draft.device().zone_bits[0] = true;
         draft.setting(1).online_power = power;
@@ -630,17 +661,40 @@ fn rows_of_other_days_with_energy_windows() -> Vec<Row> {
     ]
 }
 
+/// A producing device with a minimum power and ramps of 2 in intervals of 10 minutes.
+fn slow(initially_on: bool, on: &[bool], pmin: i128) -> Draft {
+    let mut draft = draft(Side::Producing, initially_on, 10, on);
+    for terms in &mut draft.device().terms {
+        terms.pmin = pmin;
+    }
+    draft.device().ramps.starting = 2;
+    draft.device().ramps.stopping = 2;
+    draft
+}
+
+/// 30 kW, stopped for one interval in which 10 kW fall and 10 kW rise, and 30 kW again.
+fn crossing() -> Draft {
+    let mut crossing = slow(true, &[true, false, true], 30);
+    crossing.device().initial_power = 30;
+    crossing.setting(1).online_power = 30;
+    crossing.setting(3).online_power = 30;
+    crossing
+}
+
+/// Two starts, in intervals 2 and 4, that give 40 and 20 kW in interval 1.
+fn two_starts(pmax_at_first: i128) -> Draft {
+    let mut draft = slow(false, &[false, true, false, true], 50);
+    draft.device().ramps.starting = 1;
+    draft.device().initial_power = 50;
+    draft.device().terms[0].pmin = 0;
+    draft.device().terms[0].pmax = pmax_at_first;
+    draft.setting(2).online_power = 50;
+    draft.setting(4).online_power = 50;
+    draft
+}
+
 /// Startup and shutdown power, and the ramps that go with them.
 fn trajectory_rows() -> Vec<Row> {
-    let slow = |initially_on, on: &[bool], pmin| {
-        let mut draft = draft(Side::Producing, initially_on, 10, on);
-        for terms in &mut draft.device().terms {
-            terms.pmin = pmin;
-        }
-        draft.device().ramps.starting = 2;
-        draft.device().ramps.stopping = 2;
-        draft
-    };
     let mut rising = slow(false, &[false, false, true], 50);
     rising.device().initial_power = 0;
     rising.setting(3).online_power = 50;
@@ -663,20 +717,6 @@ fn trajectory_rows() -> Vec<Row> {
     into_low_on.device().initial_power = 50;
     into_low_on.setting(1).online_power = 49;
     into_low_on.setting(3).online_power = 50;
-    let mut crossing = slow(true, &[true, false, true], 30);
-    crossing.device().initial_power = 30;
-    crossing.setting(1).online_power = 30;
-    crossing.setting(3).online_power = 30;
-    let two_starts = |pmax_at_first| {
-        let mut draft = slow(false, &[false, true, false, true], 50);
-        draft.device().ramps.starting = 1;
-        draft.device().initial_power = 50;
-        draft.device().terms[0].pmin = 0;
-        draft.device().terms[0].pmax = pmax_at_first;
-        draft.setting(2).online_power = 50;
-        draft.setting(4).online_power = 50;
-        draft
-    };
     vec![
         rising.row("psu over two intervals"),
         too_high.row("starting ramp, not up, at a start: rule 5"),
@@ -686,7 +726,7 @@ fn trajectory_rows() -> Vec<Row> {
         left_too_much.row("initial power while off, one too much: rule 6"),
         into_on.row("psu of a start reaches into an on interval: rule 18"),
         into_low_on.row("the same with online power below pmin, though p is above: rule 17"),
-        crossing.row("psu and psd in one interval"),
+        crossing().row("psu and psd in one interval"),
         two_starts(59)
             .row("psu of two later starts, 40 and 20, above pmax 59: rule 18 in interval 1"),
         two_starts(60)

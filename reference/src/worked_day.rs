@@ -1,21 +1,33 @@
-//! "A two-set day": the paper's worked case, its plan, and the variations (a) to (m).
+//! "A two-set day": the paper's worked case, its plan, the variations (a) to (m), and those of
+//! edition 2 that were worked by hand.
 //!
-//! Only what the paper gives as input stands here; the figures it gives as results are in the
-//! tests.
+//! Only what is given as input stands here; the figures given as results are in the tests.
 
 use crate::batch::join;
 use crate::case::{
-    Block, Case, Device, EnergyKind, EnergyWindow, Ramps, Reserves, Side, StartWindow,
-    StartupState, Status, Terms, Zone,
+    Block, Case, Device, EnergyKind, EnergyWindow, Link, LinkLine, Ramps, Side, StartWindow,
+    StartupState, Terms, Zone,
 };
+use crate::edition::Edition;
 use crate::encode::{encode_case, encode_plan};
 use crate::plan::{Plan, Setting};
 
-/// A case and a plan of it.
+/// A case and a plan of it, and the edition of both.
 #[derive(Clone, PartialEq, Eq, Debug)]
 pub struct Day {
+    pub edition: Edition,
     pub case: Case,
     pub plan: Plan,
+}
+
+impl Day {
+    /// The messages of the case and of the plan.
+    pub fn messages(&self) -> (Vec<u8>, Vec<u8>) {
+        (
+            encode_case(self.edition, &self.case).bytes,
+            encode_plan(self.edition, &self.plan).bytes,
+        )
+    }
 }
 
 /// "Two 60-minute intervals, no zones or windows, mismatch price 1,000, overrun price 1; unnamed
@@ -26,11 +38,10 @@ pub fn two_set_day() -> Day {
         ..Device::plain(side, vec![terms.clone(), terms])
     };
     let terms = |pmin, blocks: &[Block]| Terms {
-        status: Status::Free,
         pmin,
         pmax: 200,
         blocks: blocks.to_vec(),
-        reserve_prices: Reserves::default(),
+        ..Terms::default()
     };
     let block = |cap, price| Block { cap, price };
     let state = |longest_downtime, cost| StartupState {
@@ -60,9 +71,10 @@ pub fn two_set_day() -> Day {
     let on = |online_power| Setting {
         on: true,
         online_power,
-        reserves: Reserves::default(),
+        ..Setting::default()
     };
     Day {
+        edition: Edition::One,
         case: Case {
             mismatch_price: 1_000,
             overrun_price: 1,
@@ -115,8 +127,7 @@ fn lettered_day(letter: char) -> Day {
 fn add_zone_of_both(case: &mut Case) {
     case.zones.push(Zone {
         shares: [50, 0, 0, 0],
-        shortfall_prices: [1; 6],
-        ramping_minima: vec![[0, 0]; 2],
+        ..Zone::plain(2)
     });
     for device in &mut case.devices {
         device.zone_bits[0] = true;
@@ -140,16 +151,104 @@ fn no_energy_in(start: i128, end: i128) -> EnergyWindow {
     }
 }
 
+/// What a day of edition 2 is about, and the day.
+pub type ReactiveDay = (&'static str, Day);
+
+/// The two-set day of edition 2 after a change; "unnamed additions neutral".
+fn reactive_day(change: impl Fn(&mut Day)) -> Day {
+    let mut day = Day {
+        edition: Edition::Two,
+        ..two_set_day()
+    };
+    change(&mut day);
+    day
+}
+
+/// The days of edition 2 that were worked by hand, in order.
+pub fn reactive_days() -> Vec<ReactiveDay> {
+    [plain_reactive_days(), linked_days()].concat()
+}
+
+/// The load of device 2 with 1 kvar in interval 1, alone and with what is held beside it.
+fn plain_reactive_days() -> Vec<ReactiveDay> {
+    let one_kvar = |day: &mut Day, j: usize| {
+        day.case.devices[j].terms[0].qmax = 1;
+        day.plan.intervals[0][j].reactive_power = 1;
+    };
+    let load = reactive_day(|day| one_kvar(day, 1));
+    let mut balanced = load.clone();
+    one_kvar(&mut balanced, 0);
+    let mut with_qrd = load.clone();
+    with_qrd.plan.intervals[0][1].reactive_reserves.qrd = 1;
+    let mut with_qru = load.clone();
+    with_qru.case.devices[1].terms[0].reactive_prices.qru = 7;
+    with_qru.plan.intervals[0][1].reactive_reserves.qru = 1;
+    let mut in_zone = with_qru.clone();
+    add_reactive_zone(&mut in_zone.case);
+    vec![
+        ("1 kvar of load: a reactive mismatch", load),
+        ("1 kvar of load and of the starting set", balanced),
+        ("1 kvar of load and qrd 1, qmax 1", with_qrd),
+        ("1 kvar of load and qru 1 at price 7", with_qru),
+        ("the same in a zone: minima qru 2, then qrd 1", in_zone),
+    ]
+}
+
+/// "minima qru 2 in interval 1, qrd 1 in interval 2, prices 3 and 5".
+fn add_reactive_zone(case: &mut Case) {
+    case.zones.push(Zone {
+        shortfall_prices: [1, 1, 1, 1, 1, 1, 3, 5],
+        minima: vec![[0, 0, 2, 0], [0, 0, 0, 1]],
+        ..Zone::plain(2)
+    });
+    for device in &mut case.devices {
+        device.zone_bits[0] = true;
+    }
+}
+
+/// Device 1 with two lines, then with an equality; mismatch price 1.
+fn linked_days() -> Vec<ReactiveDay> {
+    let two_lines = |q, qru| {
+        reactive_day(|day| {
+            day.case.mismatch_price = 1;
+            day.case.devices[0].link = Link::TwoLines {
+                upper: line(0, 333),
+                lower: line(-100, 0),
+            };
+            day.case.devices[0].terms[1].qmax = 100;
+            day.plan.intervals[1][0].reactive_power = q;
+            day.plan.intervals[1][0].reactive_reserves.qru = qru;
+        })
+    };
+    let equality = |slope| {
+        reactive_day(|day| {
+            day.case.mismatch_price = 1;
+            day.case.devices[0].link = Link::Equality(line(1, slope));
+            for terms in &mut day.case.devices[0].terms {
+                (terms.qmin, terms.qmax) = (-100, 100);
+            }
+            day.plan.intervals[0][0].reactive_power = 7;
+            day.plan.intervals[1][0].reactive_power = 31;
+        })
+    };
+    vec![
+        ("49 kvar below a line at 49.95", two_lines(49, 0)),
+        ("50 kvar above a line at 49.95", two_lines(50, 0)),
+        ("49 kvar and qru 1 above a line at 49.95", two_lines(49, 1)),
+        ("equality 1 and 200: 7, then 31 kvar", equality(200)),
+        ("equality 1 and 201: 7.03 kvar", equality(201)),
+    ]
+}
+
+fn line(offset: i128, slope: i128) -> LinkLine {
+    LinkLine { offset, slope }
+}
+
 /// The batch of the paper's example: "the case, plan (a), plan (b), and a plan of its first byte
 /// only".
 pub fn example_batch() -> Vec<u8> {
-    let plan_a = encode_plan(&lettered_day('a').plan).bytes;
-    let plan_b = encode_plan(&lettered_day('b').plan).bytes;
+    let (case, plan_a) = lettered_day('a').messages();
+    let (_, plan_b) = lettered_day('b').messages();
     let first_byte = plan_a[..1].to_vec();
-    join(&[
-        encode_case(&two_set_day().case).bytes,
-        plan_a,
-        plan_b,
-        first_byte,
-    ])
+    join(&[case, plan_a, plan_b, first_byte])
 }

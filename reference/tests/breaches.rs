@@ -3,7 +3,7 @@
 
 use reference::breaches::{breaches, breaches_of, bytes_of};
 use reference::case::{Case, Reserves, StartWindow, Status};
-use reference::encode::{encode_case, encode_plan};
+use reference::edition::Edition;
 use reference::fault::{Fault, Number};
 use reference::generate::batches::random_plan_message;
 use reference::generate::breaks::metered_plan;
@@ -22,14 +22,10 @@ const SEED: u64 = 17;
 
 type Entry = [u8; 4];
 
-fn messages(day: &Day) -> (Vec<u8>, Vec<u8>) {
-    (encode_case(&day.case).bytes, encode_plan(&day.plan).bytes)
-}
-
 /// The list of a day, out of a buffer with room to spare, which stays as it was.
 fn list_of(day: &Day) -> Vec<Entry> {
     const ROOM: usize = 1_000;
-    let (case, plan) = messages(day);
+    let (case, plan) = day.messages();
     let mut buffer = [0xA5; ROOM];
     let count = breaches(&case, &plan, &mut buffer).expect("both messages pass reading");
     assert!(buffer[4 * count..].iter().all(|&byte| byte == 0xA5));
@@ -131,7 +127,7 @@ fn a_rule_broken_in_two_ways_is_one_breach() {
 /// The last device in the last interval, and its last window.
 #[test]
 fn lists_at_the_largest_counts() {
-    let mut day = most_breaches_day();
+    let mut day = most_breaches_day(Edition::One);
     for device in &mut day.case.devices {
         device.start_windows.clear();
         device.reserve_limits = Reserves::from_order([100_000; 8]);
@@ -162,21 +158,23 @@ fn lists_at_the_largest_counts() {
     assert_eq!(list_of(&day), [[1, 48, 16, 0], [20, 0, 16, 4]]);
 }
 
-/// 16 devices: 15 rules in each of 48 intervals, rule 2 in 24, rule 3 or 4 in 47, rule 20 in four
-/// windows; in all 12,720 breaches, 50,880 bytes.
+/// 16 devices: 15 rules in each of 48 intervals, in edition 2 four more, rule 2 in 24, rule 3 or 4
+/// in 47, rule 20 in four windows; in all 12,720 breaches, 50,880 bytes, or 15,792 and 63,168.
 #[test]
 fn the_longest_list() {
-    let day = most_breaches_day();
-    let (case, plan) = messages(&day);
-    let mut buffer = vec![0xA5; 50_881];
-    assert_eq!(breaches(&case, &plan, &mut buffer), Ok(12_720));
-    assert_eq!(buffer[50_880], 0xA5);
-    let list = breaches_of(&day.case, &day.plan);
-    assert_eq!(buffer[..50_880], bytes_of(&list));
-    hold_to_second_writing(&day.case, &day.plan);
-    let refused = breaches(&case, &plan, &mut buffer[..50_879]);
-    let bytes_needed = 50_880;
-    assert_eq!(refused, Err(Refusal::BufferTooShort { bytes_needed }));
+    for (edition, count) in [(Edition::One, 12_720), (Edition::Two, 15_792)] {
+        let day = most_breaches_day(edition);
+        let (case, plan) = day.messages();
+        let bytes_needed = 4 * count;
+        let mut buffer = vec![0xA5; bytes_needed + 1];
+        assert_eq!(breaches(&case, &plan, &mut buffer), Ok(count));
+        assert_eq!(buffer[bytes_needed], 0xA5);
+        let list = breaches_of(&day.case, &day.plan);
+        assert_eq!(buffer[..bytes_needed], bytes_of(&list));
+        hold_to_second_writing(&day.case, &day.plan);
+        let refused = breaches(&case, &plan, &mut buffer[..bytes_needed - 1]);
+        assert_eq!(refused, Err(Refusal::BufferTooShort { bytes_needed }));
+    }
 }
 
 /// "It then refuses with 7 when the buffer can't hold the list, and writes nothing."
@@ -184,7 +182,7 @@ fn the_longest_list() {
 fn number_7_only_when_too_short_and_nothing_written_then() {
     let mut day = two_set_day();
     day.plan.intervals[1][0].reserves.rgu = 21;
-    let (case, plan) = messages(&day);
+    let (case, plan) = day.messages();
     let list = [7, 2, 1, 0, 9, 2, 1, 0, 10, 2, 1, 0];
     for length in 0..12 {
         let mut buffer = vec![0xA5; length];
@@ -205,7 +203,7 @@ fn number_7_only_when_too_short_and_nothing_written_then() {
 /// "An accepted plan gives none", in a buffer of no bytes too, where judging would ask for 53.
 #[test]
 fn an_accepted_plan_gives_none() {
-    let (case, plan) = messages(&two_set_day());
+    let (case, plan) = two_set_day().messages();
     for length in [0, 3, 60] {
         let mut buffer = vec![0xA5; length];
         assert_eq!(breaches(&case, &plan, &mut buffer), Ok(0));
@@ -216,8 +214,7 @@ fn an_accepted_plan_gives_none() {
 /// "Reading refusals come first", the case's before the plan's, as judging gives them.
 #[test]
 fn refused_messages_give_their_refusal() {
-    let (case, _) = messages(&two_set_day());
-    let broken = encode_plan(&lettered_days()[1].1.plan).bytes;
+    let (case, broken) = lettered_days()[1].1.messages();
     let cut = Fault::new(Number::Cut, 8);
     let long = Fault::new(Number::Fill, 640);
     let long_plan = [&broken[..], &[0]].concat();
@@ -268,7 +265,7 @@ fn second_list(case: &Case, plan: &Plan) -> Vec<Place> {
 fn hold_to_second_writing(case: &Case, plan: &Plan) -> usize {
     let list = breaches_of(case, plan);
     assert_eq!(list, second_list(case, plan));
-    match find(case, plan) {
+    match find(Edition::NEWEST, case, plan) {
         Finding::Accepted { .. } => assert!(list.is_empty()),
         Finding::Broken(place) => assert_eq!(list.first(), Some(&place)),
     }
@@ -308,13 +305,13 @@ fn lists_and_second_writing_agree() {
     for (mut rng, sample) in samples(100) {
         for _ in 0..8 {
             let message = random_plan_message(&mut rng, &sample);
-            if let Ok(plan) = read_plan(&sample.case, &message) {
+            if let Ok(plan) = read_plan(sample.edition, &sample.case, &message) {
                 hold(&sample.case, &plan);
             }
         }
         hold(&sample.case, &metered_plan(&mut rng, &sample));
-        let case = wild_case(&mut rng, Size::Small);
-        hold(&case, &wild_plan(&mut rng, &case));
+        let (edition, case) = wild_case(&mut rng, Size::Small);
+        hold(&case, &wild_plan(&mut rng, edition, &case));
     }
     println!("no breach {none}, one {one}, up to 20 {several}, more {many}");
     assert!(none > 200 && one > 50 && several > 100 && many > 100);
@@ -328,6 +325,6 @@ fn lists_and_second_writing_agree_at_full_size() {
         hold_to_second_writing(&sample.case, &good_plan(&mut rng, &sample)),
         0
     );
-    let wild = wild_plan(&mut rng, &sample.case);
+    let wild = wild_plan(&mut rng, sample.edition, &sample.case);
     assert!(hold_to_second_writing(&sample.case, &wild) > 1_000);
 }

@@ -5,6 +5,8 @@ use std::env;
 use std::path::PathBuf;
 
 use reference::corpus::{check, corpus_of, DEFAULT_SEED};
+use reference::edges::Edges;
+use reference::edition::Edition;
 use reference::packed::{output, pack, unpack};
 use reference::worked_day::example_batch;
 
@@ -27,7 +29,7 @@ fn reference_is_held_to_the_corpus() {
         census.listed[1..].iter().all(|&count| count >= 300),
         "{census}"
     );
-    assert_eq!(census.longest_list, 12_720);
+    assert_eq!(census.longest_list, 15_792);
     assert!(
         census.refused_cases[1..].iter().all(|&count| count >= 5),
         "{census}"
@@ -41,12 +43,31 @@ fn reference_is_held_to_the_corpus() {
         "{census}"
     );
     assert_eq!(census.greatest, [16, 48, 4]);
+    for edition in Edition::ALL {
+        let of = census.of(edition);
+        assert!(of.cases >= 150 && of.accepted >= 300, "{census}");
+        assert!(of.broken >= 300 && of.refused >= 300, "{census}");
+    }
+}
+
+/// Every edge that the corpus lists is shown by some plan of it.
+#[test]
+fn corpus_shows_every_edge() {
+    let corpus = corpus_of(DEFAULT_SEED);
+    let mut edges = Edges::default();
+    for batch in unpack(&corpus.stdin).expect("batches are packed") {
+        edges.add(batch);
+    }
+    for (name, count) in edges.in_order() {
+        assert!(count > 0, "{name} is never shown");
+        assert!(corpus.readme.contains(&format!("| {name} | {count} |")));
+    }
 }
 
 #[test]
 fn another_seed_makes_another_corpus_within_bounds() {
     let other = corpus_of(DEFAULT_SEED + 1);
-    assert!(other.stdin.len() < 3_500_000 && other.stdout.len() < 1_000_000);
+    assert!(other.stdin.len() < 5_000_000 && other.stdout.len() < 1_000_000);
     assert_ne!(other.stdin, corpus_of(DEFAULT_SEED).stdin);
 }
 

@@ -5,6 +5,7 @@ use reference::bits::FieldReader;
 use reference::case::{Case, EnergyKind, EnergyWindow, MOST_ITEMS};
 use reference::clock::{spans, Span};
 use reference::completion::completion_bits;
+use reference::edition::Edition;
 use reference::energy::EnergyRule::{self, ByMidpoint, ByMinute};
 use reference::forced::forced;
 use reference::generate::batches::random_plan_message;
@@ -126,10 +127,12 @@ fn letters_by_either_rule() {
     let figures = |rule| -> Vec<Option<i128>> {
         lettered_days()
             .iter()
-            .map(|(_, day)| match find_by(rule, &day.case, &day.plan) {
-                Finding::Accepted { surplus, .. } => Some(surplus),
-                Finding::Broken(_) => None,
-            })
+            .map(
+                |(_, day)| match find_by(rule, day.edition, &day.case, &day.plan) {
+                    Finding::Accepted { surplus, .. } => Some(surplus),
+                    Finding::Broken(_) => None,
+                },
+            )
             .collect()
     };
     let (by_minute, by_midpoint) = (figures(ByMinute), figures(ByMidpoint));
@@ -144,8 +147,8 @@ enum Outcome {
     Accepted { ours: Ours, message: Vec<u8> },
 }
 
-fn outcome(rule: EnergyRule, case: &Case, plan: &Plan) -> Outcome {
-    match find_by(rule, case, plan) {
+fn outcome(rule: EnergyRule, edition: Edition, case: &Case, plan: &Plan) -> Outcome {
+    match find_by(rule, edition, case, plan) {
         Finding::Broken(place) => Outcome::Broken(place),
         Finding::Accepted { surplus, message } => {
             let spans = spans(&case.durations);
@@ -175,15 +178,15 @@ fn energy_windows(case: &Case) -> usize {
     devices.map(|device| device.energy_windows.len()).sum()
 }
 
-fn bits_before_overruns(case: &Case) -> usize {
-    completion_bits(case) - SURPLUS_BITS - OVERRUN_BITS * energy_windows(case)
+fn bits_before_overruns(edition: Edition, case: &Case) -> usize {
+    completion_bits(edition, case) - SURPLUS_BITS - OVERRUN_BITS * energy_windows(case)
 }
 
 /// The overruns that a completion message holds.
-fn overruns_in(case: &Case, message: &[u8]) -> Vec<i128> {
+fn overruns_in(edition: Edition, case: &Case, message: &[u8]) -> Vec<i128> {
     let mut fields = FieldReader::new(message);
     let whole = "the message is whole";
-    for _ in 0..bits_before_overruns(case) {
+    for _ in 0..bits_before_overruns(edition, case) {
         fields.flag().expect(whole);
     }
     let overruns = (0..energy_windows(case))
@@ -204,8 +207,8 @@ struct Counts {
 
 impl Counts {
     /// Holds that nothing but overruns, and the surplus by their price, depends on the rule.
-    fn hold_apart_from_overruns(&mut self, case: &Case, plan: &Plan) {
-        let outcomes = [ByMinute, ByMidpoint].map(|rule| outcome(rule, case, plan));
+    fn hold_apart_from_overruns(&mut self, edition: Edition, case: &Case, plan: &Plan) {
+        let outcomes = [ByMinute, ByMidpoint].map(|rule| outcome(rule, edition, case, plan));
         let (ours, message, other, other_message) = match outcomes {
             [Outcome::Broken(place), Outcome::Broken(other)] => {
                 assert_eq!(place, other);
@@ -223,9 +226,9 @@ impl Counts {
         let (overruns, other_overruns) = (overruns_of(&ours), overruns_of(&other));
         let more: i128 = overruns.iter().sum::<i128>() - other_overruns.iter().sum::<i128>();
         assert_eq!(ours.surplus - other.surplus, -case.overrun_price * more);
-        hold_bytes_apart_from_overruns(case, &message, &other_message);
-        assert_eq!(overruns_in(case, &message), overruns);
-        assert_eq!(overruns_in(case, &other_message), other_overruns);
+        hold_bytes_apart_from_overruns(edition, case, &message, &other_message);
+        assert_eq!(overruns_in(edition, case, &message), overruns);
+        assert_eq!(overruns_in(edition, case, &other_message), other_overruns);
         if overruns == other_overruns {
             assert_eq!(message, other_message);
             self.same += 1;
@@ -236,8 +239,8 @@ impl Counts {
 }
 
 /// The bits of a completion ahead of its overruns, and its length, are the same.
-fn hold_bytes_apart_from_overruns(case: &Case, message: &[u8], other: &[u8]) {
-    let bits = bits_before_overruns(case);
+fn hold_bytes_apart_from_overruns(edition: Edition, case: &Case, message: &[u8], other: &[u8]) {
+    let bits = bits_before_overruns(edition, case);
     assert_eq!(first_bits(message, bits), first_bits(other, bits));
     assert_eq!(message.len(), other.len());
 }
@@ -255,7 +258,7 @@ fn samples(count: u64) -> impl Iterator<Item = (Rng, Sample)> {
 fn nothing_but_overruns_depends_on_the_rule_on_the_worked_days() {
     let mut counts = Counts::default();
     for (_, day) in lettered_days() {
-        counts.hold_apart_from_overruns(&day.case, &day.plan);
+        counts.hold_apart_from_overruns(day.edition, &day.case, &day.plan);
     }
     assert_eq!(
         (counts.broken, counts.same, counts.other_overruns),
@@ -269,12 +272,13 @@ fn nothing_but_overruns_depends_on_the_rule_on_drawn_days() {
     for (mut rng, sample) in samples(120) {
         for _ in 0..8 {
             let message = random_plan_message(&mut rng, &sample);
-            if let Ok(plan) = read_plan(&sample.case, &message) {
-                counts.hold_apart_from_overruns(&sample.case, &plan);
+            if let Ok(plan) = read_plan(sample.edition, &sample.case, &message) {
+                counts.hold_apart_from_overruns(sample.edition, &sample.case, &plan);
             }
         }
-        let case = wild_case(&mut rng, Size::Tiny);
-        counts.hold_apart_from_overruns(&case, &wild_plan(&mut rng, &case));
+        let (edition, case) = wild_case(&mut rng, Size::Tiny);
+        let plan = wild_plan(&mut rng, edition, &case);
+        counts.hold_apart_from_overruns(edition, &case, &plan);
     }
     println!("{counts:?}");
     assert!(counts.broken > 300 && counts.same > 50 && counts.other_overruns > 200);
@@ -294,12 +298,12 @@ fn days_with_windows_on_interval_edges_are_alike_by_either_rule() {
         }
         let plan = good_plan(&mut rng, &sample);
         let [by_minute, by_midpoint] =
-            [ByMinute, ByMidpoint].map(|rule| find_by(rule, &sample.case, &plan));
+            [ByMinute, ByMidpoint].map(|rule| find_by(rule, sample.edition, &sample.case, &plan));
         assert_eq!(by_minute, by_midpoint);
         let Finding::Accepted { message, .. } = by_minute else {
             panic!("a good plan is accepted");
         };
-        let overruns = overruns_in(&sample.case, &message);
+        let overruns = overruns_in(sample.edition, &sample.case, &message);
         with_overruns += usize::from(overruns.iter().any(|&overrun| overrun > 0));
     }
     assert!(with_overruns > 30, "{with_overruns}");
@@ -313,7 +317,8 @@ fn overruns_are_the_least_that_meet() {
     for (mut rng, sample) in samples(60) {
         let plan = good_plan(&mut rng, &sample);
         for rule in [ByMinute, ByMidpoint] {
-            let Outcome::Accepted { ours, .. } = outcome(rule, &sample.case, &plan) else {
+            let Outcome::Accepted { ours, .. } = outcome(rule, sample.edition, &sample.case, &plan)
+            else {
                 panic!("a good plan is accepted");
             };
             let windows = ours.completion.overruns.iter().map(Vec::len);
@@ -335,7 +340,7 @@ fn overruns_are_the_least_that_meet() {
 fn surplus_with(windows: &[EnergyWindow]) -> i128 {
     let mut day = two_set_day();
     day.case.devices[0].energy_windows = windows.to_vec();
-    match find(&day.case, &day.plan) {
+    match find(day.edition, &day.case, &day.plan) {
         Finding::Accepted { surplus, .. } => surplus,
         Finding::Broken(place) => panic!("{place:?}"),
     }
@@ -370,10 +375,10 @@ fn windows_of_the_worked_day() {
 }
 
 fn overruns_written_for(day: &Day) -> Vec<i128> {
-    let Finding::Accepted { message, .. } = find(&day.case, &day.plan) else {
+    let Finding::Accepted { message, .. } = find(day.edition, &day.case, &day.plan) else {
         panic!("the day is accepted");
     };
-    overruns_in(&day.case, &message)
+    overruns_in(day.edition, &day.case, &message)
 }
 
 /// The greatest overruns fit their 32 bits: 100,000 kW for 17,280 minutes above a maximum of 0,
@@ -390,7 +395,7 @@ fn the_greatest_overruns_fit_their_field() {
     let overruns = overruns_written_for(&high);
     let expected = [1_728_000_000, 1_727_800_000].repeat(16);
     assert_eq!(overruns, expected);
-    let overruns = overruns_written_for(&very_low_surplus_day());
+    let overruns = overruns_written_for(&very_low_surplus_day(Edition::One));
     assert_eq!(overruns, [4_000_000_000; 64]);
     assert!(overruns[0] < 1 << OVERRUN_BITS);
 }

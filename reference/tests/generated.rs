@@ -1,24 +1,27 @@
 //! What the generator makes: messages that read back, plans that keep or break what they are made
 //! to, damage that is refused where it was done. Counts can be seen with `--nocapture`.
 
+use std::collections::BTreeSet;
+
 use reference::batch::{append_message, run};
-use reference::case::{read_case, MOST_STATES};
+use reference::case::{read_case, Case, MOST_STATES};
 use reference::census::Census;
 use reference::clock::spans;
 use reference::compare::numbered_batch;
 use reference::completion::completion_bits;
 use reference::edges::Edges;
+use reference::edition::Edition;
 use reference::encode::{encode_case, encode_plan, Class, Encoded, Field};
 use reference::fault::Fault;
 use reference::forced::forced;
 use reference::generate::batches::random_plan_message;
 use reference::generate::breaks::plan_breaking;
 use reference::generate::damage::{
-    contradict, give_too_many_states, values_out_of_range, with_value, Contradiction,
-    CONTRADICTIONS,
+    contradict, contradictions, give_too_many_states, values_out_of_range, with_value,
+    Contradiction,
 };
 use reference::generate::plans::{good_plan, wild_plan};
-use reference::generate::sample::{random_sample, wild_case, Sample};
+use reference::generate::sample::{random_sample, sample_in, wild_case, Sample};
 use reference::generate::shape::Size;
 use reference::judge::{find, Finding};
 use reference::meets::{keeps_every_rule, meets, surplus_of};
@@ -44,10 +47,12 @@ fn figures(fault: Fault) -> (u8, usize) {
 #[test]
 fn messages_read_back_as_they_were_written() {
     for (mut rng, sample) in samples(60) {
-        let case = encode_case(&sample.case);
-        assert_eq!(read_case(&case.bytes), Ok(sample.case.clone()));
+        let Sample { edition, case, .. } = &sample;
+        let message = encode_case(*edition, case);
+        assert_eq!(read_case(&message.bytes), Ok((*edition, case.clone())));
         let plan = good_plan(&mut rng, &sample);
-        assert_eq!(read_plan(&sample.case, &encode_plan(&plan).bytes), Ok(plan));
+        let message = encode_plan(*edition, &plan);
+        assert_eq!(read_plan(*edition, case, &message.bytes), Ok(plan));
     }
 }
 
@@ -56,13 +61,13 @@ fn messages_read_back_as_they_were_written() {
 fn what_passes_reading_is_written_alike() {
     let mut passed = 0;
     for (mut rng, sample) in samples(200) {
-        let message = encode_case(&sample.case);
+        let message = encode_case(sample.edition, &sample.case);
         for _ in 0..10 {
             let mut turned = message.bytes.clone();
             let bit = rng.below(8 * turned.len());
             turned[bit / 8] ^= 1 << (bit % 8);
-            if let Ok(case) = read_case(&turned) {
-                assert_eq!(encode_case(&case).bytes, turned);
+            if let Ok((edition, case)) = read_case(&turned) {
+                assert_eq!(encode_case(edition, &case).bytes, turned);
                 passed += 1;
             }
         }
@@ -75,21 +80,19 @@ fn good_plans_are_accepted() {
     for (mut rng, sample) in samples(150) {
         for _ in 0..3 {
             let plan = good_plan(&mut rng, &sample);
-            assert!(matches!(
-                find(&sample.case, &plan),
-                Finding::Accepted { .. }
-            ));
+            let finding = find(sample.edition, &sample.case, &plan);
+            assert!(matches!(finding, Finding::Accepted { .. }), "{finding:?}");
         }
     }
 }
 
 #[test]
 fn broken_plans_break_the_rule_they_are_made_to_break() {
-    let mut made = [0; 21];
+    let mut made = [0; 27];
     for (mut rng, sample) in samples(200) {
-        for rule in 1..=20 {
+        for rule in 1..=sample.edition.last_rule() {
             if let Some(plan) = plan_breaking(&mut rng, &sample, rule) {
-                let Finding::Broken(place) = find(&sample.case, &plan) else {
+                let Finding::Broken(place) = find(sample.edition, &sample.case, &plan) else {
                     panic!("a plan made to break rule {rule} is accepted");
                 };
                 assert_eq!(place.rule, rule);
@@ -102,17 +105,16 @@ fn broken_plans_break_the_rule_they_are_made_to_break() {
 }
 
 /// The judgement against the same sentences written a second time.
-fn hold_to_meets(sample_case: &reference::case::Case, plan: &Plan) -> bool {
-    let finding = find(sample_case, plan);
+fn hold_to_meets(edition: Edition, case: &Case, plan: &Plan) -> bool {
+    let finding = find(edition, case, plan);
     let accepted = matches!(finding, Finding::Accepted { .. });
-    assert_eq!(accepted, keeps_every_rule(sample_case, plan));
+    assert_eq!(accepted, keeps_every_rule(case, plan));
     if let Finding::Accepted { surplus, message } = finding {
-        let spans = spans(&sample_case.durations);
-        let forced = forced(sample_case, &spans, plan);
-        let ours = complete(sample_case, &spans, plan, &forced);
-        assert!(meets(sample_case, plan, &ours.completion));
-        assert_eq!(surplus_of(sample_case, plan, &ours.completion), surplus);
-        assert_eq!(message.len(), completion_bits(sample_case).div_ceil(8));
+        let spans = spans(&case.durations);
+        let ours = complete(case, &spans, plan, &forced(case, &spans, plan));
+        assert!(meets(case, plan, &ours.completion));
+        assert_eq!(surplus_of(case, plan, &ours.completion), surplus);
+        assert_eq!(message.len(), completion_bits(edition, case).div_ceil(8));
     }
     accepted
 }
@@ -120,8 +122,8 @@ fn hold_to_meets(sample_case: &reference::case::Case, plan: &Plan) -> bool {
 #[test]
 fn judgement_and_second_writing_agree() {
     let (mut accepted, mut broken) = (0, 0);
-    let mut hold = |case: &_, plan: &_| {
-        if hold_to_meets(case, plan) {
+    let mut hold = |edition, case: &_, plan: &_| {
+        if hold_to_meets(edition, case, plan) {
             accepted += 1;
         } else {
             broken += 1;
@@ -130,13 +132,13 @@ fn judgement_and_second_writing_agree() {
     for (mut rng, sample) in samples(150) {
         for _ in 0..12 {
             let message = random_plan_message(&mut rng, &sample);
-            if let Ok(plan) = read_plan(&sample.case, &message) {
-                hold(&sample.case, &plan);
+            if let Ok(plan) = read_plan(sample.edition, &sample.case, &message) {
+                hold(sample.edition, &sample.case, &plan);
             }
         }
-        let case = wild_case(&mut rng, Size::Tiny);
+        let (edition, case) = wild_case(&mut rng, Size::Tiny);
         for _ in 0..4 {
-            hold(&case, &wild_plan(&mut rng, &case));
+            hold(edition, &case, &wild_plan(&mut rng, edition, &case));
         }
     }
     println!("accepted {accepted}, broken {broken}");
@@ -146,8 +148,11 @@ fn judgement_and_second_writing_agree() {
 #[test]
 fn judgement_and_second_writing_agree_at_full_size() {
     let mut rng = Rng::numbered(SEED, 1_000_000);
-    let sample = random_sample(&mut rng, Size::Full);
-    assert!(hold_to_meets(&sample.case, &good_plan(&mut rng, &sample)));
+    for edition in Edition::ALL {
+        let sample = sample_in(&mut rng, edition, Size::Full);
+        let plan = good_plan(&mut rng, &sample);
+        assert!(hold_to_meets(edition, &sample.case, &plan));
+    }
 }
 
 fn number_of(class: Class) -> u8 {
@@ -180,31 +185,58 @@ fn hold_to_fields(message: &Encoded, read: impl Fn(&[u8]) -> Result<(), Fault>) 
     }
 }
 
+/// The fields that edition 2 adds to case and plan.
+const FIELDS_OF_EDITION_2: [&str; 18] = [
+    "qru shortfall price",
+    "qrd shortfall price",
+    "qru minimum",
+    "qrd minimum",
+    "link kind",
+    "upper offset",
+    "upper slope",
+    "lower offset",
+    "lower slope",
+    "equality offset",
+    "equality slope",
+    "qmin",
+    "qmax",
+    "qru price",
+    "qrd price",
+    "q",
+    "qru",
+    "qrd",
+];
+
 #[test]
 fn damage_is_refused_at_the_field_that_was_damaged() {
-    for (mut rng, sample) in samples(12) {
-        if sample.case.devices.len() * sample.case.intervals() > 40 {
+    let mut damaged = BTreeSet::new();
+    for (mut rng, sample) in samples(24) {
+        if sample.case.devices.len() * sample.case.intervals() > 30 {
             continue;
         }
-        hold_to_fields(&encode_case(&sample.case), |bytes| {
-            read_case(bytes).map(|_| ())
-        });
-        let plan = encode_plan(&good_plan(&mut rng, &sample));
-        hold_to_fields(&plan, |bytes| read_plan(&sample.case, bytes).map(|_| ()));
+        let Sample { edition, case, .. } = &sample;
+        let message = encode_case(*edition, case);
+        hold_to_fields(&message, |bytes| read_case(bytes).map(|_| ()));
+        let plan = encode_plan(*edition, &good_plan(&mut rng, &sample));
+        hold_to_fields(&plan, |bytes| read_plan(*edition, case, bytes).map(|_| ()));
+        damaged.extend(message.fields.iter().chain(&plan.fields).map(|f| f.name));
+    }
+    for name in FIELDS_OF_EDITION_2 {
+        assert!(damaged.contains(name), "{name}");
     }
 }
 
 #[test]
 fn contradictions_are_refused_at_the_field_the_paper_names() {
-    let mut made = [0; CONTRADICTIONS.len()];
+    let mut made = [0; 7];
     for (mut rng, sample) in samples(120) {
-        for (k, contradiction) in CONTRADICTIONS.into_iter().enumerate() {
+        for (k, &contradiction) in contradictions(sample.edition).iter().enumerate() {
             let mut case = sample.case.clone();
             if !contradict(&mut rng, &mut case, contradiction) {
                 continue;
             }
             made[k] += 1;
-            let message = encode_case(&case);
+            let message = encode_case(sample.edition, &case);
             let fault = read_case(&message.bytes).expect_err("it contradicts itself");
             assert_eq!(fault.number.figure(), 5);
             let name = match contradiction {
@@ -216,6 +248,7 @@ fn contradictions_are_refused_at_the_field_the_paper_names() {
                     "energy window end"
                 }
                 Contradiction::ZoneBitAboveCount => "zone bits",
+                Contradiction::QminAboveQmax => "qmax",
             };
             assert_eq!(name_of_field_at(&message, fault.bit), Some(name));
         }
@@ -248,7 +281,7 @@ fn too_many_states_are_refused_at_their_count() {
         let mut case = sample.case.clone();
         give_too_many_states(&mut rng, &mut case);
         contradict(&mut rng, &mut case, Contradiction::PminAbovePmax);
-        let message = encode_case(&case);
+        let message = encode_case(sample.edition, &case);
         let fault = read_case(&message.bytes).expect_err("it has too many states");
         assert_eq!(fault.number.figure(), 3);
         assert_eq!(
@@ -266,7 +299,7 @@ fn noise_is_refused() {
         let length = rng.below(400);
         let mut noise: Vec<u8> = (0..length).map(|_| rng.below(256) as u8).collect();
         if rng.chance(70) && length > 2 {
-            noise[0] = 0x11;
+            noise[0] = 0x11 + rng.below(2) as u8;
             noise[1] = 0x08;
         }
         assert!(read_case(&noise).is_err());

@@ -5,15 +5,11 @@ use reference::batch::{append_length, join, run, split, Split, LONGEST_MESSAGE};
 use reference::case::read_case;
 use reference::completion::completion_bits;
 use reference::crc::crc32;
-use reference::encode::{encode_case, encode_plan};
+use reference::edition::Edition;
 use reference::fault::{Fault, Number};
 use reference::generate::extreme::{very_high_surplus_day, very_low_surplus_day};
 use reference::judge::{judge, Refusal, Verdict};
-use reference::worked_day::{lettered_days, two_set_day, Day};
-
-fn messages(day: &Day) -> (Vec<u8>, Vec<u8>) {
-    (encode_case(&day.case).bytes, encode_plan(&day.plan).bytes)
-}
+use reference::worked_day::{lettered_days, two_set_day};
 
 /// A message from its fields as (width, value), values not negative.
 fn message(fields: &[(usize, u64)]) -> Vec<u8> {
@@ -61,7 +57,7 @@ fn completion_of_day_a() -> Vec<u8> {
 
 #[test]
 fn completion_of_the_worked_day_has_these_bytes() {
-    let (case, plan) = messages(&two_set_day());
+    let (case, plan) = two_set_day().messages();
     let mut buffer = [0; 53];
     assert_eq!(
         judge(&case, &plan, &mut buffer),
@@ -76,7 +72,7 @@ fn completion_of_the_worked_day_has_these_bytes() {
 fn completion_with_a_zone_has_these_bytes() {
     let days = lettered_days();
     let day_h = &days[7].1;
-    let (case, plan) = messages(day_h);
+    let (case, plan) = day_h.messages();
     let mut buffer = [0; 200];
     let verdict = judge(&case, &plan, &mut buffer);
     assert_eq!(
@@ -115,7 +111,7 @@ fn completion_with_a_zone_has_these_bytes() {
 
 #[test]
 fn number_7_only_when_too_short_and_nothing_written_then() {
-    let (case, plan) = messages(&two_set_day());
+    let (case, plan) = two_set_day().messages();
     for length in 0..53 {
         let mut buffer = vec![0xA5; length];
         assert_eq!(
@@ -128,7 +124,7 @@ fn number_7_only_when_too_short_and_nothing_written_then() {
 
 #[test]
 fn acceptance_leaves_the_rest_of_the_buffer() {
-    let (case, plan) = messages(&two_set_day());
+    let (case, plan) = two_set_day().messages();
     let mut buffer = vec![0xA5; 60];
     judge(&case, &plan, &mut buffer);
     assert_eq!(buffer[..53], completion_of_day_a());
@@ -137,8 +133,8 @@ fn acceptance_leaves_the_rest_of_the_buffer() {
 
 #[test]
 fn only_acceptance_writes_and_7_comes_last() {
-    let (case, plan) = messages(&two_set_day());
-    let broken = encode_plan(&lettered_days()[1].1.plan).bytes;
+    let (case, plan) = two_set_day().messages();
+    let (_, broken) = lettered_days()[1].1.messages();
     let cut = Fault::new(Number::Cut, 8);
     let fill = Fault::new(Number::Fill, 1_680);
     let long_case = [&case[..], &[0]].concat();
@@ -214,7 +210,7 @@ fn printed(batch: &[u8]) -> Vec<String> {
 
 #[test]
 fn batch_program_ends_where_the_paper_ends_it() {
-    let (case, plan) = messages(&two_set_day());
+    let (case, plan) = two_set_day().messages();
     assert!(printed(&[]).is_empty());
     assert_eq!(printed(&[0, 0]), ["framing 1"]);
     assert_eq!(printed(&[2, 0, 0]), ["framing 4"]);
@@ -245,8 +241,8 @@ fn batch_program_ends_where_the_paper_ends_it() {
 /// of 4·10^9 at 10,000. The very high one: 16 devices × 100,000 kW × 10,000 × 17,280 min and 16 states.
 #[test]
 fn largest_messages_and_surpluses() {
-    let low = very_low_surplus_day();
-    let (case, plan) = messages(&low);
+    let low = very_low_surplus_day(Edition::One);
+    let (case, plan) = low.messages();
     assert_eq!((case.len(), plan.len()), (29_812, 14_787));
     let mut buffer = vec![0; 12_165];
     assert_eq!(
@@ -255,14 +251,14 @@ fn largest_messages_and_surpluses() {
             surplus: -135_823_403_648_000_000
         }
     );
-    assert_eq!(completion_bits(&low.case).div_ceil(8), 12_165);
+    assert_eq!(completion_bits(Edition::One, &low.case).div_ceil(8), 12_165);
     assert_eq!(
         judge(&case, &plan, &mut buffer[..12_164]),
         Verdict::Refused(Refusal::BufferTooShort {
             bytes_needed: 12_165
         })
     );
-    let (case, plan) = messages(&very_high_surplus_day());
+    let (case, plan) = very_high_surplus_day().messages();
     assert_eq!(
         judge(&case, &plan, &mut buffer),
         Verdict::Accepted {
@@ -273,9 +269,9 @@ fn largest_messages_and_surpluses() {
 
 #[test]
 fn example_messages_have_these_sizes() {
-    let (case, plan) = messages(&two_set_day());
+    let (case, plan) = two_set_day().messages();
     assert_eq!((case.len(), plan.len()), (210, 80));
-    assert_eq!(read_case(&case), Ok(two_set_day().case));
+    assert_eq!(read_case(&case), Ok((Edition::One, two_set_day().case)));
 }
 
 /// The check value that CRC-32 is published with.

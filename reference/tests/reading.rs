@@ -8,6 +8,7 @@
 
 use reference::bits::overwrite;
 use reference::case::{read_case, Case};
+use reference::edition::Edition;
 use reference::encode::{encode_case, encode_plan};
 use reference::fault::Fault;
 use reference::generate::damage::give_states;
@@ -33,7 +34,7 @@ fn case_fault(message: &[u8]) -> (u8, usize) {
 /// Number and bit of a plan's fault, for the worked case.
 fn plan_fault(message: &[u8]) -> (u8, usize) {
     let case = two_set_day().case;
-    figures(read_plan(&case, message).expect_err("the plan is refused"))
+    figures(read_plan(Edition::One, &case, message).expect_err("the plan is refused"))
 }
 
 /// A message with some fields, as (first bit, width, value), overwritten.
@@ -46,7 +47,7 @@ fn with(message: &[u8], fields: &[(usize, usize, i128)]) -> Vec<u8> {
 }
 
 fn bytes(case: &Case) -> Vec<u8> {
-    encode_case(case).bytes
+    encode_case(Edition::One, case).bytes
 }
 
 /// Holds that each (first bit, width, value) is refused with `number` at that bit, and that the
@@ -65,7 +66,7 @@ fn kind_and_edition_are_number_2() {
     each_is_refused(
         &case,
         2,
-        &[(0, 4, 0), (0, 4, 2), (0, 4, 15), (4, 4, 0), (4, 4, 2)],
+        &[(0, 4, 0), (0, 4, 2), (0, 4, 15), (4, 4, 0), (4, 4, 3)],
     );
 }
 
@@ -106,7 +107,11 @@ fn three_startup_states_are_taken_and_four_refused_at_their_count() {
     for count in 0..=3 {
         for counts in [[count, 0], [0, count], [count, count]] {
             let case = with_states(counts);
-            assert_eq!(read_case(&bytes(&case)), Ok(case), "{counts:?}");
+            assert_eq!(
+                read_case(&bytes(&case)),
+                Ok((Edition::One, case)),
+                "{counts:?}"
+            );
         }
     }
     for count in 4..=7 {
@@ -348,9 +353,9 @@ fn fields_come_before_6_and_6_before_5() {
 /// all 635 bits, 80 bytes with 5 fill bits.
 #[test]
 fn plans_are_refused_alike() {
-    let plan = encode_plan(&two_set_day().plan).bytes;
+    let plan = encode_plan(Edition::One, &two_set_day().plan).bytes;
     assert_eq!(plan.len(), 80);
-    assert!(read_plan(&two_set_day().case, &plan).is_ok());
+    assert!(read_plan(Edition::One, &two_set_day().case, &plan).is_ok());
     let faults = [
         ((0, 4, 1), 2),
         ((4, 4, 2), 2),

@@ -13,7 +13,7 @@ use reference::ours::{complete, Ours};
 use reference::plan::Plan;
 use reference::rivals::{random_misfit, random_rival};
 use reference::rng::Rng;
-use reference::worked_day::two_set_day;
+use reference::worked_day::{reactive_days, two_set_day};
 
 const SEED: u64 = 11;
 
@@ -25,14 +25,14 @@ fn ours(case: &Case, plan: &Plan) -> Ours {
 #[test]
 fn random_rivals_never_have_a_greater_surplus() {
     let (mut rivals, mut equals, mut unfit) = (0, 0, 0);
-    for index in 0..250 {
+    for index in 0..400 {
         let mut rng = Rng::numbered(SEED, index);
         let size = rng.pick(&[Size::Tiny, Size::Small]);
         let sample = random_sample(&mut rng, size);
         let plan = good_plan(&mut rng, &sample);
         let ours = ours(&sample.case, &plan);
         for _ in 0..12 {
-            let rival = random_rival(&mut rng, &sample.case, &ours.completion);
+            let rival = random_rival(&mut rng, sample.edition, &sample.case, &ours.completion);
             if !meets(&sample.case, &plan, &rival) {
                 unfit += 1;
                 continue;
@@ -57,7 +57,7 @@ fn misfits_do_not_meet_every_rule() {
         let plan = good_plan(&mut rng, &sample);
         let ours = ours(&sample.case, &plan);
         for _ in 0..12 {
-            let misfit = random_misfit(&mut rng, &sample.case, &ours.completion);
+            let misfit = random_misfit(&mut rng, sample.edition, &sample.case, &ours.completion);
             assert!(!meets(&sample.case, &plan, &misfit), "{misfit:?}");
         }
     }
@@ -72,7 +72,7 @@ fn completions_of_another_shape_do_not_meet() {
     let changes: [fn(&mut Completion); 5] = [
         |completion| completion.intervals.truncate(1),
         |completion| completion.intervals[0].devices.truncate(1),
-        |completion| completion.intervals[0].shortfalls.push([0; 6]),
+        |completion| completion.intervals[0].shortfalls.push([0; 8]),
         |completion| completion.overruns.truncate(1),
         |completion| completion.overruns[0].push(0),
     ];
@@ -205,4 +205,38 @@ fn surplus_goes_by_the_choices_as_they_stand() {
         1_200
     );
     assert_eq!(surplus_with(|c| c.intervals[0].mismatch += 1), -60_000);
+}
+
+/// Of the worked day in a zone, −372,560: reactive shortfalls in var at 3 and 5, mismatch in kvar
+/// at 1,000; each at its need or above it, never negative.
+#[test]
+fn reactive_choices_are_at_or_above_their_needs() {
+    let (_, day) = &reactive_days()[4];
+    let ours = ours(&day.case, &day.plan);
+    let surplus_with = |change: &dyn Fn(&mut Completion)| {
+        let mut other = ours.completion.clone();
+        change(&mut other);
+        meets(&day.case, &day.plan, &other)
+            .then(|| surplus_of(&day.case, &day.plan, &other) - ours.surplus)
+    };
+    assert_eq!(ours.surplus, -372_560);
+    let of_zone: Vec<[i128; 2]> = ours
+        .completion
+        .intervals
+        .iter()
+        .map(|interval| [interval.shortfalls[0][6], interval.shortfalls[0][7]])
+        .collect();
+    assert_eq!(of_zone, [[1_000, 0], [0, 1_000]]);
+    for (t, k, price) in [(0, 6, 3), (0, 7, 5), (1, 6, 3), (1, 7, 5)] {
+        let more = surplus_with(&|c| c.intervals[t].shortfalls[0][k] += 1);
+        assert_eq!(more, Some(-60 * price));
+        let less = surplus_with(&|c| c.intervals[t].shortfalls[0][k] -= 1);
+        assert_eq!(less, None);
+    }
+    for t in [0, 1] {
+        let more = surplus_with(&|c| c.intervals[t].reactive_mismatch += 1);
+        assert_eq!(more, Some(-60_000));
+        let less = surplus_with(&|c| c.intervals[t].reactive_mismatch -= 1);
+        assert_eq!(less, None);
+    }
 }

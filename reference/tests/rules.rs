@@ -10,7 +10,7 @@ use reference::worked_day::{two_set_day, Day};
 fn broken_after(change: impl Fn(&mut Day)) -> Option<(u8, usize, usize, usize)> {
     let mut day = two_set_day();
     change(&mut day);
-    match find(&day.case, &day.plan) {
+    match find(day.edition, &day.case, &day.plan) {
         Finding::Accepted { .. } => None,
         Finding::Broken(Place {
             rule,

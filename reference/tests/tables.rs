@@ -4,10 +4,11 @@ use std::collections::BTreeSet;
 
 use reference::breaches::bytes_of;
 use reference::judge::{Refusal, Verdict};
-use reference::tables::{rows, written_rows};
+use reference::tables::{rows, written_rows, Row};
 
-/// What each written row must give, in order. One interval of 10 minutes or more of 60 (10 in the
-/// rows about trajectories), block price 7 unless given, mismatch price 1, overrun price 3.
+/// What each written row of edition 1 must give, in order. One interval of 10 minutes or more of 60
+/// (10 in the rows about trajectories), block price 7 unless given, mismatch price 1, overrun price
+/// 3.
 const VERDICTS: [&str; 76] = [
     // Consuming reserves: 90 or 60 kW at 7 − 1 for 10 minutes.
     "accepted 5400",
@@ -103,7 +104,179 @@ const VERDICTS: [&str; 76] = [
     "broken 7 1 1 0",
 ];
 
-/// The lists of the last ten rows, those about order and about lists.
+/// What each written row of edition 2 must give, in order, behind those of edition 1.
+const REACTIVE_VERDICTS: [&str; 119] = [
+    // The two-set day.
+    "accepted 107860",
+    "accepted 167860",
+    "broken 21 1 2 0",
+    "accepted 107440",
+    "accepted -372560",
+    "accepted 164920",
+    "broken 23 2 1 0",
+    "broken 23 2 1 0",
+    "accepted 165580",
+    "broken 25 1 1 0",
+    // Limits −5 and 10: a mismatch of 7 kvar for 10 minutes; then limits 2 and 4.
+    "accepted -70",
+    "broken 21 1 1 0",
+    "broken 22 1 1 0",
+    "broken 21 1 1 0",
+    "broken 22 1 1 0",
+    "accepted -70",
+    "broken 21 1 1 0",
+    "broken 22 1 1 0",
+    "broken 21 1 1 0",
+    "broken 22 1 1 0",
+    "accepted -20",
+    "broken 22 1 1 0",
+    // Off.
+    "accepted 0",
+    "broken 21 1 1 0",
+    "broken 22 1 1 0",
+    "broken 22 1 1 0",
+    "broken 21 1 1 0",
+    // Lines at 7 kW: 7·(−7 − 1)·10 producing, 7·(7 − 1)·10 consuming, and 1 kvar of mismatch.
+    "accepted -570",
+    "broken 23 1 1 0",
+    "broken 24 1 1 0",
+    "accepted 410",
+    "broken 23 1 1 0",
+    "broken 24 1 1 0",
+    // Other lines: 8 kW and 4 kvar; 7 kW and 3 kvar; 7 kW and 2 kvar.
+    "accepted -680",
+    "broken 23 1 1 0",
+    "accepted -590",
+    "broken 23 1 1 0",
+    "accepted -580",
+    "broken 24 1 1 0",
+    "broken 21 1 1 0",
+    "broken 23 1 1 0",
+    // Equalities: 7 kW and 8 kvar; 8 kW and 5 kvar; 7 kW consumed and −8 kvar.
+    "accepted -640",
+    "broken 25 1 1 0",
+    "broken 25 1 1 0",
+    "broken 26 1 1 0",
+    "broken 26 1 1 0",
+    "accepted -690",
+    "broken 25 1 1 0",
+    "broken 25 1 1 0",
+    "accepted 340",
+    "broken 22 1 1 0",
+    // Two trajectories: −6,400 less 10 for each of 6 kvar, or of 5, 6 and 5; consuming 80·(7 − 1)·10
+    // less 10 for each of 5, 6 and 5, or of 4.
+    "accepted -6460",
+    "broken 21 2 1 0",
+    "accepted -6460",
+    "broken 22 2 1 0",
+    "accepted -6460",
+    "broken 23 2 1 0",
+    "accepted -6460",
+    "broken 24 2 1 0",
+    "accepted -6560",
+    "broken 25 2 1 0",
+    "accepted 4640",
+    "broken 25 2 1 0",
+    "accepted 4760",
+    "broken 21 2 1 0",
+    "broken 22 2 1 0",
+    // Two starts, and a stop besides.
+    "broken 5 2 1 0",
+    "broken 21 1 1 0",
+    "broken 18 2 1 0",
+    "broken 21 1 1 0",
+    // Needs: 3,000 var at 2; 3,000 at 3; none; 1,000 at 2; 3,000 at 2 and 2,000 at 3; 14 + 33 of
+    // costs; all for 10 minutes.
+    "accepted -60000",
+    "accepted -90000",
+    "accepted 0",
+    "accepted -20000",
+    "accepted -120000",
+    "accepted -470",
+    // Mismatches of 2, 2, 8 and 0 kvar at 3.
+    "accepted -60",
+    "accepted -60",
+    "accepted -240",
+    "accepted 0",
+    // Cases refused: header 50, one duration of 8, 352 of the device and three counts of 3 before
+    // the link kind; 2 of it and 183 up to qmin, 66 more of two lines.
+    "refused case 2 4",
+    "refused case 2 4",
+    "refused case 4 419",
+    "refused case 4 421",
+    "refused case 4 439",
+    "refused case 4 454",
+    "refused case 4 472",
+    "refused case 4 439",
+    "refused case 4 604",
+    "refused case 4 622",
+    "refused case 4 640",
+    "refused case 4 654",
+    "refused case 5 622",
+    "refused case 5 688",
+    "refused case 5 440",
+    "refused case 4 654",
+    // Of a zone: behind 58 its shares and six prices, 82; behind two more prices and two minima, 60.
+    "refused case 4 140",
+    "refused case 4 140",
+    "refused case 4 147",
+    "refused case 4 147",
+    "refused case 4 200",
+    "refused case 4 223",
+    // Plans refused: header 19, on 1, nine powers of 17 before q.
+    "refused plan 4 173",
+    "refused plan 4 173",
+    "refused plan 4 191",
+    "refused plan 4 208",
+    "refused plan 2 4",
+    "refused plan 2 4",
+    "accepted 0",
+    "accepted 0",
+    // Days of edition 1 in edition 2: their surpluses there.
+    "accepted -1147600",
+    "accepted -223200",
+    "accepted -6400",
+    // Lists.
+    "broken 21 1 1 0",
+    "broken 21 1 1 0",
+    "broken 16 1 1 0",
+    "broken 22 1 1 0",
+    "broken 21 1 1 0",
+    "broken 19 1 1 0",
+];
+
+/// The lists of the last six rows of edition 2.
+const REACTIVE_LISTS: [&[[u8; 4]]; 6] = [
+    &[[21, 1, 1, 0], [22, 1, 1, 0], [23, 1, 1, 0], [24, 1, 1, 0]],
+    &[[21, 1, 1, 0], [22, 1, 1, 0], [25, 1, 1, 0], [26, 1, 1, 0]],
+    &[
+        [16, 1, 1, 0],
+        [19, 1, 1, 0],
+        [21, 1, 1, 0],
+        [16, 1, 2, 0],
+        [19, 1, 2, 0],
+        [21, 1, 2, 0],
+        [20, 0, 1, 1],
+        [20, 0, 2, 1],
+    ],
+    &[[22, 1, 1, 0], [7, 2, 1, 0], [9, 2, 1, 0], [10, 2, 1, 0]],
+    &[[21, 1, 1, 0], [21, 1, 2, 0], [20, 0, 1, 1], [20, 0, 2, 1]],
+    &[
+        [19, 1, 1, 0],
+        [21, 1, 1, 0],
+        [22, 1, 1, 0],
+        [23, 1, 1, 0],
+        [24, 1, 1, 0],
+        [19, 2, 1, 0],
+        [21, 2, 1, 0],
+        [22, 2, 1, 0],
+        [23, 2, 1, 0],
+        [24, 2, 1, 0],
+        [20, 0, 1, 1],
+    ],
+];
+
+/// The lists of the last ten rows of edition 1, those about order and about lists.
 const LISTS: [&[[u8; 4]]; 10] = [
     &[[17, 1, 1, 0], [7, 1, 2, 0], [9, 1, 2, 0], [10, 1, 2, 0]],
     &[[19, 1, 1, 0], [1, 2, 1, 0]],
@@ -151,8 +324,9 @@ const LISTS: [&[[u8; 4]]; 10] = [
 #[test]
 fn written_rows_give_what_was_worked_out() {
     let rows = written_rows();
-    assert_eq!(rows.len(), VERDICTS.len());
-    for (row, verdict) in rows.iter().zip(VERDICTS) {
+    let verdicts = [&VERDICTS[..], &REACTIVE_VERDICTS].concat();
+    assert_eq!(rows.len(), verdicts.len());
+    for (row, verdict) in rows.iter().zip(verdicts) {
         let printed = row.printed();
         let expected: Vec<&str> = printed.split(' ').skip(2).collect();
         let fields = verdict.split(' ').count();
@@ -163,7 +337,15 @@ fn written_rows_give_what_was_worked_out() {
 #[test]
 fn lists_of_written_rows_are_what_was_worked_out() {
     let rows = written_rows();
-    for (row, list) in rows[rows.len() - LISTS.len()..].iter().zip(LISTS) {
+    let (of_edition_1, of_edition_2) = rows.split_at(VERDICTS.len());
+    let last = |rows: &'_ [Row], count: usize| rows.len() - count;
+    let first_lists = of_edition_1[last(of_edition_1, LISTS.len())..]
+        .iter()
+        .zip(LISTS);
+    let reactive_lists = of_edition_2[last(of_edition_2, REACTIVE_LISTS.len())..]
+        .iter()
+        .zip(REACTIVE_LISTS);
+    for (row, list) in first_lists.chain(reactive_lists) {
         assert_eq!(row.list(), list.concat(), "{}", row.about);
         let list_hex: String = list.iter().flatten().map(|b| format!("{b:02x}")).collect();
         let printed = format!("{} {list_hex}", row.printed());
@@ -186,8 +368,9 @@ fn lists_begin_with_the_verdict() {
     }
 }
 
-/// Small enough to be worked out by hand; the paper's worked case has 210 bytes.
-const MOST_CASE_BYTES: usize = 220;
+/// Small enough to be worked out by hand; the paper's worked case has 210 bytes, in edition 2 and
+/// with a zone 278.
+const MOST_CASE_BYTES: usize = 278;
 
 #[test]
 fn rows_reach_every_rule_and_every_refusal() {
@@ -202,7 +385,7 @@ fn rows_reach_every_rule_and_every_refusal() {
             Verdict::Refused(Refusal::BufferTooShort { .. }) => ("buffer", 7),
         });
     }
-    assert!((1..=20).all(|rule| reached.contains(&("rule", rule))));
+    assert!((1..=26).all(|rule| reached.contains(&("rule", rule))));
     assert!((1..=6).all(|number| reached.contains(&("case", number))));
     assert!([1, 2, 3, 4, 6]
         .iter()

@@ -1,7 +1,6 @@
 //! The paper's worked day, against the figures the papers print.
 
 use reference::batch;
-use reference::encode::{encode_case, encode_plan};
 use reference::judge::{judge, Verdict};
 use reference::rules::Place;
 use reference::worked_day::{example_batch, lettered_days};
@@ -41,8 +40,7 @@ fn letters_give_the_figures_of_the_paper() {
     assert_eq!(days.len(), figures.len());
     for ((letter, day), (figure_letter, figure)) in days.iter().zip(figures) {
         assert_eq!(*letter, figure_letter);
-        let case = encode_case(&day.case).bytes;
-        let plan = encode_plan(&day.plan).bytes;
+        let (case, plan) = day.messages();
         assert_eq!(judge(&case, &plan, &mut [0; 200]), figure, "({letter})");
     }
 }

@@ -14,14 +14,14 @@ use Rattle.model.specs.Forced.{intervals, devices, zones, device}
 use Rattle.layouts.specs.Layout.{Whole, passes, fails}
 use Rattle.ranges.specs.Ranges.{SystemRange, DeviceRange}
 use Rattle.numbers.specs.Every.{all-at, length-range, sum-bound, all-upTo}
-use Rattle.model.specs.Editions.{batch}
+use Rattle.model.specs.Editions.{batch, mostZones}
 use Rattle.model.specs.Ours.{ours}
 use Rattle.model.specs.Judgement.{energyWindows, ourSurplus, completionBytes, accepts, verdict, judged, withPlan}
 use Rattle.model.specs.Batch.{planVerdict}
-use Rattle.completion_size.specs.Size.{intervalWidth, written-needed}
+use Rattle.completion_size.specs.Size.{intervalWidth, interval-few, written-needed}
 
 abbrev pub resultRoom : ℕ
-resultRoom = 12288
+resultRoom = 14336
 
 -- of a case whose counts the batch program takes
 module _ (x : Stated) (r : SystemRange (x .case .system)) (few : devices (x .case .system) ≤ batch .devices) (short : intervals (x .case .system) ≤ batch .intervals) where
@@ -35,12 +35,12 @@ module _ (x : Stated) (r : SystemRange (x .case .system)) (few : devices (x .cas
       (all-upTo _ (devices q) (λ i l. all-at (DeviceRange (length (q .halves))) noDevice (q .devices) (r .eachDevice) i l .energies)) in
       omega (arith, s, length-range 0 (devices q), few)
 
-  interval-few : intervalWidth (x .edition) (devices q) (zones q) ≤ 1983
-  interval-few = omega (arith, few, r .zones)
+  interval-small : intervalWidth (x .edition) (devices q) (zones q) ≤ 2270
+  interval-small = omega (arith, interval-few (x .edition) (devices q) (zones q) 16 mostZones few (r .zones))
 
   pub completion-fits : (p : Plan) → length (completionBytes x p) ≤ resultRoom
   unfolding completionBytes
-  completion-fits p = omega (arith, written-needed (x .edition) q (ours (x .case) p) (ourSurplus (x .case) p), mul-le-mul short interval-few, windows-few)
+  completion-fits p = omega (arith, written-needed (x .edition) q (ours (x .case) p) (ourSurplus (x .case) p), mul-le-mul short interval-small, windows-few)
 
 -- so every verdict is that of a buffer long enough
 module _ (x : Stated) (buffer : List ℕ) (fits : (p : Plan) → length (completionBytes x p) ≤ length buffer) where

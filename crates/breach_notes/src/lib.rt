@@ -41,7 +41,7 @@ fn note_word(word: u32, t: usize, i: usize, k: usize, list: &mut [u8]) -> usize
     n
 }
 
-// Rules 1 to 19 of device i, whose parts begin at a, in interval t.
+// Rules 1 to 19 and 21 to 26 of device i, whose parts begin at a, in interval t.
 fn note_cell(
     front: Front,
     halves: &[u32],
@@ -82,7 +82,7 @@ fn note_cell(
     note_word(word, t, i, k, list)
 }
 
-// Rules 1 to 19 of the devices in an interval.
+// Rules 1 to 19 and 21 to 26 of the devices in an interval.
 fn note_interval(
     front: Front,
     halves: &[u32],
@@ -129,7 +129,7 @@ fn note_interval(
     n
 }
 
-// Rules 1 to 19 of the day.
+// Rules 1 to 19 and 21 to 26 of the day.
 fn note_cells(
     front: Front,
     halves: &[u32],

@@ -19,6 +19,8 @@ use failing_rules::cell_breach;
 use failing_rules::failing_in;
 use failing_rules::window_breach;
 use model::Breach;
+use reactive_rules::reactive_bounds_of;
+use reactive_rules::reactive_held;
 use row_places::CellRow;
 use row_places::Device;
 use row_places::DeviceRow;
@@ -52,7 +54,7 @@ fn first_in(word: u32, t: usize, i: usize) -> Check
     Check::Held
 }
 
-// Rules 1 to 19 of device i, whose parts begin at a, in interval t.
+// Rules 1 to 19 and 21 to 26 of device i, whose parts begin at a, in interval t.
 fn cell_check(
     front: Front,
     halves: &[u32],
@@ -89,7 +91,7 @@ fn cell_check(
     first_in(word, t, i)
 }
 
-// Rules 1 to 19 of the devices in an interval.
+// Rules 1 to 19 and 21 to 26 of the devices in an interval.
 fn interval_rules(
     front: Front,
     halves: &[u32],
@@ -132,7 +134,7 @@ fn interval_rules(
     Check::Held
 }
 
-// Rules 1 to 19 of the day.
+// Rules 1 to 19 and 21 to 26 of the day.
 fn day_rules(
     front: Front,
     halves: &[u32],
@@ -272,9 +274,14 @@ fn device_held(
     let d = device_at(devices, i);
     let b = bounds_of(d);
     let e = a + halves.len();
+    let own_cells = &cells[a..e];
     let own = &settings[a..e];
     let own_powers = &powers[a..e];
-    if !held_all(b, d.power0, halves, &cells[a..e], own, starts, own_powers) {
+    if !held_all(b, d.power0, halves, own_cells, own, starts, own_powers) {
+        return false;
+    }
+    let reactive = reactive_bounds_of(d);
+    if !reactive_held(reactive, own_cells, own, starts, own_powers) {
         return false;
     }
     let r = device_windows(d, own, starts, i);

@@ -22,7 +22,7 @@ use Rattle.row_places.specs.declared.Counts.{Counts}
 use Rattle.row_places.specs.declared.Front.{Front}
 use Rattle.numbers.specs.Parts.{part, part-taken}
 use Rattle.row_places.specs.Figures.{deviceOf, zoneOf}
-use Rattle.records.specs.Views.{mostIntervals, zoneIn, sixIn, deviceIn, devicePricesIn, systemIn, pricesIn}
+use Rattle.records.specs.Views.{mostIntervals, zoneIn, kindsIn, deviceIn, devicePricesIn, systemIn, pricesIn}
 use Rattle.fields.specs.declared.Went.{Went}
 use Rattle.fields.specs.declared.Went.the-variants as W
 use Rattle.field_rows.specs.Each.{list-natural}
@@ -69,10 +69,10 @@ module _ (f : Front) (c : Counts) (halves : List ℕ) (zones minima devices cell
   case-made = same
       (first-rows zoneIn (c .zones) zones minima long (room .zones-fit) ∙ sym (rows-map (λ x. x .0) _ (c .zones)))
       (first-rows (λ r own. deviceIn (deviceOf r) own) (c .devices) devices cells long (room .devices-fit) ∙ sym (rows-map (λ x. x .0) _ (c .devices)))
-      (first-rows (λ r own. sixIn (zoneOf r .prices)) (c .zones) zones minima long (room .zones-fit) ∙ sym (rows-map (λ x. x .1) _ (c .zones)))
+      (first-rows (λ r own. kindsIn (zoneOf r)) (c .zones) zones minima long (room .zones-fit) ∙ sym (rows-map (λ x. x .1) _ (c .zones)))
       (first-rows (λ r own. devicePricesIn (deviceOf r) own) (c .devices) devices cells long (room .devices-fit) ∙ sym (rows-map (λ x. x .1) _ (c .devices)))
     where
-      same : {zs zs′ : List C.Zone} {ds ds′ : List C.Device} {ps ps′ : List C.Six} {xs xs′ : List C.DevicePrices} → zs ≡ zs′ → ds ≡ ds′ → ps ≡ ps′ → xs ≡ xs′
+      same : {zs zs′ : List C.Zone} {ds ds′ : List C.Device} {ps ps′ : List C.Kinds} {xs xs′ : List C.DevicePrices} → zs ≡ zs′ → ds ≡ ds′ → ps ≡ ps′ → xs ≡ xs′
           → _≡_ {A = Case}
           (record { system = record { halves = take m halves; zones = zs; devices = ds }; prices = record { mismatch = f .mismatch; overrun = f .overrun; zones = ps; devices = xs } })
           (record { system = record { halves = take m halves; zones = zs′; devices = ds′ }; prices = record { mismatch = f .mismatch; overrun = f .overrun; zones = ps′; devices = xs′ } })
@@ -94,7 +94,7 @@ module _ (s : List ℕ) (p : Place) (f : Front) (c : Counts) where
   abbrev durations : Layout (List ℕ)
   durations = list (c .intervals) (figure 8 1 180)
 
-  abbrev zoned : Layout (List (C.Zone × C.Six))
+  abbrev zoned : Layout (List (C.Zone × C.Kinds))
   zoned = list (c .zones) (B.zone (f .edition) (c .intervals))
 
   abbrev manned : ℕ → Layout (List (C.Device × C.DevicePrices))

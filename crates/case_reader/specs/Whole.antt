@@ -7,7 +7,7 @@ use Rattle.layouts.specs.declared.Fault.{Fault}
 use Rattle.layouts.specs.declared.Place.{Place}
 use Rattle.layouts.specs.Layout.{list, figure, begin}
 use Rattle.layouts.specs.Numbers.{Tells}
-use Rattle.model.specs.Case.{Case, Zone, Six, Device, DevicePrices}
+use Rattle.model.specs.Case.{Case, Zone, Kinds, Device, DevicePrices}
 use Rattle.model.specs.Editions.{mostZones}
 use Rattle.model.specs.Messages as M
 use Rattle.model.specs.Messages.{lastEnd}
@@ -43,7 +43,7 @@ caseOf f c halves zones minima devices cells =
     caseIn f (take (c .intervals) halves) (take (c .zones) zones) (take (c .zones * c .intervals) minima) (take (c .devices) devices) (take (c .devices * c .intervals) cells)
 
 -- a case from its front, durations, zones and devices
-abbrev pub madeOf : ℕ × (M.Counts × (ℕ × ℕ)) → List ℕ → List (Zone × Six) → List (Device × DevicePrices) → Stated
+abbrev pub madeOf : ℕ × (M.Counts × (ℕ × ℕ)) → List ℕ → List (Zone × Kinds) → List (Device × DevicePrices) → Stated
 madeOf h halves zs ds = stated (h .0) (record {
   system = record { halves = halves; zones = map (λ z. z .0) zs; devices = map (λ d. d .0) ds };
   prices = record { mismatch = h .1 .1 .0; overrun = h .1 .1 .1; zones = map (λ z. z .1) zs; devices = map (λ d. d .1) ds };

@@ -122,7 +122,7 @@ module _ (d : Bounds) (c : Cell) (s : Setting) (w : Moment) where
         word-append offTests powerTests,
       )
 
-  pub tests-rise : T (rising 0 32 tests)
+  pub tests-rise : T (rising 0 20 tests)
   unfolding tests stateTests rampTests onTests offTests powerTests rising
   tests-rise = tt
 

@@ -6,9 +6,10 @@ use Prim.Native.Nat.{ℕ, zero, suc, _+_, _-_, _*_, _/_, _%_, _^_, _≤_, _<_}
 use native.Mathlib.Omega.{arith}
 use native.Mathlib.Decide.{decLe}
 use lib.Dec.{T, leb, ltb, eqb, leb→le, ltb→lt, le→leb, lt→ltb}
-use lib.Pow.{pow-add}
+use lib.Pow.{pow-add, pow-mono, pow-pos}
 use Rattle.numbers.specs.Tests.{and-in, and-l, and-r}
 use Rattle.bits.specs.Pick.{pick}
+pub use Rattle.model.specs.Named.{failing-append}
 use Rattle.model.specs.Breaches.{failing, unless}
 
 -- the bit of number n, where its test fails
@@ -31,15 +32,6 @@ word-append (x ∷ xs) ys = omega (arith, word-append xs ys)
 
 pub more-bits : (n : ℕ) (ns : List (ℕ × Bool)) {x y : ℕ} {kept test : Bool} → y ≡ failingWord ns → x ≡ bitUnless kept n → kept ≡ test → y + x ≡ failingWord (ns ++ ((n, test) ∷ []))
 more-bits n ns {x} {test = test} f e h = omega (arith, word-append ns ((n, test) ∷ []), one-bit n {x = x} {test = test} e h)
-
-pub failing-append : (xs ys : List (ℕ × Bool)) → failing (xs ++ ys) ≡ failing xs ++ failing ys
-unfolding failing
-failing-append [] ys = refl
-failing-append (x ∷ xs) ys = go (x .1) (failing-append xs ys)
-  where
-    go : (b : Bool) → failing (xs ++ ys) ≡ failing xs ++ failing ys → unless b (x .0) (failing (xs ++ ys)) ≡ unless b (x .0) (failing xs) ++ failing ys
-    go true e = e
-    go false e = ap (λ (l : List ℕ). x .0 ∷ l) e
 
 -- each test of a list holds
 pub no-test : failing [] ≡ []
@@ -161,3 +153,55 @@ bits-are k (suc f) (x ∷ ns) h = go (bits-are (suc k) f ns) (bits-are (suc k) f
 pub word-bits : (ns : List (ℕ × Bool)) → T (rising 0 32 ns) → numbersIn (failingWord ns) ≡ failing ns
 unfolding numbersIn
 word-bits ns h = rw (shifted-none ns) (bits-are 0 32 ns h)
+
+-- ---- one list behind another
+
+-- below a larger number
+wider : (k m n : ℕ) → m ≤ n → (ns : List (ℕ × Bool)) → T (rising k m ns) → T (rising k n ns)
+unfolding rising
+wider k m n l [] h = tt
+wider k m n l (x ∷ ns) h =
+    and-in (leb k (x .0)) (ltb (x .0) n && rising (suc (x .0)) n ns) (le→leb k (x .0) (from-low k m x ns h))
+    (and-in (ltb (x .0) n) (rising (suc (x .0)) n ns) (lt→ltb (x .0) n (omega (arith, below k m x ns h))) (wider (suc (x .0)) m n l ns (others k m x ns h)))
+
+rising-append : (k m n : ℕ) → k ≤ m → m ≤ n → (xs ys : List (ℕ × Bool)) → T (rising k m xs) → T (rising m n ys) → T (rising k n (xs ++ ys))
+unfolding rising
+rising-append k m n l g [] ys h i = later m k n l ys i
+rising-append k m n l g (x ∷ xs) ys h i =
+    and-in (leb k (x .0)) (ltb (x .0) n && rising (suc (x .0)) n (xs ++ ys)) (le→leb k (x .0) (from-low k m x xs h))
+    (and-in (ltb (x .0) n) (rising (suc (x .0)) n (xs ++ ys)) (lt→ltb (x .0) n (omega (arith, below k m x xs h)))
+    (rising-append (suc (x .0)) m n (below k m x xs h) g xs ys (others k m x xs h) i))
+
+-- the bits of both words together, where the second list's numbers follow the first's
+pub both-bits : (m n : ℕ) (xs ys : List (ℕ × Bool)) → m ≤ n → n ≤ 32 → T (rising 0 m xs) → T (rising m n ys) → numbersIn (failingWord xs + failingWord ys) ≡ failing (xs ++ ys)
+both-bits m n xs ys l g h i = rw (← word-append xs ys) (word-bits (xs ++ ys) (wider 0 n 32 g (xs ++ ys) (rising-append 0 m n (omega arith) l xs ys h i)))
+
+-- ---- the size of a word
+
+bit-small : (b : Bool) (n : ℕ) → bitUnless b n ≤ 2 ^ n
+bit-small true n = omega arith
+bit-small false n = omega arith
+
+word-room : (k n : ℕ) (ns : List (ℕ × Bool)) → k ≤ n → T (rising k n ns) → failingWord ns + 2 ^ k ≤ 2 ^ n
+unfolding failingWord
+word-room k n [] l h = omega (arith, pow-mono l)
+word-room k n (x ∷ ns) l h =
+    let low : k ≤ x .0 = from-low k n x ns h in
+    let more : suc (x .0) ≤ n = below k n x ns h in
+    let next : suc (x .0) ≡ 1 + x .0 = omega arith in
+    let twofold : 2 ^ suc (x .0) ≡ 2 * 2 ^ (x .0) = rw next (pow-add 2 1 (x .0)) in
+    omega (arith, word-room (suc (x .0)) n ns more (others k n x ns h), bit-small (x .1) (x .0), pow-mono low)
+
+-- that of a list whose numbers stay below n
+pub word-below : (k n : ℕ) (ns : List (ℕ × Bool)) → k ≤ n → T (rising k n ns) → failingWord ns < 2 ^ n
+word-below k n ns l h = omega (arith, word-room k n ns l h, pow-pos k)
+
+-- a word without bits: no test fails
+pub word-none : (ns : List (ℕ × Bool)) → failingWord ns ≡ 0 → failing ns ≡ []
+unfolding failingWord failing
+word-none [] e = refl
+word-none (x ∷ ns) e = go (x .1) (word-none ns) e
+  where
+    go : (b : Bool) → (failingWord ns ≡ 0 → failing ns ≡ []) → bitUnless b (x .0) + failingWord ns ≡ 0 → unless b (x .0) (failing ns) ≡ []
+    go true f z = f (omega arith)
+    go false f z = absurd (omega (arith, pow-pos (x .0)))

@@ -1,7 +1,8 @@
 // What the rules of one device in one interval read: the bounds of the device, what the clock and the other intervals say.
 ghost use mathlib.Core.Path.{_≡_};
-ghost use Prim.Native.Nat.{_-_};
+ghost use Prim.Native.Nat.{_-_, _^_, _<_, _≤_};
 ghost use Rattle.cell_bounds.specs.Tests.{limitsOf, boundsOf};
+ghost use Rattle.cell_bounds.specs.Word.{bitUnless};
 use kilowatts::Kw;
 use row_places::Device;
 use row_places::Reserves;
@@ -64,4 +65,12 @@ pub struct Moment {
     pub minutes: u32,
     pub power: Kw,
     pub previous: Kw,
+}
+
+// The bit of a rule, where it is broken.
+pub fn bit_unless(kept: bool, rule: u32) -> u32
+    requires { ⌜ rule < 32 ⌝ }
+    ensures { λ r. ⌜ (r ≡ bitUnless kept rule) × (r ≤ 2 ^ rule) ⌝ }
+{
+    if kept { 0 } else { 1 << rule }
 }

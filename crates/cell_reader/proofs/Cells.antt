@@ -53,11 +53,11 @@ cell-natural e = held-natural _ _
     (then-natural (nat-natural _) (λ a. then-natural (then-natural (nat-natural _) (λ low. such-natural _ (nat-natural _)))
     (λ b. then-natural (held-natural _ _ (blocks-natural e)) (λ c. then-natural prices-natural (λ d. reactive-natural e)))))
 
-abbrev reactive : ℕ → Layout (M.ReactiveLimits × M.ReactivePrices)
+abbrev reactive : ℕ → Layout (M.ReactiveLimits × M.ReactiveReserves)
 reactive e = since e 2 noReactiveCell reactiveCell
 
 -- the model's cell of its groups
-abbrev grouped : ℕ × (ℕ × ℕ) → List (ℕ × ℤ) → M.Reserves → M.ReactiveLimits × M.ReactivePrices → M.Cell × M.CellPrices
+abbrev grouped : ℕ × (ℕ × ℕ) → List (ℕ × ℤ) → M.Reserves → M.ReactiveLimits × M.ReactiveReserves → M.Cell × M.CellPrices
 grouped h b r x = (
   record { status = h .0; pmin = h .1 .0; pmax = h .1 .1; caps = map (λ y. y .0) b; reactive = x .0 },
   record { blocks = map (λ y. y .1) b; reserves = r; reactive = x .1 },

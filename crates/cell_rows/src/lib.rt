@@ -3,7 +3,7 @@ ghost use mathlib.Core.Path.{_≡_};
 ghost use mathlib.Core.List.{[]};
 ghost use Prim.Native.Nat.{_<_};
 ghost use lib.ListN.{getD, length, set};
-ghost use Rattle.row_places.specs.Figures.{cellRow, cellOf, pminAt};
+ghost use Rattle.row_places.specs.Figures.{cellRow, cellOf, pminAt, reactiveCellAt};
 use kilovars::SignedKvar;
 use kilowatts::Kw;
 use row_places::CELL_BLOCKS;
@@ -83,6 +83,19 @@ pub fn pmin_at(cells: &[CellRow], k: usize) -> Kw
     ensures { λ r. ⌜ r .0 ≡ pminAt (now (cells .entry)) k ⌝ }
 {
     Kw(cells[k][CELL_PMIN])
+}
+
+// What it has of reactive power.
+pub fn reactive_cell_at(cells: &[CellRow], k: usize) -> ReactiveCell
+    requires { ⌜ k < length (now cells) ⌝ }
+    ensures { λ r. ⌜ r ≡ reactiveCellAt (now (cells .entry)) k ⌝ }
+{
+    ReactiveCell {
+        qmin: SignedKvar(cells[k][CELL_QMIN]),
+        qmax: SignedKvar(cells[k][CELL_QMAX]),
+        qru: cells[k][CELL_QRU],
+        qrd: cells[k][CELL_QRD],
+    }
 }
 
 fn cell_row(c: Cell) -> CellRow

@@ -1,10 +1,11 @@
 // Rules 1 to 19 of one device in one interval, from its records: the word of those that fail.
 ghost use mathlib.Core.Path.{_≡_};
-ghost use Prim.Native.Nat.{_+_, _-_, _^_, _<_, _≤_};
-ghost use Rattle.cell_bounds.specs.Word.{bitUnless, failingWord};
+ghost use Prim.Native.Nat.{_+_, _-_, _^_, _<_};
+ghost use Rattle.cell_bounds.specs.Word.{failingWord};
 ghost use Rattle.cell_bounds.specs.Tests.{Sized, Small, stateTests, rampTests, onTests, offTests, powerTests, tests};
 use cell_bounds::Bounds;
 use cell_bounds::Moment;
+use cell_bounds::bit_unless;
 use cell_tests::at_most;
 use cell_tests::fall_kept;
 use cell_tests::floor_kept;
@@ -17,14 +18,6 @@ use cell_tests::status_kept;
 use kilowatts::Kw;
 use row_places::Cell;
 use row_places::Setting;
-
-// The bit of a rule, where it is broken.
-fn bit_unless(kept: bool, rule: u32) -> u32
-    requires { ⌜ rule < 20 ⌝ }
-    ensures { λ r. ⌜ (r ≡ bitUnless kept rule) × (r ≤ 2 ^ rule) ⌝ }
-{
-    if kept { 0 } else { 1 << rule }
-}
 
 // Rules 1 to 4.
 fn state_rules(d: Bounds, c: Cell, s: Setting, w: Moment) -> u32

@@ -1,16 +1,19 @@
 -- The bits that a completion's parts take, and the bytes that it needs: its edition and its counts alone say how many.
-use mathlib.Core.Path.{_≡_, _∙_, ap}
+use mathlib.Core.Path.{_≡_, refl, _∙_, ap}
+use mathlib.Core.Bool.{Bool, true, false}
 use Prim.Native.Nat.{ℕ, _+_, _*_, _≤_}
 use native.Mathlib.Omega.{arith}
+use native.Mathlib.Nat.{mul-le-mul}
 use lib.IntN.{ℤ}
 use lib.ListN.{length, length-append}
-use Rattle.numbers.specs.Sum.{All, all, all-map}
+use Rattle.numbers.specs.Sum.{All, all, all-map, gate}
 use Rattle.numbers.specs.Base.{upTo, gather}
-use Rattle.numbers.specs.Every.{map-of-all}
+use Rattle.numbers.specs.Every.{map-of-all, gate-le}
 use Rattle.numbers.specs.Gather.{maps-long, gather-wide, gather-counted}
-use Rattle.layouts.specs.Layout.{bitsOf, bytes, bytesFor, nat, int, _then_, list, held, any}
+use Rattle.layouts.specs.Layout.{Layout, bitsOf, bytes, bytesFor, nat, int, _then_, list, held, any}
+use Rattle.layouts.specs.Since.{has, nothing, present, since}
 use Rattle.layouts.specs.Trip.{length-bits, length-bytes}
-use Rattle.model.specs.Case.{System, Six}
+use Rattle.model.specs.Case.{System, Six, Kinds, ReactiveReserves, noReactiveReserves}
 use Rattle.model.specs.Completion.{Completion}
 use Rattle.model.specs.Editions as E
 use Rattle.model.specs.ByEdition as B
@@ -32,12 +35,29 @@ counts-few e = omega arith
 abbrev pub deviceWidth : ℕ
 deviceWidth = 1 + (1 + (3 + 4 * 17))
 
--- "six shortfalls in W .., 33 each"
-abbrev pub zoneWidth : ℕ
-zoneWidth = 6 * 33
+-- "six shortfalls in W .., 33 each"; since edition 2 "the reactive shortfalls (var, 33 bits each, after the zone's six)"
+abbrev pub sixWidth : ℕ
+sixWidth = 6 * 33
 
+abbrev pub twoWidth : ℕ → ℕ
+twoWidth e = gate (has 2 e) (2 * 33)
+
+abbrev pub zoneWidth : ℕ → ℕ
+zoneWidth e = sixWidth + twoWidth e
+
+-- "mismatch 23"; since edition 2 the reactive one, "(23 bits, after the real one)"
 abbrev pub mismatchWidth : ℕ
 mismatchWidth = 23
+
+abbrev pub reactiveMismatchWidth : ℕ → ℕ
+reactiveMismatchWidth e = gate (has 2 e) 23
+
+abbrev pub mismatchesWidth : ℕ → ℕ
+mismatchesWidth e = mismatchWidth + reactiveMismatchWidth e
+
+-- what an edition has or lacks is no wider than it is
+pub since-few : (e : ℕ) → (twoWidth e ≤ 2 * 33) × (reactiveMismatchWidth e ≤ 23)
+since-few e = (gate-le (has 2 e) (2 * 33) (2 * 33) (omega arith), gate-le (has 2 e) 23 23 (omega arith))
 
 abbrev pub overrunWidth : ℕ
 overrunWidth = 32
@@ -46,13 +66,19 @@ abbrev pub surplusWidth : ℕ
 surplusWidth = 64
 
 abbrev pub intervalWidth : ℕ → ℕ → ℕ → ℕ
-intervalWidth e devices zones = devices * deviceWidth + (zones * zoneWidth + mismatchWidth)
+intervalWidth e devices zones = devices * deviceWidth + (zones * zoneWidth e + mismatchesWidth e)
 
 abbrev pub completionWidth : ℕ → ℕ → ℕ → ℕ → ℕ → ℕ
 completionWidth e devices intervals zones windows = frontWidth e + (intervals * intervalWidth e devices zones + (windows * overrunWidth + surplusWidth))
 
 abbrev pub needed : ℕ → ℕ → ℕ → ℕ → ℕ → ℕ
 needed e devices intervals zones windows = bytesFor (completionWidth e devices intervals zones windows)
+
+-- an interval of counts up to these, in whatever edition
+pub interval-few : (e d z n k : ℕ) → d ≤ n → z ≤ k → intervalWidth e d z ≤ n * deviceWidth + (k * (sixWidth + 2 * 33) + (mismatchWidth + 23))
+interval-few e d z n k h l =
+    let w : zoneWidth e ≤ sixWidth + 2 * 33 = omega (arith, since-few e) in
+    omega (arith, since-few e, mul-le-mul l w)
 
 -- ---- a completion's message has the shape of its counts
 
@@ -83,23 +109,46 @@ unfolding M.deviceChoice held _then_ nat list
 device-wide d h =
     simp (length-append, length-bits) (omega (arith, h, gather-wide (bitsOf 17) 17 (d .blocks) (all (λ v. length-bits 17 v) (d .blocks))))
 
-pub six-wide : (s : Six) → length (M.six (any 33) .write s) ≡ zoneWidth
+-- what an edition lacks takes no bits
+present-wide : {A : Type 0} (b : Bool) (neutral : A) (l : Layout A) (w : ℕ) (x : A) → length (l .write x) ≡ w → length (present b neutral l .write x) ≡ gate b w
+unfolding present nothing
+present-wide true neutral l w x h = h
+present-wide false neutral l w x h = refl
+
+six-wide : (s : Six) → length (M.six (any 33) .write s) ≡ sixWidth
 unfolding M.six held _then_ nat
 six-wide s = simp (length-append, length-bits)
+
+two-wide : (r : ReactiveReserves) → length (B.reactiveChoice .write r) ≡ 2 * 33
+unfolding B.reactiveChoice held _then_ nat
+two-wide r = simp (length-append, length-bits)
+
+zone-wide : (e : ℕ) (r : Kinds) → length (B.zoneChoice e .write r) ≡ zoneWidth e
+unfolding B.zoneChoice held _then_
+zone-wide e r =
+    length-append (M.six (any 33) .write (r .six)) _
+    ∙ omega (arith, six-wide (r .six), present-wide (has 2 e) noReactiveReserves B.reactiveChoice (2 * 33) (r .reactive) (two-wide (r .reactive)))
+
+mismatches-wide : (e : ℕ) (r : IntervalChoice) → length (since e 2 0 (any 23) .write (r .reactiveMismatch)) ≡ reactiveMismatchWidth e
+unfolding nat
+mismatches-wide e r = present-wide (has 2 e) 0 (any 23) 23 (r .reactiveMismatch) (length-bits 23 (r .reactiveMismatch))
 
 pub front-wide : (e : ℕ) (n m : Counts) → length (B.completionFront e n .write m) ≡ frontWidth e
 unfolding B.completionFront held _then_ nat
 front-wide e n m = simp (length-append, length-bits)
 
 pub interval-wide : (e : ℕ) (n : Counts) (r : IntervalChoice) → ShapedInterval n r → length (B.intervalChoice e (n .devices) (n .zones) .write r) ≡ intervalWidth e (n .devices) (n .zones)
-unfolding M.intervalChoice held _then_ list nat
-interval-wide e n r s = simp (length-append, length-bits) (omega (
-  arith,
-  gather-wide (M.deviceChoice .write) deviceWidth (r .devices) (all-map (λ d h. device-wide d h) (r .devices) (s .four)),
-  gather-wide (M.six (any 33) .write) zoneWidth (r .zones) (all six-wide (r .zones)),
-  s .each,
-  s .every,
-))
+unfolding B.intervalChoice held _then_ list nat
+interval-wide e n r s =
+    let z : length (gather (B.zoneChoice e .write) (r .zones)) ≡ n .zones * zoneWidth e =
+    gather-wide (B.zoneChoice e .write) (zoneWidth e) (r .zones) (all (zone-wide e) (r .zones)) ∙ ap (λ (k : ℕ). k * zoneWidth e) (s .every) in
+    simp (length-append, length-bits) (omega (
+      arith,
+      gather-wide (M.deviceChoice .write) deviceWidth (r .devices) (all-map (λ d h. device-wide d h) (r .devices) (s .four)),
+      z,
+      mismatches-wide e r,
+      s .each,
+    ))
 
 pub completion-wide : (e : ℕ) (n : Counts) (windows : ℕ) (w : Written) → Shaped n windows w
     → length (B.completionLayout e n windows .write w) ≡ completionWidth e (n .devices) (n .intervals) (n .zones) windows

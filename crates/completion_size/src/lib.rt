@@ -2,7 +2,8 @@
 ghost use mathlib.Core.Path.{_≡_};
 ghost use Prim.Native.Nat.{_+_, _*_, _^_, _≤_, _<_};
 ghost use Rattle.model.specs.Editions.{mostDevices, mostIntervals, mostZones, mostWindows};
-ghost use Rattle.completion_size.specs.Size.{frontWidth, intervalWidth, needed};
+ghost use Rattle.completion_size.specs.Size.{frontWidth, zoneWidth, mismatchesWidth, intervalWidth, needed};
+use editions::bits_since;
 use editions::device_bits;
 use editions::interval_bits;
 
@@ -27,10 +28,15 @@ pub const OVERRUN_BITS: u64 = 32;
 
 const SURPLUS_BITS: u64 = 64;
 
-// A device's part of an interval, and a zone's.
+// The edition with which reactive shortfalls and mismatches came.
+pub const REACTIVE_EDITION: u32 = 2;
+
+// A device's part of an interval; a zone's shortfalls of real power, and of reactive power.
 const DEVICE_BITS: u64 = FLAG_BITS + FLAG_BITS + STATE_BITS + 4 * POWER_BITS;
 
-const ZONE_BITS: u64 = 6 * SHORTFALL_BITS;
+const SIX_BITS: u64 = 6 * SHORTFALL_BITS;
+
+const TWO_BITS: u64 = 2 * SHORTFALL_BITS;
 
 // The bits of a message ahead of its intervals.
 fn front_bits(edition: u32) -> u64
@@ -39,12 +45,28 @@ fn front_bits(edition: u32) -> u64
     KIND_BITS + EDITION_BITS + device_bits(edition) + interval_bits(edition) + ZONES_BITS
 }
 
+// The bits of a zone in an interval.
+fn zone_bits(edition: u32) -> u64
+    ensures { λ r. ⌜ (r ≡ zoneWidth edition) × (r ≤ 264) ⌝ }
+{
+    SIX_BITS + bits_since(edition, REACTIVE_EDITION, TWO_BITS)
+}
+
+// The bits of an interval's mismatches.
+fn mismatches_bits(edition: u32) -> u64
+    ensures { λ r. ⌜ (r ≡ mismatchesWidth edition) × (r ≤ 46) ⌝ }
+{
+    MISMATCH_BITS + bits_since(edition, REACTIVE_EDITION, MISMATCH_BITS)
+}
+
 // The bits of its intervals.
 fn intervals_bits(edition: u32, devices: u64, intervals: u64, zones: u64) -> u64
     requires { ⌜ (devices ≤ mostDevices) × (intervals ≤ mostIntervals) × (zones ≤ mostZones) ⌝ }
     ensures { λ r. ⌜ (r ≡ intervals * intervalWidth edition devices zones) × (r < 2 ^ 32) ⌝ }
 {
-    intervals * (devices * DEVICE_BITS + zones * ZONE_BITS + MISMATCH_BITS)
+    let zone = zone_bits(edition);
+    let mismatches = mismatches_bits(edition);
+    intervals * (devices * DEVICE_BITS + zones * zone + mismatches)
 }
 
 // The bytes that a completion of these counts takes.

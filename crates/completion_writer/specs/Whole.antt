@@ -10,15 +10,15 @@ use Rattle.numbers.specs.Base.{range, upTo, gather}
 use Rattle.numbers.specs.Gather.{gather-map, gather-gather}
 use Rattle.numbers.specs.Ranges.{sum-last, sum-more, sum-rises, gather-last}
 use Rattle.layouts.specs.Layout.{bytes, int, _then_, list, held, any}
+use Rattle.layouts.specs.Since.{since}
 use Rattle.kilowatts.specs.declared.Kw.{Kw}
 use Rattle.energy.specs.declared.Watts.{Watts}
 use Rattle.kilowatts.specs.Power.{kw}
 use Rattle.energy.specs.Energy.{watts}
-use Rattle.model.specs.Case.{System, Six}
+use Rattle.model.specs.Case.{System, Six, Kinds, ReactiveReserves, noReactiveReserves}
 use Rattle.model.specs.Forced.{intervals, devices, zones, device}
 use Rattle.model.specs.Rules.{blocks}
-use Rattle.model.specs.Completion.{Completion, shortfalls, rgu, rgd, scr, nsc, rru, rrd}
-use Rattle.model.specs.Messages as M
+use Rattle.model.specs.Completion.{Completion, shortfalls, rgu, rgd, scr, nsc, rru, rrd, qru, qrd}
 use Rattle.model.specs.Messages.{six, DeviceChoice, IntervalChoice}
 use Rattle.model.specs.ByEdition as B
 use Rattle.model.specs.ByEdition.{completionFront, deviceChoice}
@@ -26,9 +26,9 @@ use Rattle.model.specs.Judgement.{written, countsOf, energyWindows}
 use Rattle.model.specs.Judgement.{completionIn}
 use Rattle.pen.specs.declared.Pen.{Pen}
 use Rattle.pen.specs.Pens.{Ready, Pushes, Finishes, pushes-then}
-use Rattle.pen.specs.Runs.{run, fresh, Room, pushes-as, pushes-whole, run-none, run-more}
+use Rattle.pen.specs.Runs.{run, fresh, Room, pushes-as, pushes-whole, run-none, run-more, room-at}
 use Rattle.field_groups.specs.Fields.{choiceIn, sixOf}
-use Rattle.completion_size.specs.Size.{frontWidth, deviceWidth, zoneWidth, mismatchWidth, overrunWidth, surplusWidth, intervalWidth, needed}
+use Rattle.completion_size.specs.Size.{frontWidth, deviceWidth, sixWidth, twoWidth, zoneWidth, mismatchWidth, reactiveMismatchWidth, overrunWidth, surplusWidth, intervalWidth, needed}
 
 -- ---- lists written one element behind the other
 
@@ -53,14 +53,24 @@ deviceAt x t i = record { started = x .started t i; stopped = x .stopped t i; st
 abbrev pub sixAt : Completion ℕ → ℕ → ℕ → Six
 sixAt x t z = record { rgu = x .shortfall t z rgu; rgd = x .shortfall t z rgd; scr = x .shortfall t z scr; nsc = x .shortfall t z nsc; rru = x .shortfall t z rru; rrd = x .shortfall t z rrd }
 
+abbrev pub twoAt : Completion ℕ → ℕ → ℕ → ReactiveReserves
+twoAt x t z = record { qru = x .reactiveShortfall t z qru; qrd = x .reactiveShortfall t z qrd }
+
+abbrev pub kindsAt : Completion ℕ → ℕ → ℕ → Kinds
+kindsAt x t z = record { six = sixAt x t z; reactive = twoAt x t z }
+
 abbrev pub deviceBits : Completion ℕ → ℕ → ℕ → List ℕ
 deviceBits x t i = deviceChoice .write (deviceAt x t i)
 
-abbrev pub zoneBits : Completion ℕ → ℕ → ℕ → List ℕ
-zoneBits x t z = six (any 33) .write (sixAt x t z)
+abbrev pub zoneBits : ℕ → Completion ℕ → ℕ → ℕ → List ℕ
+zoneBits e x t z = B.zoneChoice e .write (kindsAt x t z)
+
+-- the mismatch, and since edition 2 the reactive one
+abbrev pub reactiveMismatchBits : ℕ → Completion ℕ → ℕ → List ℕ
+reactiveMismatchBits e x t = since e 2 0 (any 23) .write (x .reactiveMismatch t)
 
 unfoldable pub intervalBits : ℕ → System → Completion ℕ → ℕ → List ℕ
-intervalBits e q x t = run (deviceBits x t) (devices q) ++ (run (zoneBits x t) (zones q) ++ any 23 .write (x .mismatch t))
+intervalBits e q x t = run (deviceBits x t) (devices q) ++ (run (zoneBits e x t) (zones q) ++ (any 23 .write (x .mismatch t) ++ reactiveMismatchBits e x t))
 
 abbrev pub windowsOf : System → ℕ → ℕ
 windowsOf q i = length (device q i .energyWindows)
@@ -85,11 +95,16 @@ six-at x t z h = rw h refl
 
 module _ (e : ℕ) (q : System) (x : Completion ℕ) where
   abbrev intervalAt : ℕ → IntervalChoice
-  intervalAt t = record { devices = map (deviceAt x t) (upTo (devices q)); zones = map (sixAt x t) (upTo (zones q)); mismatch = x .mismatch t }
+  intervalAt t = record {
+    devices = map (deviceAt x t) (upTo (devices q));
+    zones = map (kindsAt x t) (upTo (zones q));
+    mismatch = x .mismatch t;
+    reactiveMismatch = x .reactiveMismatch t;
+  }
 
   pub interval-is : (t : ℕ) → B.intervalChoice e (devices q) (zones q) .write (intervalAt t) ≡ intervalBits e q x t
-  unfolding M.intervalChoice held _then_ list intervalBits
-  interval-is t = rw (gather-run (deviceChoice .write) (deviceAt x t) (devices q), gather-run (six (any 33) .write) (sixAt x t) (zones q)) refl
+  unfolding B.intervalChoice held _then_ list intervalBits
+  interval-is t = rw (gather-run (deviceChoice .write) (deviceAt x t) (devices q), gather-run (B.zoneChoice e .write) (kindsAt x t) (zones q)) refl
 
   overruns-are : gather (any 32 .write) (gather (λ i. map (x .overrun i) (upTo (windowsOf q i))) (upTo (devices q))) ≡ run (overrunBits q x) (devices q)
   unfolding overrunBits
@@ -106,14 +121,23 @@ module _ (e : ℕ) (q : System) (x : Completion ℕ) where
       )
       refl
 
-  -- an interval's devices, zones and mismatch
-  pub interval-pushes : (t : ℕ) {a b c d : List ℕ} {p l m n : Pen}
+  -- a zone's six shortfalls and the reactive ones
+  pub zone-pushes : (t z : ℕ) {a b c : List ℕ} {p m n : Pen}
+      → Pushes sixWidth (six (any 33) .write (sixAt x t z)) a b p m
+      → Pushes (twoWidth e) (since e 2 noReactiveReserves B.reactiveChoice .write (twoAt x t z)) b c m n
+      → Pushes (zoneWidth e) (zoneBits e x t z) a c p n
+  unfolding B.zoneChoice held _then_
+  zone-pushes t z i j = pushes-then i j
+
+  -- an interval's devices, zones and mismatches
+  pub interval-pushes : (t : ℕ) {a b c d f : List ℕ} {p l m n o : Pen}
       → Pushes (devices q * deviceWidth) (run (deviceBits x t) (devices q)) a b p l
-      → Pushes (zones q * zoneWidth) (run (zoneBits x t) (zones q)) b c l m
+      → Pushes (zones q * zoneWidth e) (run (zoneBits e x t) (zones q)) b c l m
       → Pushes mismatchWidth (any 23 .write (x .mismatch t)) c d m n
-      → Pushes (intervalWidth e (devices q) (zones q)) (intervalBits e q x t) a d p n
+      → Pushes (reactiveMismatchWidth e) (reactiveMismatchBits e x t) d f n o
+      → Pushes (intervalWidth e (devices q) (zones q)) (intervalBits e q x t) a f p o
   unfolding intervalBits
-  interval-pushes t i j k = pushes-then i (pushes-then j k)
+  interval-pushes t i j k r = pushes-then i (pushes-then j (pushes-then k r))
 
   -- the whole: "exactly the completion's bytes, the rest of the buffer unchanged"
   pub completion-pushes : (s : ℤ) {u v w y : ℕ} {a b c d f g : List ℕ} {l m n o : Pen}
@@ -167,13 +191,23 @@ module _ (q : System) (x : Completion ℕ) where
 
 -- ---- where the bytes needed fit a buffer, each part fits behind those before it
 
+-- the six of the zone behind k others, and its reactive shortfalls behind them
+pub six-room : (e k n : ℕ) {bits a b : List ℕ} {p q : Pen} → k < n → Pushes (k * zoneWidth e) bits a b p q → Room a p (n * zoneWidth e) → Room b q sixWidth
+six-room e k n h i r = omega (arith, room-at k n (zoneWidth e) h i r)
+
+pub two-room : (e : ℕ) {xs a b : List ℕ} {p m : Pen} → Pushes sixWidth xs a b p m → Room a p (zoneWidth e) → Room b m (twoWidth e)
+two-room e h r = omega (arith, h .moved, h .long)
+
 module _ (e d z : ℕ) where
-  pub zones-room : {xs a b : List ℕ} {p m : Pen} → Pushes (d * deviceWidth) xs a b p m → Room a p (intervalWidth e d z) → Room b m (z * zoneWidth)
+  pub zones-room : {xs a b : List ℕ} {p m : Pen} → Pushes (d * deviceWidth) xs a b p m → Room a p (intervalWidth e d z) → Room b m (z * zoneWidth e)
   zones-room h r = omega (arith, h .moved, h .long)
 
-  pub mismatch-room : {xs ys a b c : List ℕ} {p m n : Pen} → Pushes (d * deviceWidth) xs a b p m → Pushes (z * zoneWidth) ys b c m n
-      → Room a p (intervalWidth e d z) → Room c n mismatchWidth
-  mismatch-room h i r = omega (arith, h .moved, h .long, i .moved, i .long)
+  module _ {xs ys a b c : List ℕ} {p m n : Pen} (h : Pushes (d * deviceWidth) xs a b p m) (i : Pushes (z * zoneWidth e) ys b c m n) (r : Room a p (intervalWidth e d z)) where
+    pub mismatch-room : Room c n mismatchWidth
+    mismatch-room = omega (arith, h .moved, h .long, i .moved, i .long)
+
+    pub reactive-mismatch-room : {zs f : List ℕ} {o : Pen} → Pushes mismatchWidth zs c f n o → Room f o (reactiveMismatchWidth e)
+    reactive-mismatch-room k = omega (arith, h .moved, h .long, i .moved, i .long, k .moved, k .long)
 
   module _ (i w : ℕ) (a : List ℕ) (r : needed e d i z w ≤ length a) where
     pub front-room : Room a fresh (frontWidth e)

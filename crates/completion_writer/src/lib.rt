@@ -7,7 +7,7 @@ ghost use Rattle.theorems.specs.Back.{FitsSix};
 ghost use Rattle.pen.specs.Pens.{Ready, Pushes};
 ghost use Rattle.pen.specs.Runs.{Room};
 ghost use Rattle.field_groups.specs.Fields.{sixOf};
-ghost use Rattle.completion_size.specs.Size.{zoneWidth, mismatchWidth, overrunWidth, surplusWidth};
+ghost use Rattle.completion_size.specs.Size.{sixWidth, mismatchWidth, overrunWidth, surplusWidth};
 use completion_size::MISMATCH_BITS;
 use completion_size::OVERRUN_BITS;
 use completion_size::SHORTFALL_BITS;
@@ -34,8 +34,8 @@ fn put_three(buf: &mut [u8], p: Pen, x: Watts, y: Watts, z: Watts) -> Pen
 
 // A zone's six shortfalls in an interval, in the order of their prices.
 pub fn put_shortfalls(buf: &mut [u8], p: Pen, shortfalls: [Watts; 6]) -> Pen
-    requires { ⌜ Ready p × Room (now buf) p zoneWidth × FitsSix (sixOf shortfalls) ⌝ }
-    ensures { λ r. ⌜ Pushes zoneWidth (six (any 33) .write (sixOf shortfalls)) (now (buf .entry)) (now (buf .exit)) p r ⌝ }
+    requires { ⌜ Ready p × Room (now buf) p sixWidth × FitsSix (sixOf shortfalls) ⌝ }
+    ensures { λ r. ⌜ Pushes sixWidth (six (any 33) .write (sixOf shortfalls)) (now (buf .entry)) (now (buf .exit)) p r ⌝ }
 {
     let p = put_three(buf, p, shortfalls[0], shortfalls[1], shortfalls[2]);
     put_three(buf, p, shortfalls[3], shortfalls[4], shortfalls[5])

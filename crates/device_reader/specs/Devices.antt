@@ -19,6 +19,7 @@ use Rattle.field_rows.proofs.Steps.{eight-natural}
 use Rattle.item_reader.specs.declared.Listed.the-variants.{States, Starts, Energies}
 use Rattle.item_reader.specs.Naturals.{item-natural}
 use Rattle.reactive_cells.proofs.Reactive.{reactive-natural}
+use Rattle.link_reader.proofs.Links.{link-natural}
 use Rattle.device_reader.specs.Heads.{Ahead, ahead, aheadOf}
 
 -- ---- any reader goes on from its parts
@@ -46,7 +47,7 @@ unfolding apart
 ahead-natural e zones last =
     then-natural (head-natural zones) (λ a. then-natural costs-natural (λ b. then-natural (eight-natural (nat-natural _)) (λ c.
     then-natural (held-natural _ _ (counted-natural _ (item-natural States e last)))
-    (λ d. then-natural (counted-natural _ (item-natural Starts e last)) (λ f. counted-natural _ (item-natural Energies e last))))))
+    (λ d. then-natural (counted-natural _ (item-natural Starts e last)) (λ f. then-natural (counted-natural _ (item-natural Energies e last)) (λ g. link-natural e))))))
 
 pub cell-natural : (e : ℕ) → Natural (cell e)
 unfolding cell apart
@@ -72,7 +73,8 @@ made a cs = let h : Head = a .0 in (
     limits = a .1 .1 .0;
     longest = a .1 .1 .1 .0 .0;
     startWindows = a .1 .1 .1 .1 .0;
-    energyWindows = a .1 .1 .1 .1 .1;
+    energyWindows = a .1 .1 .1 .1 .1 .0;
+    link = a .1 .1 .1 .1 .1 .1;
     cells = map (λ c. c .0) cs;
   },
   record { onCost = a .1 .0 .on; startCost = a .1 .0 .start; stopCost = a .1 .0 .stop; stateCosts = a .1 .1 .1 .0 .1; cells = map (λ c. c .1) cs },
@@ -92,7 +94,7 @@ module _ (e n zones last : ℕ) where
   device-natural = held-natural _ _
       (then-natural (head-natural zones) (λ a. then-natural costs-natural (λ b. then-natural (eight-natural (nat-natural _)) (λ c.
       then-natural (held-natural _ _ (counted-natural _ (item-natural States e last))) (λ d. then-natural (counted-natural _ (item-natural Starts e last)) (λ f.
-      then-natural (counted-natural _ (item-natural Energies e last)) (λ g. held-natural _ _ (list-natural n (cell-natural e)))))))))
+      then-natural (counted-natural _ (item-natural Energies e last)) (λ g. then-natural (link-natural e) (λ h. held-natural _ _ (list-natural n (cell-natural e))))))))))
 
   pub device-off : (s : List ℕ) (p : Place) {f : Fault} → got (ahead e zones last) s p ≡ bad f → got (B.device e n zones last) s p ≡ bad f
   device-off s p h = device-is s p ∙ goes-off (ahead-natural e zones last) s p bad _ h

@@ -1,4 +1,4 @@
--- A device's single figures, as the code reads and keeps them, and the record that they make with its lists.
+-- A device's single figures, as the code reads and keeps them, and the record that they make with its lists and its link.
 use mathlib.Core.Path.{_≡_}
 use mathlib.Core.List.{List, [], _∷_}
 use Prim.Native.Nat.{ℕ, zero, suc, _^_, _<_}
@@ -14,6 +14,7 @@ use Rattle.grains.specs.Money.{grains}
 use Rattle.row_places.specs.declared.State.{State}
 use Rattle.row_places.specs.declared.StartWindow.{StartWindow}
 use Rattle.row_places.specs.declared.EnergyWindow.{EnergyWindow}
+use Rattle.row_places.specs.declared.Link.{Link}
 use Rattle.row_places.specs.declared.Device.{Device}
 use Rattle.row_places.specs.Figures.{EnergiesSmall}
 use Rattle.field_rows.specs.Each.{row}
@@ -64,9 +65,9 @@ pub record MoneyMade (x : ℕ) (g : Grains) : Type 0 where
 abbrev pub limitsFrom : List ℕ → List Kw
 limitsFrom l = kw (getD l 0 0) ∷ kw (getD l 1 0) ∷ kw (getD l 2 0) ∷ kw (getD l 3 0) ∷ kw (getD l 4 0) ∷ kw (getD l 5 0) ∷ kw (getD l 6 0) ∷ kw (getD l 7 0) ∷ []
 
--- the record of these figures and lists; what is made anew is given
-abbrev pub deviceWith : SidesRead → FiguresRead → (startcost stopcost : Grains) → List Kw → ℕ → List State → ℕ → List StartWindow → ℕ → List EnergyWindow → Device
-deviceWith x f startcost stopcost limits nstates states nstarts starts nenergies energies = record {
+-- the record of these figures, lists and link; what is made anew is given
+abbrev pub deviceWith : SidesRead → FiguresRead → (startcost stopcost : Grains) → List Kw → ℕ → List State → ℕ → List StartWindow → ℕ → List EnergyWindow → Link → Device
+deviceWith x f startcost stopcost limits nstates states nstarts starts nenergies energies link = record {
   side = x .side;
   zonebits = x .zonebits;
   on0 = getD (f .initial) 0 0;
@@ -85,15 +86,16 @@ deviceWith x f startcost stopcost limits nstates states nstarts starts nenergies
   starts = starts;
   nenergies = nenergies;
   energies = energies;
+  link = link;
 }
 
-abbrev pub deviceFrom : SidesRead → FiguresRead → ItemsRead → ItemsRead → ItemsRead → Device
-deviceFrom x f a b c =
+abbrev pub deviceFrom : SidesRead → FiguresRead → ItemsRead → ItemsRead → ItemsRead → Link → Device
+deviceFrom x f a b c link =
     deviceWith x f (grains (getD (f .costs) 1 0)) (grains (getD (f .costs) 2 0)) (limitsFrom (f .limits))
-    (a .count) (threes stateFrom (a .items)) (b .count) (fours startFrom (b .items)) (c .count) (fours energyFrom (c .items))
+    (a .count) (threes stateFrom (a .items)) (b .count) (fours startFrom (b .items)) (c .count) (fours energyFrom (c .items)) link
 
-pub record DeviceMade (x : SidesRead) (f : FiguresRead) (a b c : ItemsRead) (d : Device) : Type 0 where
-  pub is : d ≡ deviceFrom x f a b c
+pub record DeviceMade (x : SidesRead) (f : FiguresRead) (a b c : ItemsRead) (link : Link) (d : Device) : Type 0 where
+  pub is : d ≡ deviceFrom x f a b c link
   pub startcost : d .startcost .0 < 2 ^ 32
   pub stopcost : d .stopcost .0 < 2 ^ 32
   pub small : EnergiesSmall (d .energies)

@@ -8,6 +8,7 @@ use item_reader::Listed;
 use kilowatts::Kw;
 use layouts::Place;
 use row_places::Device;
+use row_places::Link;
 ghost use mathlib.Core.Path.{_≡_};
 ghost use mathlib.Core.Bool.{true};
 ghost use Prim.Native.Nat.{_-_, _*_, _%_, _^_, _≤_};
@@ -238,15 +239,16 @@ fn limits_of(figures: FiguresRead) -> [Kw; 8]
     ]
 }
 
-// A device's record, from its figures and its lists.
+// A device's record, from its figures, its lists and its link.
 fn device_of(
     sides: SidesRead,
     figures: FiguresRead,
     states: ItemsRead,
     starts: ItemsRead,
     energies: ItemsRead,
+    link: Link,
 ) -> Device
-    ensures { λ r. ⌜ DeviceMade sides figures states starts energies r ⌝ }
+    ensures { λ r. ⌜ DeviceMade sides figures states starts energies link r ⌝ }
 {
     let initial = figures.initial;
     let ramps = figures.ramps;
@@ -274,6 +276,7 @@ fn device_of(
         starts: start_items,
         nenergies: energies.count,
         energies: energy_items,
+        link,
     }
 }
 
@@ -286,7 +289,14 @@ fn stopped(went: Went) -> HeadRead
     ensures { λ r. ⌜ r .went ≡ went ⌝ }
 {
     let none = list_reader::no_items(went);
-    let device = device_of(no_sides(went), no_figures(went), none, none, none);
+    let device = device_of(
+        no_sides(went),
+        no_figures(went),
+        none,
+        none,
+        none,
+        link_reader::NEUTRAL,
+    );
     HeadRead { went, device }
 }
 
@@ -317,6 +327,12 @@ pub fn read_head(s: &[u8], p: Place, edition: u32, zones: u32, last: u32) -> Hea
     };
     let energies = list_reader::read_items(s, at_energies, Listed::Energies, edition, last);
     let went = energies.went;
-    let device = device_of(sides, figures, states, starts, energies);
+    let Went::On(at_link) = went else {
+        return stopped(went);
+    };
+    let linked = link_reader::read_link(s, at_link, edition);
+    let went = linked.went;
+    let link = linked.link;
+    let device = device_of(sides, figures, states, starts, energies, link);
     HeadRead { went, device }
 }

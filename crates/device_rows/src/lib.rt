@@ -5,10 +5,11 @@ ghost use Prim.Native.Nat.{_<_};
 ghost use lib.ListN.{getD, length};
 ghost use Rattle.grains.specs.Money.{grains};
 ghost use Rattle.model.specs.Editions.{mostStates, mostWindows};
-ghost use Rattle.row_places.specs.Figures.{deviceWith, windowOf, statesOf, startsOf, energiesOf, limitsOf, deviceOf, stateOf, startOf, energyOf, sideAt, zonebitsAt};
-ghost use Rattle.row_places.specs.Figures.{on0At, minutes0At, oncostAt, startcostAt, stopcostAt, statesAt, stateAt, energiesAt, energyAt};
+ghost use Rattle.row_places.specs.Figures.{deviceWith, windowOf, statesOf, startsOf, energiesOf, limitsOf, deviceOf, stateOf, startOf, energyOf, linkOf, sideAt, zonebitsAt};
+ghost use Rattle.row_places.specs.Figures.{on0At, minutes0At, oncostAt, startcostAt, stopcostAt, statesAt, stateAt, energiesAt, energyAt, linkAt};
 use energy::KwMin;
 use grains::Grains;
+use kilovars::SignedKvar;
 use kilowatts::Kw;
 use row_places::DEVICE_MIN_DOWN;
 use row_places::DEVICE_MIN_UP;
@@ -37,12 +38,19 @@ use row_places::DeviceRow;
 use row_places::ENERGIES;
 use row_places::ENERGY_WIDTH;
 use row_places::EnergyWindow;
+use row_places::LINK_KIND;
+use row_places::LOWER_OFFSET;
+use row_places::LOWER_SLOPE;
+use row_places::Line;
+use row_places::Link;
 use row_places::START_WIDTH;
 use row_places::STARTS;
 use row_places::STATE_WIDTH;
 use row_places::STATES;
 use row_places::StartWindow;
 use row_places::State;
+use row_places::UPPER_OFFSET;
+use row_places::UPPER_SLOPE;
 
 fn money_of(x: u32) -> Grains
     ensures { λ r. ⌜ r ≡ grains x ⌝ }
@@ -145,20 +153,32 @@ fn limits_in(r: DeviceRow) -> [Kw; 8]
     ]
 }
 
-// A device from its row; its costs, limits and counted lists given.
+fn link_in(r: DeviceRow) -> Link
+    ensures { λ l. ⌜ l ≡ linkOf r ⌝ }
+{
+    Link {
+        kind: r[LINK_KIND],
+        upper: Line {
+            offset: SignedKvar(r[UPPER_OFFSET]),
+            slope: r[UPPER_SLOPE],
+        },
+        lower: Line {
+            offset: SignedKvar(r[LOWER_OFFSET]),
+            slope: r[LOWER_SLOPE],
+        },
+    }
+}
+
+// A device from its row; its costs and counts given.
 fn device_with(
     r: DeviceRow,
     startcost: Grains,
     stopcost: Grains,
-    limits: [Kw; 8],
     nstates: usize,
-    states: [State; 3],
     nstarts: usize,
-    starts: [StartWindow; 4],
     nenergies: usize,
-    energies: [EnergyWindow; 4],
 ) -> Device
-    ensures { λ d. ⌜ d ≡ deviceWith r startcost stopcost limits nstates states nstarts starts nenergies energies ⌝ }
+    ensures { λ d. ⌜ d ≡ deviceWith r startcost stopcost (limitsOf r) nstates (statesOf r) nstarts (startsOf r) nenergies (energiesOf r) ⌝ }
 {
     Device {
         side: r[DEVICE_SIDE],
@@ -177,13 +197,14 @@ fn device_with(
         oncost: r[DEVICE_ON_COST],
         startcost,
         stopcost,
-        limits,
+        limits: limits_in(r),
         nstates,
-        states,
+        states: states_in(r),
         nstarts,
-        starts,
+        starts: starts_in(r),
         nenergies,
-        energies,
+        energies: energies_in(r),
+        link: link_in(r),
     }
 }
 
@@ -194,25 +215,10 @@ pub fn device_at(devices: &[DeviceRow], i: usize) -> Device
     let r = devices[i];
     let startcost = money_of(r[DEVICE_START_COST]);
     let stopcost = money_of(r[DEVICE_STOP_COST]);
-    let limits = limits_in(r);
     let nstates = counted(r[STATES]);
-    let states = states_in(r);
     let nstarts = counted(r[STARTS]);
-    let starts = starts_in(r);
     let nenergies = counted(r[ENERGIES]);
-    let energies = energies_in(r);
-    device_with(
-        r,
-        startcost,
-        stopcost,
-        limits,
-        nstates,
-        states,
-        nstarts,
-        starts,
-        nenergies,
-        energies,
-    )
+    device_with(r, startcost, stopcost, nstates, nstarts, nenergies)
 }
 
 // One figure where only that is read.
@@ -304,4 +310,22 @@ pub fn energy_at(devices: &[DeviceRow], i: usize, k: usize) -> EnergyWindow
         devices[i][a + 2],
         devices[i][a + 3],
     )
+}
+
+// How its reactive power is tied to its power.
+pub fn link_at(devices: &[DeviceRow], i: usize) -> Link
+    requires { ⌜ i < length (now devices) ⌝ }
+    ensures { λ r. ⌜ r ≡ linkAt (now (devices .entry)) i ⌝ }
+{
+    Link {
+        kind: devices[i][LINK_KIND],
+        upper: Line {
+            offset: SignedKvar(devices[i][UPPER_OFFSET]),
+            slope: devices[i][UPPER_SLOPE],
+        },
+        lower: Line {
+            offset: SignedKvar(devices[i][LOWER_OFFSET]),
+            slope: devices[i][LOWER_SLOPE],
+        },
+    }
 }

@@ -1,4 +1,4 @@
--- The tests of a device's interval are the model's. `tests-are` is the one law that knows the model's list of tests.
+-- The tests of a device's interval are the model's of real power. `tests-are` is the one law that knows the model's list of them.
 use mathlib.Core.Path.{_≡_, refl, sym, ap, _∙_}
 use mathlib.Core.Bool.{true, false}
 use mathlib.Core.List.{List, []}
@@ -16,7 +16,7 @@ use Rattle.model.specs.Case as M
 use Rattle.model.specs.Case.{System, Plan}
 use Rattle.model.specs.Forced as F
 use Rattle.model.specs.Rules as R
-use Rattle.model.specs.Breaches.{apart, cellTests, failing}
+use Rattle.model.specs.Breaches.{apart, realTests}
 use Rattle.row_places.specs.Figures.{cellOf, settingOf, deviceOf, startedAt, stoppedAt, previousAt, onAt, onBefore}
 use Rattle.numbers.specs.Parts.{part, part-long}
 use Rattle.records.specs.Views.{systemIn, planIn, deviceIn, cellIn, settingIn, mostPower, Ready}
@@ -28,10 +28,9 @@ use Rattle.row_places.specs.declared.Front.{Front}
 use Rattle.row_places.specs.declared.Setting.{Setting}
 use Rattle.cell_bounds.specs.declared.Bounds.{Bounds}
 use Rattle.cell_bounds.specs.declared.Moment.{Moment}
-use Rattle.cell_bounds.specs.Word.{failingWord, numbersIn, word-bits}
 use Rattle.cell_bounds.specs.Tests.{boundsOf, roomOf, tests, stateTests, rampTests, onTests, offTests, powerTests, Sized, Small}
 use Rattle.rests.specs.Apart.{Rising, apartAt}
-use Rattle.moments.specs.Moments.{stopsOf, startsOf, momentAt, testsAt, tests-rise-here, Fits}
+use Rattle.moments.specs.Moments.{stopsOf, startsOf, momentAt, testsAt, Fits}
 
 -- ---- the figures that the model's tests compare, by the records' names
 
@@ -86,8 +85,8 @@ module _ (q : System) (p : Plan) (t i : ℕ) where
   unfolding F.power
   forced-is e f = omega arith
 
-  pub tests-are : {d : Bounds} {c : Cell} {s : Setting} {w : Moment} → OfDevice d → OfCell c → OfSetting s → OfMoment w → tests d c s w ≡ cellTests q p t i
-  unfolding tests stateTests rampTests onTests offTests powerTests cellTests R.initialMinimum R.mayRise R.mayFall
+  pub tests-are : {d : Bounds} {c : Cell} {s : Setting} {w : Moment} → OfDevice d → OfCell c → OfSetting s → OfMoment w → tests d c s w ≡ realTests q p t i
+  unfolding tests stateTests rampTests onTests offTests powerTests realTests R.initialMinimum R.mayRise R.mayFall
   tests-are {d} {c} {s} {w} a b e f = rw (
     forced-is (f .power) (e .online),
     a .side,
@@ -254,15 +253,9 @@ module _ {front : Front} {halves : List ℕ} {zones minima devices cells setting
     }
 
     -- the tests of the parts are the model's
-    pub tests-here : testsAt (boundsOf d) (d .power0 .0) halves ownCells ownSettings starts ownPowers t ≡ cellTests q p t i
+    pub tests-here : testsAt (boundsOf d) (d .power0 .0) halves ownCells ownSettings starts ownPowers t ≡ realTests q p t i
     unfolding testsAt
     tests-here = tests-are q p t i of-device of-cell of-setting of-moment
-
-    -- the bits of their word are the numbers of the model's failing tests
-    pub bits-here : {word : ℕ} → word ≡ failingWord (testsAt (boundsOf d) (d .power0 .0) halves ownCells ownSettings starts ownPowers t) → numbersIn word ≡ failing (cellTests q p t i)
-    bits-here e =
-        let ts = testsAt (boundsOf d) (d .power0 .0) halves ownCells ownSettings starts ownPowers t in
-        rw e (word-bits ts (tests-rise-here (boundsOf d) (d .power0 .0) halves ownCells ownSettings starts ownPowers t)) ∙ ap failing tests-here
 
     -- ---- sizes
 

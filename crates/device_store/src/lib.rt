@@ -165,6 +165,11 @@ fn device_row(d: Device) -> DeviceRow
         energies[13],
         energies[14],
         energies[15],
+        d.link.kind,
+        d.link.upper.offset.0,
+        d.link.upper.slope,
+        d.link.lower.offset.0,
+        d.link.lower.slope,
     ]
 }
 

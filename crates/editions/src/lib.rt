@@ -1,10 +1,12 @@
 // What depends on a message's edition, in code: widths and limits, each an equation with its definition. An edition is a number.
 ghost use mathlib.Core.Path.{_≡_};
 ghost use Prim.Native.Nat.{min};
+ghost use Rattle.numbers.specs.Sum.{gate};
+ghost use Rattle.layouts.specs.Since.{has};
 ghost use Rattle.model.specs.Editions as E;
 
 // The newest edition there is.
-pub const NEWEST: u32 = 1;
+pub const NEWEST: u32 = 2;
 
 // The largest counts that a reader takes, in whatever edition.
 pub struct Largest {
@@ -68,4 +70,11 @@ pub fn most_starts(edition: u32) -> u32
     ensures { λ r. ⌜ r ≡ E.mostStarts edition ⌝ }
 {
     48
+}
+
+// The bits of what came with edition k: none in an older one.
+pub fn bits_since(edition: u32, k: u32, bits: u64) -> u64
+    ensures { λ r. ⌜ r ≡ gate (has k edition) bits ⌝ }
+{
+    if edition < k { 0 } else { bits }
 }

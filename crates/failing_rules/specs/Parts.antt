@@ -2,11 +2,11 @@
 use mathlib.Core.Path.{_≡_, refl, sym, ap, _∙_}
 use mathlib.Core.Bool.{Bool, true, false, not}
 use mathlib.Core.List.{List, [], _∷_, map}
-use Prim.Native.Nat.{ℕ, suc, _+_, _-_, _*_, _≤_, _<_}
+use Prim.Native.Nat.{ℕ, suc, _+_, _-_, _*_, _^_, _≤_, _<_}
 use native.Mathlib.Omega.{arith}
 use native.Mathlib.Nat.{mul-le-mul}
 use borrow.Author.Tests.{not-true, not-false}
-use lib.Dec.{leb}
+use lib.Dec.{T, leb}
 use lib.ListN.{getD, length, take, drop}
 use Rattle.numbers.specs.Base.{upTo, gather}
 use Rattle.numbers.specs.Every.{all-upTo}
@@ -14,7 +14,7 @@ use Rattle.numbers.specs.Gather.{gather-cong}
 use Rattle.model.specs.Case.{System, Plan}
 use Rattle.model.specs.Forced as F
 use Rattle.model.specs.Rules.{windowBreach}
-use Rattle.model.specs.Breaches.{failing, cellTests, cellBreaches, oneWindow, windowBreaches}
+use Rattle.model.specs.Breaches.{failing, realTests, reactiveTests, cellTests, cellBreaches, oneWindow, windowBreaches}
 use Rattle.model.specs.declared.Breach.{Breach}
 use Rattle.row_places.specs.Figures.{deviceOf}
 use Rattle.numbers.specs.Parts.{part, part-cut, part-inside, part-long}
@@ -24,11 +24,14 @@ use Rattle.row_places.specs.Figures.{noStart}
 use Rattle.row_places.specs.declared.Device.{Device}
 use Rattle.row_places.specs.declared.Front.{Front}
 use Rattle.cell_bounds.specs.declared.Bounds.{Bounds}
-use Rattle.cell_bounds.specs.Word.{failingWord, numbersIn}
+use Rattle.cell_bounds.specs.Word.{failingWord, numbersIn, rising, word-below, both-bits, all-hold}
 use Rattle.cell_bounds.specs.Tests.{boundsOf}
-use Rattle.moments.specs.Moments.{testsAt, Fits}
-use Rattle.device_rules.specs.Tie.{tests-here, bits-here, fits-here}
+use Rattle.moments.specs.Moments.{testsAt, tests-rise-here, Fits}
+use Rattle.device_rules.specs.Tie.{tests-here, fits-here}
 use Rattle.device_rules.specs.Whole.{AllFit, HeldTo}
+use Rattle.reactive_rules.specs.declared.ReactiveBounds.{ReactiveBounds}
+use Rattle.reactive_rules.specs.Rules.{reactiveBoundsOf, reactiveTestsAt, reactive-rise, ReactiveFits, AllReactiveFit, ReactiveHeldTo}
+use Rattle.reactive_rules.specs.Tie.{reactive-tests-here, reactive-fits-here, own-cells}
 use Rattle.start_windows.specs.Windows.{startsAt, starts-are}
 
 -- ---- rule 20 of a device's windows
@@ -86,18 +89,50 @@ module _ {front : Front} {halves : List ℕ} {zones minima devices cells setting
     pub all-fit : AllFit b (d .power0 .0) halves ownCells ownSettings starts ownPowers
     all-fit = record { at = fits-cut }
 
-    tests-cut : (t : ℕ) → t < length halves → testsAt b (d .power0 .0) halves ownCells ownSettings starts ownPowers t ≡ cellTests q p t i
+    tests-cut : (t : ℕ) → t < length halves → testsAt b (d .power0 .0) halves ownCells ownSettings starts ownPowers t ≡ realTests q p t i
     tests-cut t h = rw (at, is, part-cut m i a cells e, part-cut m i a settings e, part-cut m i a powers e) (tests-here ready i l t h)
 
-    -- the word's numbers are those of the cell's failing tests
-    pub word-numbers : (t : ℕ) → t < length halves → {word : ℕ} → word ≡ failingWord (testsAt b (d .power0 .0) halves ownCells ownSettings starts ownPowers t)
-        → numbersIn word ≡ failing (cellTests q p t i)
-    word-numbers t h {word} f = bits-here ready i l t h {word = word} (rw (at, is, part-cut m i a cells e, part-cut m i a settings e, part-cut m i a powers e) at f)
+    module _ {r : ReactiveBounds} (known : r ≡ reactiveBoundsOf d) where
+      pub reactive-fits-cut : (t : ℕ) → t < length halves → ReactiveFits r ownCells ownSettings starts ownPowers t
+      reactive-fits-cut t h = rw (known, is, part-cut m i a cells e, part-cut m i a settings e, part-cut m i a powers e) (reactive-fits-here ready i l t h)
 
-    -- no test fails
-    pub none-here : HeldTo b (d .power0 .0) halves ownCells ownSettings starts ownPowers (length halves) → (t : ℕ) → t < length halves → cellBreaches q p t i ≡ []
-    unfolding cellBreaches
-    none-here k t h = rw (← tests-cut t h, k .at t h) refl
+      cells-long : length ownCells ≡ length halves
+      cells-long = rw (part-cut m i a cells e) (own-cells ready i l)
+
+      pub all-reactive-fit : AllReactiveFit r ownCells ownSettings starts ownPowers
+      all-reactive-fit = record { at = λ t h. reactive-fits-cut t (omega (arith, cells-long)) }
+
+      reactive-cut : (t : ℕ) → t < length halves → reactiveTestsAt r ownCells ownSettings starts ownPowers t ≡ reactiveTests q p t i
+      reactive-cut t h = rw (known, is, part-cut m i a cells e, part-cut m i a settings e, part-cut m i a powers e) (reactive-tests-here ready i l t h)
+
+      module _ (t : ℕ) (h : t < length halves) {real reactive : ℕ} (x : real ≡ failingWord (testsAt b (d .power0 .0) halves ownCells ownSettings starts ownPowers t))
+          (y : reactive ≡ failingWord (reactiveTestsAt r ownCells ownSettings starts ownPowers t)) where
+        abbrev reals : List (ℕ × Bool)
+        reals = testsAt b (d .power0 .0) halves ownCells ownSettings starts ownPowers t
+
+        abbrev reactives : List (ℕ × Bool)
+        reactives = reactiveTestsAt r ownCells ownSettings starts ownPowers t
+
+        reals-rise : T (rising 0 20 reals)
+        reals-rise = tests-rise-here b (d .power0 .0) halves ownCells ownSettings starts ownPowers t
+
+        reactives-rise : T (rising 20 27 reactives)
+        reactives-rise = reactive-rise r ownCells ownSettings starts ownPowers t
+
+        -- both words fit one
+        pub words-small : real + reactive < 2 ^ 32
+        words-small = omega (arith, x, y, word-below 0 20 reals (omega arith) reals-rise, word-below 20 27 reactives (omega arith) reactives-rise)
+
+        -- its numbers are those of the cell's failing tests
+        pub word-numbers : numbersIn (real + reactive) ≡ failing (cellTests q p t i)
+        unfolding cellTests
+        word-numbers = rw (x, y, ← tests-cut t h, ← reactive-cut t h) (both-bits 20 27 reals reactives (omega arith) (omega arith) reals-rise reactives-rise)
+
+      -- no test fails
+      pub none-here : HeldTo b (d .power0 .0) halves ownCells ownSettings starts ownPowers (length halves) → ReactiveHeldTo r ownCells ownSettings starts ownPowers (length ownCells)
+          → (t : ℕ) → t < length halves → cellBreaches q p t i ≡ []
+      unfolding cellBreaches cellTests
+      none-here k g t h = rw (all-hold (realTests q p t i) (reactiveTests q p t i) (rw (tests-cut t h) at (k .at t h)) (rw (reactive-cut t h) at (g .at t (omega (arith, cells-long))))) refl
 
   abbrev there : Device
   there = deviceOf (getD devices i [])

@@ -10,6 +10,8 @@ use cell_bounds::bounds_of;
 use device_rows::device_at;
 use device_rules::failing_at;
 use model::Breach;
+use reactive_rules::failing_reactive;
+use reactive_rules::reactive_bounds_of;
 use row_places::CellRow;
 use row_places::DeviceRow;
 use row_places::Front;
@@ -69,15 +71,12 @@ pub fn failing_in(
 {
     let d = device_at(devices, i);
     let b = bounds_of(d);
+    let r = reactive_bounds_of(d);
     let e = a + halves.len();
-    failing_at(
-        b,
-        d.power0,
-        halves,
-        &cells[a..e],
-        &settings[a..e],
-        starts,
-        &powers[a..e],
-        t,
-    )
+    let own_cells = &cells[a..e];
+    let own = &settings[a..e];
+    let own_powers = &powers[a..e];
+    let real = failing_at(b, d.power0, halves, own_cells, own, starts, own_powers, t);
+    let reactive = failing_reactive(r, own_cells, own, starts, own_powers, t);
+    real + reactive
 }

@@ -2,18 +2,16 @@
 use mathlib.Core.List.{List}
 use Prim.Native.Nat.{ℕ, _*_}
 use lib.ListN.{length}
-use lib.IntN.{ℤ, negℤ}
 use Rattle.numbers.specs.Sum.{sumℤ}
 use Rattle.numbers.specs.Base.{upTo}
 use Rattle.model.specs.Case.{System, Plan, Case}
-use Rattle.model.specs.Completion.{Completion, shortfallCost}
+use Rattle.model.specs.Completion.{Completion}
 use Rattle.model.specs.Ours.{ours}
 use Rattle.pen.specs.Runs.{run}
 use Rattle.row_places.specs.declared.Front.{Front}
 use Rattle.records.specs.Views.{systemIn, caseIn, planIn}
-use Rattle.money.specs.Bounds.{cellMost, zoneMost, intervalMost}
-use Rattle.money.specs.Terms.{our, cellBalance}
-use Rattle.slack_money.specs.Day.{intervalBalance}
+use Rattle.money.specs.Bounds.{deviceMost, kindsMost, intervalMost}
+use Rattle.reactive_money.specs.Day.{deviceBalance, zoneBalance, intervalBalance}
 use Rattle.completion_size.specs.Size.{deviceWidth, zoneWidth, intervalWidth}
 use Rattle.completion_writer.specs.Whole.{deviceBits, zoneBits, intervalBits}
 use Rattle.progress.specs.declared.Progress.{Progress}
@@ -34,14 +32,11 @@ module _ (front : Front) (halves : List ℕ) (zones minima devices cells setting
 
   -- the first n devices of interval t
   abbrev pub DevicesAdvance : ℕ → ℕ → List ℕ → List ℕ → Progress → Progress → Type 0
-  DevicesAdvance t n entry exit = Advances (n * deviceWidth) (run (deviceBits x t) n) entry exit (sumℤ (cellBalance c p t) (upTo n)) (n * cellMost)
+  DevicesAdvance t n entry exit = Advances (n * deviceWidth) (run (deviceBits x t) n) entry exit (sumℤ (deviceBalance c p t) (upTo n)) (n * deviceMost)
 
   -- its first n zones
-  abbrev pub zoneBalance : ℕ → ℕ → ℤ
-  zoneBalance t z = negℤ (shortfallCost c p (our c p) t z)
-
   abbrev pub ZonesAdvance : ℕ → ℕ → List ℕ → List ℕ → Progress → Progress → Type 0
-  ZonesAdvance t n entry exit = Advances (n * zoneWidth) (run (zoneBits x t) n) entry exit (sumℤ (zoneBalance t) (upTo n)) (n * zoneMost)
+  ZonesAdvance t n entry exit = Advances (n * zoneWidth (front .edition)) (run (zoneBits (front .edition) x t) n) entry exit (sumℤ (zoneBalance c p t) (upTo n)) (n * kindsMost)
 
   -- interval t; the first n intervals
   abbrev pub IntervalAdvances : ℕ → List ℕ → List ℕ → Progress → Progress → Type 0

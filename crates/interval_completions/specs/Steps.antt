@@ -5,15 +5,18 @@ use Prim.Native.Nat.{ℕ, _+_, _-_, _*_, _^_, _≤_, _<_}
 use native.Mathlib.Omega.{arith}
 use native.Mathlib.Nat.{mul-le-mul}
 use lib.ListN.{length, getD, take, drop}
+use lib.IntN.{negℤ}
 use Rattle.numbers.specs.Laws.{maxZero}
 use Rattle.energy.specs.declared.Watts.{Watts}
 use Rattle.grains.specs.declared.Ledger.{Ledger}
 use Rattle.energy.specs.Energy.{watts}
 use Rattle.layouts.specs.Layout.{any}
-use Rattle.model.specs.Case.{System, Plan, Case}
-use Rattle.model.specs.Completion.{Completion, shortfalls, shortfallNeed, mismatchNeed}
+use Rattle.layouts.specs.Since.{since}
+use Rattle.model.specs.Case.{System, Plan, Case, noReactiveReserves}
+use Rattle.model.specs.Completion as C
+use Rattle.model.specs.Completion.{Completion, shortfalls, shortfallNeed, mismatchNeed, reactiveNeed, reactiveMismatchNeed}
 use Rattle.model.specs.Messages.{six}
-use Rattle.model.specs.ByEdition.{deviceChoice}
+use Rattle.model.specs.ByEdition.{deviceChoice, reactiveChoice}
 use Rattle.model.specs.Ours.{ours}
 use Rattle.theorems.specs.Back.{FitsSix, FitsDevice}
 use Rattle.pen.specs.declared.Pen.{Pen}
@@ -36,20 +39,30 @@ use Rattle.mismatches.specs.Sides.{sidesTo, mismatchOf, mismatch-is}
 use Rattle.zone_totals.specs.Sums.{sumsTo}
 use Rattle.zone_shortfalls.specs.Needs.{Thousandths, zoneNeeds, thousandths, shortfalls-are}
 use Rattle.model.specs.Editions.{mostZones}
-use Rattle.money.specs.Bounds.{cellMost, zoneMost}
+use Rattle.money.specs.Bounds.{cellMost, deviceMost, zoneMost, kindsMost, mismatchCostMost}
+use Rattle.money.specs.Entries.{Entered, entered-then}
 use Rattle.money.specs.Unbroken.{Unbroken}
 use Rattle.money.specs.Ruled.{Ruled}
-use Rattle.money.specs.Terms.{cellBalance, CellEntered}
+use Rattle.money.specs.Terms.{our, cellBalance, CellEntered}
 use Rattle.money.specs.Here as Cells
 use Rattle.slack_money.specs.Charges.{ZoneOf, ZoneEntered, IntervalOf, MismatchEntered}
 use Rattle.slack_money.specs.Here as Here
+use Rattle.reactive_money.specs.Charges.{HeldOf, HeldEntered, ReactiveZoneOf, ReactiveZoneEntered, ReactiveIntervalOf, ReactiveMismatchEntered}
+use Rattle.reactive_money.specs.Day.{deviceBalance, zoneBalance}
+use Rattle.reactive_money.specs.Here as Reactive
+use Rattle.reactive_slacks.specs.declared.ReactiveShortfalls.{ReactiveShortfalls}
+use Rattle.reactive_slacks.specs.Sides.{apartOf, reactive-mismatch-is}
+use Rattle.reactive_slacks.specs.Sides.{sidesTo as reactiveSidesTo}
+use Rattle.reactive_slacks.specs.Held.{shortBy, shortOf, heldTo, reactive-shortfalls-are}
+use Rattle.reactive_writer.specs.Reactive.{twoOf}
+use Rattle.kilovars.specs.Reactive.{var}
 use Rattle.field_groups.specs.Fields.{choiceIn, sixOf}
-use Rattle.completion_size.specs.Size.{deviceWidth, zoneWidth, mismatchWidth}
-use Rattle.completion_writer.specs.Whole.{deviceBits, zoneBits, interval-pushes}
+use Rattle.completion_size.specs.Size.{deviceWidth, sixWidth, twoWidth, zoneWidth, mismatchWidth, reactiveMismatchWidth}
+use Rattle.completion_writer.specs.Whole.{deviceBits, zoneBits, zone-pushes, interval-pushes}
 use Rattle.progress.specs.declared.Progress.{Progress}
 use Rattle.progress.specs.Advances.{Advances, along}
 use Rattle.interval_completions.specs.Fits as Fits
-use Rattle.interval_completions.specs.Advances.{DevicesAdvance, ZonesAdvance, zoneBalance, IntervalAdvances}
+use Rattle.interval_completions.specs.Advances.{DevicesAdvance, ZonesAdvance, IntervalAdvances}
 
 -- a device's place in an interval
 pub record Place (k : ℕ) (cells settings : List (List ℕ)) (powers : List ℕ) : Type 0 where
@@ -112,12 +125,22 @@ module _ {front : Front} {halves : List ℕ} {zones minima devices cells setting
           pub ruled : Ruled (deviceAt devices i) again s power minutes v
           ruled = Cells.ruled-here u t i a h l begins refl ea own-is refl es em chosen
 
-          pub device-done : {b d : List ℕ} {pen r : Pen} {y z : Ledger} → CellEntered (deviceAt devices i) again s power minutes v y z
+          -- its money of real power
+          pub cell-paid : {y z : Ledger} → CellEntered (deviceAt devices i) again s power minutes v y z → Entered y z (cellBalance c p t i) cellMost
+          cell-paid e = Cells.cell-learnt u t i a h l begins refl ea own-is refl es em chosen e
+
+          -- and of reactive reserves
+          pub held-of : HeldOf cells settings (a + t) minutes
+          held-of = Reactive.held-here u t i h l (ap (λ (n : ℕ). n + t) begins) em
+
+          pub device-done : {b d : List ℕ} {pen r : Pen} {y z w : Ledger} → CellEntered (deviceAt devices i) again s power minutes v y z
+              → HeldEntered cells settings (a + t) minutes z w
               → Pushes deviceWidth (deviceChoice .write (choiceIn (v .started) (v .stopped) (v .state) (v .blocks))) b d pen r
-              → Advances deviceWidth (deviceBits x t i) b d (cellBalance c p t i) cellMost (along y pen) (along z r)
-          device-done e w = record {
-            pushes = pushes-as (ap (deviceChoice .write) (Fits.choice-is u t h i l (choice-learnt (u .ready) t i a h l begins refl ec own-is refl o))) refl w;
-            entered = Cells.cell-learnt u t i a h l begins refl ea own-is refl es em chosen e;
+              → Advances deviceWidth (deviceBits x t i) b d (deviceBalance c p t i) deviceMost (along y pen) (along w r)
+          device-done e f k = record {
+            pushes = pushes-as (ap (deviceChoice .write) (Fits.choice-is u t h i l (choice-learnt (u .ready) t i a h l begins refl ec own-is refl o))) refl k;
+            entered = entered-then (cell-paid e)
+                (Reactive.held-learnt u t i h l (ap (λ (n : ℕ). n + t) begins) em f);
           }
 
   -- ---- a zone in an interval
@@ -146,18 +169,42 @@ module _ {front : Front} {halves : List ℕ} {zones minima devices cells setting
           pub zone-fits : FitsSix (sixOf v)
           zone-fits = Fits.six-fits u t h z l short-is
 
-          module _ {minutes : ℕ} (em : minutes ≡ 2 * getD halves t 0) where
-            pub zone-of : ZoneOf zone minutes v
-            zone-of = Here.zone-here u t z h l ez em short-is
+          -- and the two of reactive power
+          module _ {two : ReactiveShortfalls} (er : two ≡ shortOf least (heldTo devices settings m t z (length devices))) where
+            two-is : two ≡ shortBy (var (maxZero (reactiveNeed q p t z C.qru))) (var (maxZero (reactiveNeed q p t z C.qrd)))
+            two-is = er ∙ rw least-is (reactive-shortfalls-are (u .ready) t h z l)
 
-            pub zone-done : {b d : List ℕ} {pen r : Pen} {y w : Ledger} → ZoneEntered zone minutes v y w → Pushes zoneWidth (six (any 33) .write (sixOf v)) b d pen r
-                → Advances zoneWidth (zoneBits x t z) b d (zoneBalance front halves zones minima devices cells settings t z) zoneMost (along y pen) (along w r)
-            zone-done f g = record {
-              pushes = pushes-as (ap (six (any 33) .write) (Fits.six-is u t h z l short-is)) refl g;
-              entered = Here.zone-learnt u t z h l ez em short-is f;
-            }
+            pub two-fits : (two .qru .0 < 2 ^ 33) × (two .qrd .0 < 2 ^ 33)
+            two-fits = Fits.two-fits u t h z l two-is
 
-    -- ---- the mismatch, and with it the interval
+            module _ {minutes : ℕ} (em : minutes ≡ 2 * getD halves t 0) where
+              pub zone-of : ZoneOf zone minutes v
+              zone-of = Here.zone-here u t z h l ez em short-is
+
+              pub zone-paid : {y w : Ledger} → ZoneEntered zone minutes v y w → Entered y w (negℤ (C.shortfallCost c p (our c p) t z)) zoneMost
+              zone-paid e = Here.zone-learnt u t z h l ez em short-is e
+
+              up : two .qru .0 ≡ maxZero (reactiveNeed q p t z C.qru)
+              up = ap (λ (x : ReactiveShortfalls). x .qru .0) two-is
+
+              down : two .qrd .0 ≡ maxZero (reactiveNeed q p t z C.qrd)
+              down = ap (λ (x : ReactiveShortfalls). x .qrd .0) two-is
+
+              pub reactive-zone-of : ReactiveZoneOf zone minutes (two .qru .0) (two .qrd .0)
+              reactive-zone-of = Reactive.zone-here u t z h l ez em up down
+
+              pub zone-done : {b d f : List ℕ} {pen k r : Pen} {y w o : Ledger} → ZoneEntered zone minutes v y w → ReactiveZoneEntered zone minutes (two .qru .0) (two .qrd .0) w o
+                  → Pushes sixWidth (six (any 33) .write (sixOf v)) b d pen k
+                  → Pushes (twoWidth (front .edition)) (since (front .edition) 2 noReactiveReserves reactiveChoice .write (twoOf (two .qru) (two .qrd))) d f k r
+                  → Advances (zoneWidth (front .edition)) (zoneBits (front .edition) x t z) b f (zoneBalance c p t z) kindsMost (along y pen) (along o r)
+              zone-done e g i j = record {
+                pushes = zone-pushes (front .edition) q x t z
+                    (pushes-as (ap (six (any 33) .write) (Fits.six-is u t h z l short-is)) refl i)
+                    (pushes-as (ap (since (front .edition) 2 noReactiveReserves reactiveChoice .write) (Fits.two-is u t h z l two-is)) refl j);
+                entered = entered-then (zone-paid e) (Reactive.zone-learnt u t z h l ez em up down g);
+              }
+
+    -- ---- the mismatches, and with them the interval
 
     module _ {y : ℕ} (e : y ≡ mismatchOf (sidesTo devices powers m t (length devices))) where
       need-is : y ≡ mismatchNeed q p t
@@ -166,24 +213,44 @@ module _ {front : Front} {halves : List ℕ} {zones minima devices cells setting
       pub mismatch-fits : y < 2 ^ 23
       mismatch-fits = rw need-is (Fits.mismatch-fits u t h)
 
-      module _ {minutes : ℕ} (em : minutes ≡ 2 * getD halves t 0) where
-        pub interval-of : IntervalOf (front .mismatch) minutes y
-        interval-of = Here.mismatch-here u t h refl em need-is
+      pub interval-of : {minutes : ℕ} → minutes ≡ 2 * getD halves t 0 → IntervalOf (front .mismatch) minutes y
+      interval-of em = Here.mismatch-here u t h refl em need-is
 
-        pub interval-done : {a b d g : List ℕ} {r s v : Progress} {w : Ledger} {pen : Pen}
-            → DevicesAdvance front halves zones minima devices cells settings t (length devices) a b r s
-            → ZonesAdvance front halves zones minima devices cells settings t (length zones) b d s v
-            → MismatchEntered (front .mismatch) minutes y (v .money) w
-            → Pushes mismatchWidth (any 23 .write y) d g (v .pen) pen
-            → IntervalAdvances front halves zones minima devices cells settings t a g r (along w pen)
-        unfolding ours
-        interval-done {a} {b} {d} {g} {r} {s} {v} {w} {pen} i j f k =
-            let n = Viewed.devices-are halves zones minima devices cells in
-            let o = Viewed.zones-are halves zones minima devices cells in
-            record {
-              pushes = pushes-as refl (rw (n, o) refl) (interval-pushes (front .edition) q x t
-                  (pushes-as (ap (run (deviceBits x t)) (sym n)) (ap (λ (k : ℕ). k * deviceWidth) (sym n)) (i .pushes))
-                  (pushes-as (ap (run (zoneBits x t)) (sym o)) (ap (λ (k : ℕ). k * zoneWidth) (sym o)) (j .pushes))
-                  (pushes-as (ap (any 23 .write) need-is) refl k));
-              entered = Here.interval-whole u t (i .entered) (j .entered) (Here.mismatch-learnt u t h refl em need-is f);
-            }
+      pub mismatch-paid : {minutes : ℕ} → minutes ≡ 2 * getD halves t 0 → {b d : Ledger} → MismatchEntered (front .mismatch) minutes y b d
+          → Entered b d (negℤ (C.mismatchCost c p (our c p) t)) mismatchCostMost
+      mismatch-paid em e = Here.mismatch-learnt u t h refl em need-is e
+
+    module _ {y : ℕ} (e : y ≡ apartOf (reactiveSidesTo devices settings m t (length devices))) where
+      reactive-need-is : y ≡ reactiveMismatchNeed q p t
+      reactive-need-is = e ∙ reactive-mismatch-is (u .ready) t h
+
+      pub reactive-mismatch-fits : y < 2 ^ 23
+      reactive-mismatch-fits = rw reactive-need-is (Fits.reactive-mismatch-fits u t h)
+
+      pub reactive-interval-of : {minutes : ℕ} → minutes ≡ 2 * getD halves t 0 → ReactiveIntervalOf (front .mismatch) minutes y
+      reactive-interval-of em = Reactive.mismatch-here u t h refl em reactive-need-is
+
+    module _ {y z minutes : ℕ} (e : y ≡ mismatchOf (sidesTo devices powers m t (length devices))) (er : z ≡ apartOf (reactiveSidesTo devices settings m t (length devices)))
+        (em : minutes ≡ 2 * getD halves t 0) where
+      pub interval-done : {a b d f g : List ℕ} {r s v : Progress} {w o : Ledger} {k pen : Pen}
+          → DevicesAdvance front halves zones minima devices cells settings t (length devices) a b r s
+          → ZonesAdvance front halves zones minima devices cells settings t (length zones) b d s v
+          → MismatchEntered (front .mismatch) minutes y (v .money) w
+          → ReactiveMismatchEntered (front .mismatch) minutes z w o
+          → Pushes mismatchWidth (any 23 .write y) d f (v .pen) k
+          → Pushes (reactiveMismatchWidth (front .edition)) (since (front .edition) 2 0 (any 23) .write z) f g k pen
+          → IntervalAdvances front halves zones minima devices cells settings t a g r (along o pen)
+      unfolding ours
+      interval-done i j w o k l =
+          let n = Viewed.devices-are halves zones minima devices cells in
+          let b = Viewed.zones-are halves zones minima devices cells in
+          let d = front .edition in
+          record {
+            pushes = pushes-as refl (rw (n, b) refl) (interval-pushes d q x t
+                (pushes-as (ap (run (deviceBits x t)) (sym n)) (ap (λ (k : ℕ). k * deviceWidth) (sym n)) (i .pushes))
+                (pushes-as (ap (run (zoneBits d x t)) (sym b)) (ap (λ (k : ℕ). k * zoneWidth d) (sym b)) (j .pushes))
+                (pushes-as (ap (any 23 .write) (need-is e)) refl k)
+                (pushes-as (ap (since d 2 0 (any 23) .write) (reactive-need-is er)) refl l));
+            entered = Reactive.interval-whole u t (i .entered) (j .entered) (mismatch-paid e em w)
+                (Reactive.mismatch-learnt u t h refl em (reactive-need-is er) o);
+          }

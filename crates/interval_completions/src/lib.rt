@@ -8,6 +8,13 @@ use kilowatts::Kw;
 use mismatches::mismatch;
 use money::cell_money;
 use progress::Progress;
+use reactive_money::reactive_mismatch_money;
+use reactive_money::reactive_reserves_money;
+use reactive_money::reactive_zone_money;
+use reactive_slacks::reactive_mismatch;
+use reactive_slacks::reactive_shortfalls;
+use reactive_writer::put_reactive_mismatch;
+use reactive_writer::put_reactive_shortfalls;
 use row_places::CellRow;
 use row_places::DeviceRow;
 use row_places::Front;
@@ -27,7 +34,7 @@ ghost use Rattle.pen.specs.Pens.{Ready};
 ghost use Rattle.pen.specs.Runs.{Room};
 ghost use Rattle.records.specs.Views.{mostDevices, mostIntervals};
 ghost use Rattle.model.specs.Editions.{mostZones};
-ghost use Rattle.money.specs.Bounds.{cellMost, zoneMost, intervalMost};
+ghost use Rattle.money.specs.Bounds.{deviceMost, kindsMost, intervalMost};
 ghost use Rattle.money.specs.Entries.{Spare};
 ghost use Rattle.money.specs.Unbroken.{Unbroken};
 ghost use Rattle.completion_size.specs.Size.{deviceWidth, zoneWidth, intervalWidth};
@@ -51,7 +58,7 @@ fn complete_devices(
 ) -> Progress
     requires { ⌜ Unbroken front (now halves) (now zones) (now minima) (now devices) (now cells) (now settings) (now starts) (now powers) × (t < length (now halves))
         × (minutes ≡ 2 * getD (now halves) t 0) ⌝ }
-    requires { ⌜ Ready (p .pen) × Room (now buf) (p .pen) (length (now devices) * deviceWidth) × Spare (mostDevices * cellMost) (p .money) ⌝ }
+    requires { ⌜ Ready (p .pen) × Room (now buf) (p .pen) (length (now devices) * deviceWidth) × Spare (mostDevices * deviceMost) (p .money) ⌝ }
     ensures { λ r. ⌜ DevicesAdvance front (now (halves .entry)) (now (zones .entry)) (now (minima .entry)) (now (devices .entry)) (now (cells .entry)) (now (settings .entry)) t
         (length (now (devices .entry))) (now (buf .entry)) (now (buf .exit)) p r ⌝ }
 {
@@ -71,6 +78,7 @@ fn complete_devices(
         let cell = cell_at(cells, k);
         let setting = setting_at(settings, k);
         money = cell_money(money, x, devices, i, cell, setting, power, minutes);
+        money = reactive_reserves_money(money, cells, settings, k, minutes);
         let blocks = x.blocks;
         pen = put_choice(buf, pen, x.started, x.stopped, x.state, blocks);
         a = e;
@@ -79,7 +87,7 @@ fn complete_devices(
     Progress { money, pen }
 }
 
-// Its zones: "then per zone six shortfalls in W, in the order of their prices".
+// Its zones: "then per zone six shortfalls in W, in the order of their prices"; since edition 2 two in var behind them.
 fn complete_zones(
     front: Front,
     halves: &[u32],
@@ -97,7 +105,7 @@ fn complete_zones(
 ) -> Progress
     requires { ⌜ Unbroken front (now halves) (now zones) (now minima) (now devices) (now cells) (now settings) (now starts) (now powers) × (t < length (now halves))
         × (minutes ≡ 2 * getD (now halves) t 0) ⌝ }
-    requires { ⌜ Ready (p .pen) × Room (now buf) (p .pen) (length (now zones) * zoneWidth) × Spare (mostZones * zoneMost) (p .money) ⌝ }
+    requires { ⌜ Ready (p .pen) × Room (now buf) (p .pen) (length (now zones) * zoneWidth (front .edition)) × Spare (mostZones * kindsMost) (p .money) ⌝ }
     ensures { λ r. ⌜ ZonesAdvance front (now (halves .entry)) (now (zones .entry)) (now (minima .entry)) (now (devices .entry)) (now (cells .entry)) (now (settings .entry)) t
         (length (now (zones .entry))) (now (buf .entry)) (now (buf .exit)) p r ⌝ }
 {
@@ -109,16 +117,19 @@ fn complete_zones(
     while z < zones.len() {
         let zone = zone_at(zones, z);
         let least = minima_at(minima, k);
+        let two = reactive_shortfalls(least, devices, settings, m, t, z);
         let six = shortfalls(zone, least, devices, settings, powers, m, t, z);
         money = zone_money(money, six, zone, minutes);
+        money = reactive_zone_money(money, two.qru, two.qrd, zone, minutes);
         pen = put_shortfalls(buf, pen, six);
+        pen = put_reactive_shortfalls(buf, pen, front.edition, two.qru, two.qrd);
         k += m;
         z += 1;
     }
     Progress { money, pen }
 }
 
-// Interval t: its devices, its zones, "then mismatch".
+// Interval t: its devices, its zones, "then mismatch", and since edition 2 the reactive one.
 fn complete_interval(
     front: Front,
     halves: &[u32],
@@ -170,10 +181,11 @@ fn complete_interval(
         a,
     );
     let apart = mismatch(devices, powers, halves.len(), t);
-    let paid = b.money;
-    let last = b.pen;
-    let money = mismatch_money(paid, apart, front.mismatch, minutes);
-    let pen = put_mismatch(buf, last, apart);
+    let reactive = reactive_mismatch(devices, settings, halves.len(), t);
+    let money = mismatch_money(b.money, apart, front.mismatch, minutes);
+    let money = reactive_mismatch_money(money, reactive, front.mismatch, minutes);
+    let pen = put_mismatch(buf, b.pen, apart);
+    let pen = put_reactive_mismatch(buf, pen, front.edition, reactive);
     Progress { money, pen }
 }
 

@@ -2,6 +2,7 @@
 use Prim.Native.Nat.{ℕ}
 use Rattle.kilovars.specs.declared.Kvar.{Kvar}
 use Rattle.kilovars.specs.declared.SignedKvar.{SignedKvar}
+use Rattle.kilovars.specs.declared.Var.{Var}
 
 -- what a signed figure is kept from
 abbrev pub kvarOffset : ℕ
@@ -12,3 +13,6 @@ kvar n = record { 0 = n }
 
 abbrev pub signedKvar : ℕ → SignedKvar
 signedKvar n = record { 0 = n }
+
+abbrev pub var : ℕ → Var
+var n = record { 0 = n }

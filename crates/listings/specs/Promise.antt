@@ -34,7 +34,6 @@ use Rattle.model.specs.Judgement.{readPlan, verdict, unlessBroken, accepts, our
 use Rattle.model.specs.Lists.{breachBytes, listBytes, listing, Listings, listed, listPlan, listCase, listings}
 use Rattle.theorems.specs.Promise.{Sound, planOf, promised, plan-promised, stated-sound}
 use Rattle.theorems.specs.Theorem.{apart}
-use Rattle.ranges.specs.Ranges.{stated-range}
 use Rattle.listings.specs.Sizes.{mostBreaches, breaches-few, bytes-small}
 
 -- judging answers with a surplus, or with 7 for its own buffer
@@ -144,5 +143,5 @@ module _ (m : Largest) (most : m .devices ≤ mostDevices) (long : m .intervals 
   unfolding listings
   case-listed cs ps before = record {
     case-refused = λ f e. record { answer = rw e refl; number = promised m most long cs ps before .case-refused f e .number; untouched = rw e refl };
-    case-passed = λ x e. subst (PlanListed x ps before) (sym (ap (listCase ps before) e)) (plan-listed x (stated-sound m x (stated-range m most long cs x e)) ps before);
+    case-passed = λ x e. subst (PlanListed x ps before) (sym (ap (listCase ps before) e)) (plan-listed x (stated-sound m most long cs x e) ps before);
   }

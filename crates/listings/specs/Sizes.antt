@@ -8,13 +8,13 @@ use native.Mathlib.Nat.{mul-le-mul, le-refl}
 use lib.ListN.{length, length-append, length-map}
 use Rattle.numbers.specs.Sum.{All, all-map}
 use Rattle.numbers.specs.Base.{range, upTo, gather}
-use Rattle.numbers.specs.Every.{all-at, all-in, all-upTo, all-range, all-gather, length-range}
+use Rattle.numbers.specs.Every.{all-at, all-in, all-append, all-upTo, all-range, all-gather, length-range}
 use Rattle.numbers.specs.Gather.{gather-size}
 use Rattle.model.specs.declared.Breach.{Breach}
 use Rattle.model.specs.Case.{System, Plan, noDevice}
 use Rattle.model.specs.Forced.{intervals, devices, device}
 use Rattle.model.specs.Editions.{batch, mostDevices, mostIntervals, mostWindows}
-use Rattle.model.specs.Rules.{cellNumbers, cellBreach, windowBreach, Placed, in-cell, in-window}
+use Rattle.model.specs.Rules.{realNumbers, reactiveNumbers, cellNumbers, cellBreach, windowBreach, Placed, in-cell, in-window}
 use Rattle.model.specs.Breaches.{cellTests, unless, failing, cellBreaches, windowTest, oneWindow, windowBreaches, allCells, allWindows, breaches}
 use Rattle.model.specs.Tests.{numbers-are}
 use Rattle.model.specs.Named.{Failed, listed-fails}
@@ -26,11 +26,11 @@ abbrev pub mostBreaches : ℕ → ℕ → ℕ
 mostBreaches n m = m * (n * length cellNumbers) + n * mostWindows
 
 -- in bytes, for the counts that the batch program takes, and for the most that any reader does
-pub longest-batch : 4 * mostBreaches (batch .devices) (batch .intervals) ≡ 58624
+pub longest-batch : 4 * mostBreaches (batch .devices) (batch .intervals) ≡ 77056
 unfolding range
 longest-batch = refl
 
-pub longest-host : 4 * mostBreaches mostDevices mostIntervals ≡ 467968
+pub longest-host : 4 * mostBreaches mostDevices mostIntervals ≡ 615424
 unfolding range
 longest-host = refl
 
@@ -85,7 +85,8 @@ module _ (q : System) (p : Plan) where
     -- each of the four figures of a breach
     placed-small : (b : Breach) → Placed q b → All (λ n. n < 256) (breachBytes b)
     placed-small b (in-cell t i n l k m e) =
-        let s : n < 256 = all-in (λ n. n < 256) cellNumbers (all-range (λ n. n < 256) 1 _ (λ j a h. omega arith)) m in
+        let s : n < 256 = all-in (λ n. n < 256) cellNumbers (all-append (λ n. n < 256) realNumbers reactiveNumbers
+        (all-range (λ n. n < 256) 1 _ (λ j a h. omega arith)) (all-range (λ n. n < 256) 21 _ (λ j a h. omega arith))) m in
         rw e (s, (omega (arith, r .intervals), (omega (arith, r .devices), (omega arith, tt))))
     placed-small b (in-window i w l k e) =
         let s : length (device q i .startWindows) ≤ mostWindows = all-at (DeviceRange (intervals q)) noDevice (q .devices) (r .eachDevice) i l .starts in

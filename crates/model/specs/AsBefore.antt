@@ -7,8 +7,7 @@ use Rattle.layouts.specs.declared.Fault.{Fault}
 use Rattle.layouts.specs.declared.Place.{Place}
 use Rattle.layouts.specs.Layout.{Layout, begin, advanced, nat, _then_, _▸_, held, fixed, readWhole, bitsOf}
 use Rattle.layouts.specs.Since.{nothing, present}
-use Rattle.layouts.specs.Checked.{Checked, nat-checked, weaken}
-use Rattle.layouts.specs.As.{As, as-same, as-pair, as-each, as-held, ahead, always, only, holding, leads}
+use Rattle.layouts.specs.As.{As, as-same, as-pair, as-each, as-held, ahead, only, holding, leads}
 use Rattle.model.specs.Case.{Case, System}
 use Rattle.model.specs.Editions.{Largest, deviceLimit, intervalLimit, batch}
 use Rattle.model.specs.Messages as M
@@ -16,7 +15,7 @@ use Rattle.model.specs.Messages.{edition1, Counts, Written}
 use Rattle.model.specs.Judgement.{countsOf}
 use Rattle.model.specs.Before.{readPlan}
 use Rattle.model.specs.ByEdition.{Stated, counts, startWindow, device, content, caseLayout, caseKind, editionOf, editionField, completionFront, completionLayout}
-use Rattle.model.specs.ByEdition.{planKind, setting, cell, planLayout, plannedIn}
+use Rattle.model.specs.ByEdition.{planKind, setting, cell, minima, zone, planLayout, plannedIn, zoneChoice, intervalChoice}
 
 -- a case with its edition beside it
 abbrev pub stated : ℕ → Case → Stated
@@ -42,7 +41,7 @@ planned-as-before q s = plan-as _ _ .reads s begin _ _
 -- ---- completion
 
 pub completion-as : (n : Counts) (windows : ℕ) (w : Written) → completionLayout 1 n windows .write w ≡ M.completionLayout edition1 n windows .write w
-unfolding completionLayout M.completionLayout completionFront M.counts held _then_ nat
+unfolding completionLayout M.completionLayout completionFront M.counts intervalChoice M.intervalChoice zoneChoice M.zoneChoice M.six held _then_ nat bitsOf present nothing
 completion-as n windows w = refl
 
 -- ---- case
@@ -54,13 +53,14 @@ first l = held (λ v. v .1 .1) (λ c. (caseKind, (1, c))) (fixed caseKind ▸ fi
 regroup : (a b c d : List ℕ) → a ++ (b ++ (c ++ d)) ≡ (a ++ (b ++ c)) ++ d
 regroup a b c d = simp append-assoc
 
-edition-checked : Checked (nat editionField) (λ e. e ≡ 1)
-edition-checked = weaken (nat editionField) _ _ (nat-checked editionField) (λ e ok. omega arith)
-
 -- reactive power came with edition 2
 cell-as : M.cell ≡ cell 1
 unfolding cell M.cell M.eight held _then_ nat bitsOf present nothing
 cell-as = refl
+
+minima-as : M.minima ≡ minima 1
+unfolding minima M.minima held _then_ nat bitsOf present nothing
+minima-as = refl
 
 -- a reader that takes all that edition 1 allows takes no more
 module _ (l : Largest) (h : deviceLimit 1 ≤ l .devices) (k : intervalLimit 1 ≤ l .intervals) where
@@ -72,25 +72,15 @@ module _ (l : Largest) (h : deviceLimit 1 ≤ l .devices) (k : intervalLimit 1 �
       rw (d, i) (as-same (content 1 batch))
 
   pub first-as : As (first l) (λ c. c) (M.caseLayout edition1)
-  unfolding first content counts device startWindow M.caseLayout M.counts M.device M.startWindow held _then_ nat
-  first-as = rw cell-as (record {
+  unfolding first content counts device startWindow zone M.caseLayout M.counts M.device M.startWindow M.zone held _then_ nat present nothing
+  first-as = rw (cell-as, minima-as) (record {
     reads = λ s p bad next. ahead (fixed 1) s p bad (λ _ q. ahead (fixed 1) s q bad (λ _ r. content-as .reads s r bad next));
     writes = λ c.
         ap (λ (bs : List ℕ). fixed 1 .write 1 ++ (fixed 1 .write 1 ++ bs)) (content-as .writes c)
         ∙ regroup (fixed 1 .write 1) (fixed 1 .write 1) (counts 1 batch .write (countsOf (c .system))) _;
   })
 
-  -- where 1 is the newest edition, every message is read so
-  pub case-as : As (caseLayout l) (stated 1) (M.caseLayout edition1)
-  unfolding caseLayout first held _then_
-  case-as = record {
-    reads = λ s p bad next.
-        ahead (fixed 1) s p bad (λ _ q. always (nat editionField) 1 edition-checked s q bad _)
-        ∙ first-as .reads s p bad (λ c z. next (stated 1 c) z);
-    writes = first-as .writes;
-  }
-
-  -- and whatever is the newest, every message whose edition is 1
+  -- whatever is the newest, every message whose edition is 1 is read so
   pub edition1-reads : {X : Type 0} (s : List ℕ) → editionOf s ≡ 1 → (bad : Fault → X) (next : Stated → Place → X)
       → caseLayout l .read s begin bad next ≡ M.caseLayout edition1 .read s begin bad (λ c q. next (stated 1 c) q)
   unfolding caseLayout first held _then_

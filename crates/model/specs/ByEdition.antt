@@ -1,21 +1,22 @@
 -- "Messages": the fields of a case, a plan and a completion, in order, with widths and ranges, for every edition at once.
 -- The content is the newest edition's: what an edition lacks takes no bits and has its neutral value (`since`). Parts that no edition has added to are those of `Messages`.
+use mathlib.Core.Bool.{Bool}
 use mathlib.Core.List.{List}
 use Prim.Native.Nat.{ℕ, _^_}
 use lib.IntN.{ℤ}
 use Rattle.bits.specs.Bits.{fieldAt}
 use Rattle.layouts.specs.declared.Fault.the-variants.{WrongKind}
 use Rattle.layouts.specs.Layout.{Field, Layout, Whole, nat, int, _then_, _▸_, list, held, counted, figure, any, countOf, fixed, readWhole, such}
-use Rattle.layouts.specs.Since.{since}
+use Rattle.layouts.specs.Since.{since, present}
 use lib.ListN.{length}
-use Rattle.model.specs.Case.{StartWindow, Cell, Device, Zone, CellPrices, DevicePrices, Six, Case, System, Reactive, Setting}
-use Rattle.model.specs.Case.{Plan, noReactive, ReactiveLimits, ReactivePrices, noReactiveLimits, noReactivePrices}
-use lib.Dec.{leb}
+use Rattle.model.specs.Case.{StartWindow, Line, Link, Cell, Device, Minima, Zone, CellPrices, DevicePrices, Kinds, Case, System, Reactive, Setting}
+use Rattle.model.specs.Case.{Plan, noReactive, ReactiveLimits, ReactiveReserves, noReactiveLimits, noReactiveReserves, noLine, noLink, unitPrices}
+use lib.Dec.{ltb, leb, eqb}
 use lib.Signed.{leZ}
 use Rattle.model.specs.Forced.{intervals, devices}
 use Rattle.model.specs.Editions.{newest, Largest, deviceBits, intervalBits, devicesIn, intervalsIn, mostZones, mostStates, mostWindows, startsBits, mostStarts}
 use Rattle.model.specs.Messages as M
-use Rattle.model.specs.Messages.{kW, minutes, eight, windowEnds, energyWindow, apart, head, costs, active, lastEnd, Counts, DeviceChoice, IntervalChoice, Written}
+use Rattle.model.specs.Messages.{kW, minutes, eight, shares, six, windowEnds, energyWindow, apart, head, costs, active, lastEnd, Counts, DeviceChoice, IntervalChoice, Written}
 
 -- ---- the front of a message
 
@@ -67,15 +68,15 @@ unfoldable pub reactiveLimits : Layout ReactiveLimits
 reactiveLimits = let l = signedKvar in held (λ v. record { qmin = v .0; qmax = v .1 }) (λ r. (r .qmin, r .qmax)) (l then (λ low. such (λ high. leZ low high) l))
 
 -- "two reactive reserves .., with prices of 14 bits (0..10,000) per interval in the case"; "up before down"
-unfoldable pub reactivePrices : Layout ReactivePrices
+unfoldable pub reactivePrices : Layout ReactiveReserves
 reactivePrices = let l = figure 14 0 10000 in held (λ v. record { qru = v .0; qrd = v .1 }) (λ r. (r .qru, r .qrd)) (l ▸ l)
 
 -- what a cell has from edition 2 on, and what an edition has that lacks it
-abbrev pub reactiveCell : Layout (ReactiveLimits × ReactivePrices)
+abbrev pub reactiveCell : Layout (ReactiveLimits × ReactiveReserves)
 reactiveCell = reactiveLimits ▸ reactivePrices
 
-abbrev pub noReactiveCell : ReactiveLimits × ReactivePrices
-noReactiveCell = (noReactiveLimits, noReactivePrices)
+abbrev pub noReactiveCell : ReactiveLimits × ReactiveReserves
+noReactiveCell = (noReactiveLimits, noReactiveReserves)
 
 -- "status 2 (0 free, 1 on, 2 off); pmin, pmax 17 each; blocks 3 (0..4), each cap 17 and price 15 (±10,000); eight reserve prices 14 each (0..10,000)";
 -- "New fields follow, in the order told here, the old ones of their device .. in that interval"
@@ -99,6 +100,24 @@ startWindow e last = held
     (λ r. ((r .from, r .until), r .most))
     (windowEnds last ▸ figure (startsBits e) 0 (mostStarts e))
 
+-- "an offset (18, ±100,000) and a slope in thousandths (15, ±10,000)"
+unfoldable pub line : Layout Line
+line = held (λ v. record { offset = v .0; slope = v .1 }) (λ r. (r .offset, r .slope)) (signedKvar ▸ int 15 10000)
+
+-- which lines a link kind has: "0 none, 1 two lines, 2 equality"
+abbrev pub firstLine : ℕ → Bool
+firstLine kind = ltb 0 kind
+
+abbrev pub secondLine : ℕ → Bool
+secondLine kind = eqb kind 1
+
+-- "a link kind (2 bits ..), then per line, upper before lower, the equality once"; a kind of 3 is out of range
+unfoldable pub link : Layout Link
+link = held
+    (λ v. record { kind = v .0; upper = v .1 .0; lower = v .1 .1 })
+    (λ r. (r .kind, (r .upper, r .lower)))
+    (figure 2 0 2 then (λ kind. present (firstLine kind) noLine line ▸ present (secondLine kind) noLine line))
+
 -- "Per device": what stands ahead of its intervals, then its cells
 unfoldable pub device : ℕ → ℕ → ℕ → ℕ → Layout (Device × DevicePrices)
 device e intervals zones last = held
@@ -116,15 +135,16 @@ device e intervals zones last = held
         longest = w .0 .0;
         startWindows = w .1 .0;
         energyWindows = w .1 .1 .0;
-        cells = w .1 .1 .1 .0;
+        link = w .1 .1 .1 .0;
+        cells = w .1 .1 .1 .1 .0;
       },
-      record { onCost = c .on; startCost = c .start; stopCost = c .stop; stateCosts = w .0 .1; cells = w .1 .1 .1 .1 },
+      record { onCost = c .on; startCost = c .start; stopCost = c .stop; stateCosts = w .0 .1; cells = w .1 .1 .1 .1 .1 },
     ))
     (λ r. let d = r .0 in let x = r .1 in (
       record { side = d .side; zoneBits = d .zoneBits; on0 = d .on0; power0 = d .power0; minutes0 = d .minutes0; minUp = d .minUp; minDown = d .minDown; ramps = d .ramps },
       (
         record { on = x .onCost; start = x .startCost; stop = x .stopCost },
-        (d .limits, ((d .longest, x .stateCosts), (d .startWindows, (d .energyWindows, (d .cells, x .cells))))),
+        (d .limits, ((d .longest, x .stateCosts), (d .startWindows, (d .energyWindows, (d .link, (d .cells, x .cells)))))),
       ),
     ))
     (head zones
@@ -133,11 +153,30 @@ device e intervals zones last = held
     ▸ apart (counted (countOf 3 0 mostStates) (minutes ▸ int 31 1000000000))
     ▸ counted (countOf 3 0 mostWindows) (startWindow e last)
     ▸ counted (countOf 3 0 mostWindows) (energyWindow last)
+    ▸ since e 2 noLink link
     ▸ apart (list intervals (cell e)))
 
--- "Per zone: shares ..; shortfall prices ..; per interval rru and rrd minima"
-abbrev pub zone : ℕ → ℕ → Layout (Zone × Six)
-zone e intervals = M.zone intervals
+-- "two prices, with rru's widths and ranges", "up before down"
+unfoldable pub zoneReactivePrices : Layout ReactiveReserves
+zoneReactivePrices = let l = figure 7 1 100 in held (λ v. record { qru = v .0; qrd = v .1 }) (λ r. (r .qru, r .qrd)) (l ▸ l)
+
+-- "Zones gain two minima in kvar .., with rru's widths and ranges"
+unfoldable pub reactiveMinima : Layout ReactiveReserves
+reactiveMinima = let l = figure 23 0 6400000 in held (λ v. record { qru = v .0; qrd = v .1 }) (λ r. (r .qru, r .qrd)) (l ▸ l)
+
+-- "per interval rru and rrd minima"; behind them, since edition 2, the reactive ones
+unfoldable pub minima : ℕ → Layout Minima
+minima e = held
+    (λ v. record { rru = v .0 .rru; rrd = v .0 .rrd; reactive = v .1 })
+    (λ r. (r, r .reactive))
+    (M.minima ▸ since e 2 noReactiveReserves reactiveMinima)
+
+-- "Per zone: shares ..; shortfall prices ..; per interval rru and rrd minima"; "New fields follow .. the old ones .. ahead of its intervals"
+unfoldable pub zone : ℕ → ℕ → Layout (Zone × Kinds)
+zone e intervals = held
+    (λ v. (record { shares = v .0; minima = v .1 .1 .1 }, record { six = v .1 .0; reactive = v .1 .1 .0 }))
+    (λ r. (r .0 .shares, (r .1 .six, (r .1 .reactive, r .0 .minima))))
+    (shares ▸ six (figure 7 1 100) ▸ since e 2 unitPrices zoneReactivePrices ▸ list intervals (minima e))
 
 -- what stands behind the edition: "mismatch price, overrun price 14 each (1..10,000 per kW·min). Per interval: d/2, 8 (1..180)"; zones; devices
 unfoldable pub content : ℕ → Largest → Layout Case
@@ -203,9 +242,20 @@ completionFront e n = held
 abbrev pub deviceChoice : Layout DeviceChoice
 deviceChoice = M.deviceChoice
 
--- an interval's part: "then per zone six shortfalls in W, in the order of their prices, 33 each; then mismatch 23"
-abbrev pub intervalChoice : ℕ → ℕ → ℕ → Layout IntervalChoice
-intervalChoice e devices zones = M.intervalChoice devices zones
+-- "the reactive shortfalls (var, 33 bits each, after the zone's six)", "up before down"
+unfoldable pub reactiveChoice : Layout ReactiveReserves
+reactiveChoice = held (λ v. record { qru = v .0; qrd = v .1 }) (λ r. (r .qru, r .qrd)) (any 33 ▸ any 33)
+
+-- "per zone six shortfalls in W, in the order of their prices, 33 each"; behind them, since edition 2, the reactive ones
+unfoldable pub zoneChoice : ℕ → Layout Kinds
+zoneChoice e = held (λ v. record { six = v .0; reactive = v .1 }) (λ r. (r .six, r .reactive)) (six (any 33) ▸ since e 2 noReactiveReserves reactiveChoice)
+
+-- an interval's part: "then per zone ..; then mismatch 23", and since edition 2 the reactive one, "(23 bits, after the real one)"
+unfoldable pub intervalChoice : ℕ → ℕ → ℕ → Layout IntervalChoice
+intervalChoice e devices zones = held
+    (λ v. record { devices = v .0; zones = v .1 .0; mismatch = v .1 .1 .0; reactiveMismatch = v .1 .1 .1 })
+    (λ r. (r .devices, (r .zones, (r .mismatch, r .reactiveMismatch))))
+    (list devices deviceChoice ▸ list zones (zoneChoice e) ▸ any 23 ▸ since e 2 0 (any 23))
 
 -- "Then each energy window's overrun 32, in case order; surplus 64 signed"
 unfoldable pub completionLayout : ℕ → Counts → ℕ → Layout Written

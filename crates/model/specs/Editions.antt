@@ -3,7 +3,7 @@ use Prim.Native.Nat.{ℕ, min}
 
 -- the newest edition there is
 abbrev pub newest : ℕ
-newest = 1
+newest = 2
 
 -- ---- counts
 

@@ -34,7 +34,8 @@ use Rattle.numbers.specs.Every.{
 use Rattle.model.specs.declared.Breach.{Breach}
 use Rattle.model.specs.Case.{System, Plan}
 use Rattle.model.specs.Forced.{intervals, devices, device}
-use Rattle.model.specs.Rules.{Rule16, Rule18, Rule19, Rule20, CellRule, EveryRule, cellNumbers, cellBreach, windowBreach, Placed, in-cell, in-window, RuleAt, Lex, inTurn, Before, last, alike}
+use Rattle.model.specs.Rules.{realNumbers, reactiveNumbers, cellNumbers}
+use Rattle.model.specs.Rules.{Rule16, Rule18, Rule19, Rule20, CellRule, EveryRule, cellBreach, windowBreach, Placed, in-cell, in-window, RuleAt, Lex, inTurn, Before, last, alike}
 use Rattle.model.specs.Breaches.{cellTests, unless, failing, cellBreaches, windowTest, oneWindow, windowBreaches, allCells, allWindows, breaches}
 use Rattle.model.specs.Tests.{Decides, Decided, cell-decided, numbers-are}
 
@@ -102,6 +103,15 @@ failing-ordered R (n ∷ ns) h = go (n .1) (failing-ordered R ns (h .1))
     go true r = r
     go false r = (failing-keeps (R (n .0)) ns (h .0), r)
 
+pub failing-append : (xs ys : List (ℕ × Bool)) → failing (xs ++ ys) ≡ failing xs ++ failing ys
+unfolding failing
+failing-append [] ys = refl
+failing-append (x ∷ xs) ys = go (x .1) (failing-append xs ys)
+  where
+    go : (b : Bool) → failing (xs ++ ys) ≡ failing xs ++ failing ys → unless b (x .0) (failing (xs ++ ys)) ≡ unless b (x .0) (failing xs) ++ failing ys
+    go true e = e
+    go false e = rw e refl
+
 -- ---- the order
 
 lex-not : (ms : List ℕ) → Lex ms ms → ⊥
@@ -131,26 +141,35 @@ one-way a b (alike h k l) (alike u v m) = lex-one (inTurn a) (inTurn b) l m
 
 -- ---- one interval and device, one window
 
-small-number : {n : ℕ} → List·Memᴰ n cellNumbers → n ≤ 19
-small-number m = all-in (λ n. n ≤ 19) cellNumbers (all-range (λ n. n ≤ 19) 1 19 (λ j a b. omega arith)) m
+-- not rule 20's number
+abbrev NotLast : ℕ → Type 0
+NotLast n = n ≡ 20 → ⊥
+
+not-last : {n : ℕ} → List·Memᴰ n cellNumbers → NotLast n
+not-last m = all-in NotLast cellNumbers
+    (all-append NotLast realNumbers reactiveNumbers (all-range NotLast 1 19 (λ j a b e. omega arith)) (all-range NotLast 21 6 (λ j a b e. omega arith))) m
 
 -- one number ahead of another, both of the rules of a cell
 abbrev Ahead : ℕ → ℕ → Type 0
-Ahead m n = (m < n) × (n ≤ 19)
+Ahead m n = (m < n) × NotLast m × NotLast n
 
 numbers-ordered : Ordered Ahead cellNumbers
-numbers-ordered = range-ordered Ahead 1 19 (λ i j a b c. (b, omega arith))
+numbers-ordered = ordered-append Ahead (λ n. n ≤ 19) (λ n. 21 ≤ n)
+    (λ m n h k. (omega arith, (λ e. omega arith), (λ e. omega arith))) realNumbers reactiveNumbers
+    (all-range (λ n. n ≤ 19) 1 19 (λ j a b. omega arith)) (all-range (λ n. 21 ≤ n) 21 6 (λ j a b. omega arith))
+    (range-ordered Ahead 1 19 (λ i j a b c. (b, (λ e. omega arith), (λ e. omega arith))))
+    (range-ordered Ahead 21 6 (λ i j a b c. (b, (λ e. omega arith), (λ e. omega arith))))
 
-before-cell : (t i m t′ i′ n : ℕ) → m ≤ 19 → n ≤ 19 → Lex (inTurn (cellBreach t i m)) (inTurn (cellBreach t′ i′ n)) → Before (cellBreach t i m) (cellBreach t′ i′ n)
-before-cell t i m t′ i′ n h k l = alike (λ e. absurd (omega arith)) (λ e. absurd (omega arith)) l
+before-cell : (t i m t′ i′ n : ℕ) → NotLast m → NotLast n → Lex (inTurn (cellBreach t i m)) (inTurn (cellBreach t′ i′ n)) → Before (cellBreach t i m) (cellBreach t′ i′ n)
+before-cell t i m t′ i′ n h k l = alike (λ e. absurd (h e)) (λ e. absurd (k e)) l
 
 module _ (q : System) (p : Plan) where
-  rule-in-cell : (t i n : ℕ) → n ≤ 19 → RuleAt q p (cellBreach t i n) ≡ CellRule q p t i n
+  rule-in-cell : (t i n : ℕ) → NotLast n → RuleAt q p (cellBreach t i n) ≡ CellRule q p t i n
   unfolding RuleAt
   rule-in-cell t i n h =
       let e : suc t - 1 ≡ t = omega arith in
       let f : suc i - 1 ≡ i = omega arith in
-      rw (ne-eqb n 20 (λ g. omega arith), e, f) refl
+      rw (ne-eqb n 20 h, e, f) refl
 
   rule-in-window : (i w : ℕ) → RuleAt q p (windowBreach i w 20) ≡ Rule20 q p i w
   unfolding RuleAt
@@ -182,7 +201,7 @@ module _ (q : System) (p : Plan) where
   cell-ordered : (t i : ℕ) → Ordered Before (cellBreaches q p t i)
   unfolding cellBreaches
   cell-ordered t i = map-ordered Ahead Before (cellBreach t i)
-      (λ m n h. before-cell t i m t i n (omega arith) (h .1) (inr (refl, inr (refl, inl (h .0)))))
+      (λ m n h. before-cell t i m t i n (h .1) (h .2) (inr (refl, inr (refl, inl (h .0)))))
       (failing (cellTests q p t i)) (failing-ordered Ahead (cellTests q p t i) (rw (numbers-are q p t i) numbers-ordered))
 
   cell-known : (t i n : ℕ) → List·Memᴰ n cellNumbers → Known (CellRule q p t i n)
@@ -257,7 +276,7 @@ module _ (q : System) (p : Plan) where
       let t = h .0 in let i = h .2 .0 in let n = h .2 .2 .0 in let m = h .2 .2 .1 in let e : b ≡ cellBreach t i n = h .2 .2 .3 in
       record {
         place = in-cell t i n (h .1) (h .2 .1) m e;
-        not = λ r. h .2 .2 .2 (rw (sym (rule-in-cell t i n (small-number m)), sym e) r);
+        not = λ r. h .2 .2 .2 (rw (sym (rule-in-cell t i n (not-last m)), sym e) r);
       }
 
   windows-failed : (b : Breach) → InWindows b → Failed b
@@ -283,7 +302,7 @@ module _ (q : System) (p : Plan) where
       go (in-cell t i n l k m e) = Memᴰ·append-left {s = allCells q p} (allWindows q p)
           (in-gather (λ t. gather (cellBreaches q p t) (upTo (devices q))) (upTo (intervals q)) {a = t} (in-range 0 (intervals q) t (omega arith) (omega arith))
           (in-gather (cellBreaches q p t) (upTo (devices q)) {a = i} (in-range 0 (devices q) i (omega arith) (omega arith))
-          (rw e (cell-in t i n m (λ r. f .not (rw (e, rule-in-cell t i n (small-number m)) r))))))
+          (rw e (cell-in t i n m (λ r. f .not (rw (e, rule-in-cell t i n (not-last m)) r))))))
       go (in-window i w l k e) = Memᴰ·append-right (allCells q p)
           (in-gather (windowBreaches q p) (upTo (devices q)) {a = i} (in-range 0 (devices q) i (omega arith) (omega arith))
           (in-gather (oneWindow q p i) (upTo (length (device q i .startWindows))) {a = w} (in-range 0 _ w (omega arith) (omega arith))
@@ -293,7 +312,7 @@ module _ (q : System) (p : Plan) where
 
   before-cells : {t i t′ i′ : ℕ} {a b : Breach} → InCell t i a → InCell t′ i′ b → ((m n : ℕ) → Lex (inTurn (cellBreach t i m)) (inTurn (cellBreach t′ i′ n))) → Before a b
   unfolding InCell
-  before-cells {t} {i} {t′} {i′} h k l = rw (h .3, k .3) (before-cell t i (h .0) t′ i′ (k .0) (small-number (h .1)) (small-number (k .1)) (l (h .0) (k .0)))
+  before-cells {t} {i} {t′} {i′} h k l = rw (h .3, k .3) (before-cell t i (h .0) t′ i′ (k .0) (not-last (h .1)) (not-last (k .1)) (l (h .0) (k .0)))
 
   interval-ordered : (t : ℕ) → Ordered Before (gather (cellBreaches q p t) (upTo (devices q)))
   interval-ordered t = ordered-gather Before (InCell t) (cellBreaches q p t)
@@ -324,7 +343,7 @@ module _ (q : System) (p : Plan) where
 
   cell-before-window : (a b : Breach) → InDay a → InWindows b → Before a b
   unfolding InDay InInterval InCell InWindows InDevice InWindow
-  cell-before-window a b h k = rw (h .2 .2 .3, k .2 .2 .1) (last (λ e. let s = small-number (h .2 .2 .1) in absurd (omega arith)) refl)
+  cell-before-window a b h k = rw (h .2 .2 .3, k .2 .2 .1) (last (not-last (h .2 .2 .1)) refl)
 
   -- the entries are strictly increasing in the paper's order, so each stands once
   pub listed-in-order : Ordered Before (breaches q p)
@@ -334,7 +353,7 @@ module _ (q : System) (p : Plan) where
   -- ---- what the verdict rests on
 
   pub rule-known : (b : Breach) → Placed q b → Known (RuleAt q p b)
-  rule-known b (in-cell t i n l k m e) = rw (e, rule-in-cell t i n (small-number m)) (cell-known t i n m)
+  rule-known b (in-cell t i n l k m e) = rw (e, rule-in-cell t i n (not-last m)) (cell-known t i n m)
   rule-known b (in-window i w l k e) = rw (e, rule-in-window i w) (known (windowTest q p i w) (window-decided i w))
 
   -- the first entry: its rule fails, and every rule ahead of it holds
@@ -376,7 +395,7 @@ module _ (q : System) (p : Plan) where
   pub rule-of : EveryRule q p → (t i n : ℕ) → t < intervals q → i < devices q → T (has n cellNumbers) → CellRule q p t i n
   rule-of r t i n l k h =
       let m = in-list n cellNumbers h in
-      rw (sym (rule-in-cell t i n (small-number m))) (r .holds (cellBreach t i n) (in-cell t i n l k m refl))
+      rw (sym (rule-in-cell t i n (not-last m))) (r .holds (cellBreach t i n) (in-cell t i n l k m refl))
 
   -- the rules that bound a device's power
   module _ (r : EveryRule q p) (t i : ℕ) (l : t < intervals q) (k : i < devices q) where

@@ -46,7 +46,7 @@ module _ (d : Bounds) (power0 : ℕ) (halves : List ℕ) (cells settings : List 
   unfoldable pub testsAt : List (ℕ × Bool)
   testsAt = tests d cellHere settingHere momentAt
 
-  pub tests-rise-here : T (rising 0 32 testsAt)
+  pub tests-rise-here : T (rising 0 20 testsAt)
   unfolding testsAt
   tests-rise-here = tests-rise d cellHere settingHere momentAt
 

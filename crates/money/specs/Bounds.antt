@@ -1,7 +1,8 @@
 -- The sizes of figures and of money, for any day of at most 64 devices and 96 intervals whose plan breaks no rule. Every bound is made of these names.
 -- In grains, at the largest: a cell 9.4·10^12, a zone in an interval 1.4·10^15, an interval's mismatch 4.6·10^13, an overrun 4·10^13.
--- A day's debits then come to at most 5.8·10^16 (cells) + 5.5·10^17 (shortfalls) + 4.4·10^15 (mismatches) + 1.0·10^16 (overruns), near 6.2·10^17;
--- its credits are of cells alone, at most 1.8·10^16. Both stay below 2^62, which is 4.6·10^18.
+-- Of reactive power: reserves 7.2·10^11 a cell, shortfalls 4.6·10^14 a zone in an interval, an interval's mismatch 2.3·10^13.
+-- A day's debits then come to at most 5.8·10^16 (cells) + 5.5·10^17 (shortfalls) + 4.4·10^15 (mismatches) + 1.0·10^16 (overruns) + 1.9·10^17 (reactive),
+-- near 8.1·10^17; its credits are of cells alone, at most 1.8·10^16. Both stay below 2^62, which is 4.6·10^18.
 use Prim.Native.Nat.{ℕ, _+_, _*_, _^_, _<_}
 use native.Mathlib.Omega.{arith}
 -- the greatest figures that pass reading, by the names that money has for them
@@ -14,7 +15,11 @@ pub use Rattle.theorems.specs.Sizes.{
   mostChange as costMost,
   mostEnergy as limitMost,
   mostShare as shareMost,
+  mostReactiveShortfall as reactiveShortfallMost,
+  mostReactiveReserves as reactiveReservesMost,
+  mostReactiveShortfallCost as reactiveZoneMost,
 }
+use Rattle.theorems.specs.Sizes.{mostTotal, mostMismatchCost}
 use Rattle.records.specs.Views.{priceOffset, costOffset, mostDevices, mostIntervals, mostZones, mostWindows}
 
 -- ---- figures
@@ -79,11 +84,28 @@ zoneMost = 6 * shortMost
 abbrev pub mismatchCostMost : ℕ
 mismatchCostMost = mismatchMost * minutesMost * priceMost
 
+-- kvar: the reactive power of both sides together, and what it costs
+abbrev pub reactiveMismatchMost : ℕ
+reactiveMismatchMost = mostTotal mostDevices
+
+abbrev pub reactiveMismatchCostMost : ℕ
+reactiveMismatchCostMost = mostMismatchCost mostDevices
+
 abbrev pub overrunCostMost : ℕ
 overrunCostMost = limitMost * priceMost
 
+-- real and reactive: a device in an interval, a zone, the mismatches
+abbrev pub deviceMost : ℕ
+deviceMost = cellMost + reactiveReservesMost
+
+abbrev pub kindsMost : ℕ
+kindsMost = zoneMost + reactiveZoneMost
+
+abbrev pub mismatchesMost : ℕ
+mismatchesMost = mismatchCostMost + reactiveMismatchCostMost
+
 abbrev pub intervalMost : ℕ
-intervalMost = mostDevices * cellMost + mostZones * zoneMost + mismatchCostMost
+intervalMost = mostDevices * deviceMost + mostZones * kindsMost + mismatchesMost
 
 abbrev pub windowsCostMost : ℕ
 windowsCostMost = mostWindows * overrunCostMost

@@ -1,11 +1,14 @@
 -- A decoded case and a decoded plan, and tables to work in.
 use mathlib.Core.Path.{_≡_}
+use mathlib.Core.Bool.{false}
 use mathlib.Core.List.{List}
 use Prim.Native.Nat.{ℕ, _+_, _*_, _≤_}
 use lib.ListN.{length, take}
 use Rattle.model.specs.Editions.{Largest, mostZones}
 use Rattle.model.specs.ByEdition.{Stated}
 use Rattle.model.specs.Judgement.{countsOf}
+use Rattle.layouts.specs.Since.{has}
+use Rattle.ranges.specs.Plain.{SystemPlain}
 use Rattle.theorems.specs.Back.{Countable}
 use Rattle.theorems.specs.Promise.{Sound}
 use Rattle.row_places.specs.declared.Front.{Front}
@@ -17,10 +20,11 @@ use Rattle.case_reader.specs.Whole.{Long}
 abbrev pub statedRows : Front → (halves : List ℕ) (zones minima devices cells : List (List ℕ)) → Stated
 statedRows front halves zones minima devices cells = record { edition = front .edition; case = caseIn front halves zones minima devices cells }
 
--- a case that passed reading: its rows, and counts that the fields of its plans and completions hold
+-- a case that passed reading: its rows, counts that the fields of its plans and completions hold, and nothing that its edition lacks
 pub record Decoded (front : Front) (halves : List ℕ) (zones minima devices cells : List (List ℕ)) : Type 0 where
   pub rows : CaseRows front halves zones minima devices cells
   pub countable : Countable (front .edition) (countsOf (systemIn halves zones minima devices cells))
+  pub plain : has 2 (front .edition) ≡ false → SystemPlain (systemIn halves zones minima devices cells)
 
 -- room for a plan and its forced figures
 pub record Work (halves : List ℕ) (devices settings : List (List ℕ)) (starts powers : List ℕ) : Type 0 where
@@ -37,7 +41,7 @@ pub record Planned (front : Front) (halves : List ℕ) (zones minima devices cel
 
 pub sound-rows : {front : Front} {halves : List ℕ} {zones minima devices cells : List (List ℕ)} → Decoded front halves zones minima devices cells
     → Sound (statedRows front halves zones minima devices cells)
-sound-rows d = record { range = d .rows .range; countable = d .countable }
+sound-rows d = record { range = d .rows .range; countable = d .countable; plain = d .plain }
 
 -- ---- tables with room for more: a case in their first rows
 

@@ -87,7 +87,7 @@ module _ (cs halves : List ℕ) (zones minima devices cells : List (List ℕ)) (
   -- its rows are decoded
   pub decoded-first : e ≡ Passes → DecodedFirst front n halves zones minima devices cells batch
   decoded-first t = record {
-    decoded = record { rows = h .decoded t; countable = stated-sound batch held (h .range t) .countable };
+    decoded = let sound = stated-sound batch (omega arith) (omega arith) cs held (passed t) in record { rows = h .decoded t; countable = sound .countable; plain = sound .plain };
     few-devices = h .counted t .devices;
     few-intervals = h .counted t .intervals;
     few-zones = h .counted t .zones;

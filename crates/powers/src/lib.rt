@@ -12,6 +12,7 @@ use clock::start_times;
 use device_rows::device_at;
 use ramped_powers::Ramping;
 use ramped_powers::device_powers;
+use ramped_powers::ramping_of;
 use row_places::CellRow;
 use row_places::DeviceRow;
 use row_places::SettingRow;
@@ -21,12 +22,7 @@ fn ramping_at(devices: &[DeviceRow], i: usize) -> Ramping
     ensures { λ r. ⌜ r ≡ rampingOf (deviceOf (getD (now (devices .entry)) i [])) ⌝ }
 {
     let d = device_at(devices, i);
-    Ramping {
-        on0: d.on0,
-        power0: d.power0,
-        starting: d.ramps[2],
-        stopping: d.ramps[3],
-    }
+    ramping_of(d)
 }
 
 // The powers of every device.

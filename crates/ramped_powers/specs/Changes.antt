@@ -60,7 +60,7 @@ before-next on0 settings e h = let z : e + 1 - 1 ≡ e = omega arith in h ∙ rw
 
 -- ---- one interval's change
 
-leaves-low : (r : Ramping) (cells : List (List ℕ)) (e : ℕ) → Rampable r cells → e < length cells → leavesAt (r .power0 .0) cells e ≤ 100000
+pub leaves-low : (r : Ramping) (cells : List (List ℕ)) (e : ℕ) → Rampable r cells → e < length cells → leavesAt (r .power0 .0) cells e ≤ 100000
 leaves-low r cells e h l = go (decLe e 0)
   where
     go : Dec (e ≤ 0) → leavesAt (r .power0 .0) cells e ≤ 100000

@@ -3,10 +3,11 @@ ghost use mathlib.Core.Path.{_≡_};
 ghost use Prim.Native.Nat.{_+_, _<_};
 ghost use lib.ListN.{length};
 ghost use Rattle.clock.specs.Times.{Clock};
-ghost use Rattle.ramped_powers.specs.Changes.{Rampable, Settled, Low, Changed, addedBy, Online, Powers};
+ghost use Rattle.ramped_powers.specs.Changes.{rampingOf, Rampable, Settled, Low, Changed, addedBy, Online, Powers};
 use cell_rows::pmin_at;
 use kilowatts::Kw;
 use row_places::CellRow;
+use row_places::Device;
 use row_places::SettingRow;
 use setting_rows::on_at;
 use setting_rows::online_at;
@@ -20,6 +21,17 @@ pub struct Ramping {
     pub power0: Kw,
     pub starting: u32,
     pub stopping: u32,
+}
+
+pub fn ramping_of(d: Device) -> Ramping
+    ensures { λ r. ⌜ r ≡ rampingOf d ⌝ }
+{
+    Ramping {
+        on0: d.on0,
+        power0: d.power0,
+        starting: d.ramps[2],
+        stopping: d.ramps[3],
+    }
 }
 
 // Adds to a device's powers what interval e gives the others: a start to those before it, a stop to itself and those after it.

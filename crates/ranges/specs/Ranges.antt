@@ -8,8 +8,8 @@ use lib.ListN.{length, length-map}
 use lib.IntN.{natAbs}
 use Rattle.numbers.specs.Sum.{All, all-map}
 use Rattle.numbers.specs.Every.{map-of-all}
-use Rattle.model.specs.Case.{Reserves, Ramps, StartWindow, EnergyWindow, Shares, Six, Minima, Cell, CellPrices, Device, DevicePrices, Zone, System, Prices}
-use Rattle.model.specs.Case.{Case, Plan, Reactive, Setting, noReactive, ReactiveLimits, ReactivePrices}
+use Rattle.model.specs.Case.{Reserves, Ramps, StartWindow, EnergyWindow, Shares, Six, Kinds, Minima, Cell, CellPrices, Device, DevicePrices, Zone, System, Prices}
+use Rattle.model.specs.Case.{Case, Plan, Reactive, Setting, noReactive, ReactiveLimits, ReactiveReserves, Line, Link, noLine, noLink, noReactiveReserves, unitPrices}
 use Rattle.layouts.specs.Layout.{Layout, Field, nat, list, counted, _then_, _▸_, passes, figure, any, countOf, int}
 use Rattle.model.specs.Editions.{newest, Largest, batch, devicesIn, intervalsIn, mostDevices, mostIntervals, mostZones, mostStates, mostWindows, startsBits, mostStarts}
 use Rattle.model.specs.Messages as M
@@ -18,13 +18,13 @@ use Rattle.model.specs.ByEdition as B
 use Rattle.model.specs.ByEdition.{Stated, statedIn, plannedIn}
 use Rattle.model.specs.AsBefore.{first, first-as}
 use Rattle.layouts.specs.As.{as-checked}
-use Rattle.layouts.specs.Since.{has, present-checked, since, where-more}
+use Rattle.layouts.specs.Since.{has, present, present-checked, since, where-more}
 use Rattle.layouts.specs.Checked.{Checked, nat-checked, int-checked, list-checked, such-checked, held-checked, then-checked, whole-checked, weaken}
 
-pair-checked : {A B : Type 0} (l : Layout A) (m : Layout B) (P : A → Type 0) (Q : B → Type 0) → Checked l P → Checked m Q → Checked (l ▸ m) (λ x. P (x .0) × Q (x .1))
+pub pair-checked : {A B : Type 0} (l : Layout A) (m : Layout B) (P : A → Type 0) (Q : B → Type 0) → Checked l P → Checked m Q → Checked (l ▸ m) (λ x. P (x .0) × Q (x .1))
 pair-checked l m P Q u v = then-checked l (λ a. m) P (λ a. Q) u (λ a ok. v)
 
-counted-checked : {A : Type 0} (f : Field) (l : Layout A) (P : A → Type 0) → Checked l P → Checked (counted f l) (λ xs. (length xs ≤ f .high) × All P xs)
+pub counted-checked : {A : Type 0} (f : Field) (l : Layout A) (P : A → Type 0) → Checked l P → Checked (counted f l) (λ xs. (length xs ≤ f .high) × All P xs)
 unfolding counted
 counted-checked f l P u = held-checked _ _ _ _ _ (then-checked (nat f) (λ n. list n l) _ (λ n xs. (length xs ≡ n) × All P xs) (nat-checked f)
     (λ n ok. list-checked n l P u)) (λ a ok. (omega arith, ok .1 .1))
@@ -47,7 +47,7 @@ pub record CellRange (c : Cell) : Type 0 where
   pub caps : All (λ x. x ≤ 100000) (c .caps)
   pub reactive : ReactiveLimitRange (c .reactive)
 
-apart-checked : {A B : Type 0} (l : Layout (List (A × B))) (n : ℕ) (P : A → Type 0) (Q : B → Type 0)
+pub apart-checked : {A B : Type 0} (l : Layout (List (A × B))) (n : ℕ) (P : A → Type 0) (Q : B → Type 0)
     → Checked l (λ xs. (length xs ≤ n) × All (λ x. P (x .0) × Q (x .1)) xs) → Checked (M.apart l) (λ v. (length (v .0) ≤ n) × All P (v .0) × All Q (v .1))
 unfolding M.apart
 apart-checked l n P Q u = held-checked _ _ _ _ _ u (λ xs ok. (
@@ -56,7 +56,7 @@ apart-checked l n P Q u = held-checked _ _ _ _ _ u (λ xs ok. (
   map-of-all Q (λ x. x .1) xs (all-map (λ x k. k .1) xs (ok .1)),
 ))
 
-figure-checked : (w low high : ℕ) → Checked (figure w low high) (λ v. v ≤ high)
+pub figure-checked : (w low high : ℕ) → Checked (figure w low high) (λ v. v ≤ high)
 figure-checked w low high = weaken (figure w low high) _ _ (nat-checked (record { width = w; low = low; high = high; wrong = _ })) (λ a ok. ok .1)
 
 -- each of the eight
@@ -70,7 +70,7 @@ pub record Eight (P : ℕ → Type 0) (r : Reserves) : Type 0 where
   pub rrdOn : P (r .rrdOn)
   pub rrdOff : P (r .rrdOff)
 
-eight-checked : (l : Layout ℕ) (P : ℕ → Type 0) → Checked l P → Checked (M.eight l) (Eight P)
+pub eight-checked : (l : Layout ℕ) (P : ℕ → Type 0) → Checked l P → Checked (M.eight l) (Eight P)
 unfolding M.eight
 eight-checked l P u = held-checked _ _ _ _ _
     (pair-checked _ _ _ _ u (pair-checked _ _ _ _ u (pair-checked _ _ _ _ u (pair-checked _ _ _ _ u (pair-checked _ _ _ _ u (pair-checked _ _ _ _ u (pair-checked _ _ _ _ u u)))))))
@@ -85,7 +85,7 @@ eight-checked l P u = held-checked _ _ _ _ _
       rrdOff = ok .1 .1 .1 .1 .1 .1 .1;
     })
 
-pub record ReactivePriceRange (r : ReactivePrices) : Type 0 where
+pub record ReactivePriceRange (r : ReactiveReserves) : Type 0 where
   pub qru : r .qru ≤ 10000
   pub qrd : r .qrd ≤ 10000
 
@@ -145,6 +145,33 @@ pub record EnergyRange (w : EnergyWindow) : Type 0 where
   pub until : w .until ≤ 65535
   pub energy : w .energy ≤ 4000000000
 
+-- a line, and a link
+pub record LineRange (l : Line) : Type 0 where
+  pub offset : natAbs (l .offset) ≤ 100000
+  pub slope : natAbs (l .slope) ≤ 10000
+
+pub record LinkRange (l : Link) : Type 0 where
+  pub kind : l .kind ≤ 2
+  pub upper : LineRange (l .upper)
+  pub lower : LineRange (l .lower)
+
+no-line : LineRange noLine
+no-line = record { offset = omega arith; slope = omega arith }
+
+line-checked : Checked B.line LineRange
+unfolding B.line
+line-checked = held-checked _ _ _ _ _ (pair-checked _ _ _ _ (int-checked 18 100000) (int-checked 15 10000)) (λ v ok. record { offset = ok .0; slope = ok .1 })
+
+-- a line that a link kind has or lacks
+with-line : (b : Bool) → Checked (present b noLine B.line) LineRange
+with-line b = weaken (present b noLine B.line) _ _ (present-checked b noLine B.line LineRange line-checked) (λ x ok. where-more b true noLine LineRange (λ _. refl) no-line x ok)
+
+link-checked : Checked B.link LinkRange
+unfolding B.link
+link-checked = held-checked _ _ _ _ _
+    (then-checked (figure 2 0 2) _ _ (λ kind v. LineRange (v .0) × LineRange (v .1)) (figure-checked 2 0 2) (λ kind ok. pair-checked _ _ _ _ (with-line _) (with-line _)))
+    (λ v ok. record { kind = ok .0; upper = ok .1 .0; lower = ok .1 .1 })
+
 pub record DeviceRange (intervals : ℕ) (d : Device) : Type 0 where
   pub head : HeadRange (headOf d)
   pub limits : Eight (λ r. r ≤ 100000) (d .limits)
@@ -154,6 +181,7 @@ pub record DeviceRange (intervals : ℕ) (d : Device) : Type 0 where
   pub starts : length (d .startWindows) ≤ mostWindows
   pub energies : length (d .energyWindows) ≤ mostWindows
   pub energy : All EnergyRange (d .energyWindows)
+  pub link : LinkRange (d .link)
   pub each : length (d .cells) ≡ intervals
   pub cells : All CellRange (d .cells)
 
@@ -162,7 +190,7 @@ unfolding M.ramps
 ramps-checked = let u = figure-checked 17 1 100000 in held-checked _ _ _ _ _ (pair-checked _ _ _ _ u (pair-checked _ _ _ _ u (pair-checked _ _ _ _ u u)))
     (λ v ok. record { up = ok .0; down = ok .1 .0; starting = ok .1 .1 .0; stopping = ok .1 .1 .1 })
 
-head-checked : (zones : ℕ) → Checked (M.head zones) HeadRange
+pub head-checked : (zones : ℕ) → Checked (M.head zones) HeadRange
 unfolding M.head M.zoneBits
 head-checked zones = let f = figure-checked 16 0 60000 in let b = figure-checked 1 0 1 in held-checked _ _ _ _ _
     (pair-checked _ _ _ _ b (pair-checked _ _ _ _ (such-checked _ _ _ (figure-checked 4 0 15)) (pair-checked _ _ _ _ b (pair-checked _ _ _ _ (figure-checked 17 0 100000)
@@ -178,7 +206,7 @@ head-checked zones = let f = figure-checked 16 0 60000 in let b = figure-checked
       ramps = ok .1 .1 .1 .1 .1 .1 .1;
     })
 
-costs-checked : Checked M.costs (λ x. (x .on ≤ 100000) × (x .start ≤ 1000000000) × (x .stop ≤ 1000000000))
+pub costs-checked : Checked M.costs (λ x. (x .on ≤ 100000) × (x .start ≤ 1000000000) × (x .stop ≤ 1000000000))
 unfolding M.costs
 costs-checked = let u = figure-checked 30 0 1000000000 in held-checked _ _ _ _ _ (pair-checked _ _ _ _ (figure-checked 17 0 100000) (pair-checked _ _ _ _ u u)) (λ v ok. (ok .0, ok .1 .0, ok .1 .1))
 
@@ -186,17 +214,17 @@ ends-checked : (last : ℕ) → Checked (M.windowEnds last) (λ v. (v .0 ≤ 655
 unfolding M.windowEnds
 ends-checked last = then-checked (any 16) _ _ (λ a b. b ≤ 65535) (figure-checked 16 0 65535) (λ a ok. such-checked _ _ _ (figure-checked 16 0 65535))
 
-start-checked : (e last : ℕ) → Checked (B.startWindow e last) StartRange
+pub start-checked : (e last : ℕ) → Checked (B.startWindow e last) StartRange
 unfolding B.startWindow
 start-checked e last = held-checked _ _ _ _ _ (pair-checked _ _ _ _ (ends-checked last) (figure-checked (startsBits e) 0 (mostStarts e)))
     (λ v ok. record { from = ok .0 .0; until = ok .0 .1; most = ok .1 })
 
-energy-checked : (last : ℕ) → Checked (M.energyWindow last) EnergyRange
+pub energy-checked : (last : ℕ) → Checked (M.energyWindow last) EnergyRange
 unfolding M.energyWindow
 energy-checked last = held-checked _ _ _ _ _ (pair-checked _ _ _ _ (figure-checked 1 0 1) (pair-checked _ _ _ _ (ends-checked last) (figure-checked 32 0 4000000000)))
     (λ v ok. record { kind = ok .0; from = ok .1 .0 .0; until = ok .1 .0 .1; energy = ok .1 .1 })
 
-some-checked : {A B : Type 0} (n : ℕ) (l : Layout (A × B)) (P : A → Type 0) (Q : B → Type 0) → Checked l (λ x. P (x .0) × Q (x .1))
+pub some-checked : {A B : Type 0} (n : ℕ) (l : Layout (A × B)) (P : A → Type 0) (Q : B → Type 0) → Checked l (λ x. P (x .0) × Q (x .1))
     → Checked (M.apart (list n l)) (λ v. (length (v .0) ≡ n) × All P (v .0) × All Q (v .1))
 unfolding M.apart
 some-checked n l P Q u = held-checked _ _ _ _ _ (list-checked n l (λ x. P (x .0) × Q (x .1)) u)
@@ -219,7 +247,8 @@ device-checked e n zones last = held-checked _ _ _ _ _
     (counted-checked (countOf 3 0 mostStates) _ _ (pair-checked _ _ _ _ (figure-checked 16 0 60000) (int-checked 31 1000000000))))
     (pair-checked _ _ _ _ (counted-checked (countOf 3 0 mostWindows) _ _ (start-checked e last))
     (pair-checked _ _ _ _ (counted-checked (countOf 3 0 mostWindows) _ _ (energy-checked last))
-    (some-checked n (B.cell e) CellRange CellPriceRange (cell-checked e))))))))
+    (pair-checked _ _ _ _ (since-checked e 2 noLink B.link _ link-checked (record { kind = omega arith; upper = no-line; lower = no-line }))
+    (some-checked n (B.cell e) CellRange CellPriceRange (cell-checked e)))))))))
     (λ v ok. (
       record {
         head = ok .0;
@@ -230,10 +259,11 @@ device-checked e n zones last = held-checked _ _ _ _ _
         starts = ok .1 .1 .1 .1 .0 .0;
         energies = ok .1 .1 .1 .1 .1 .0 .0;
         energy = ok .1 .1 .1 .1 .1 .0 .1;
-        each = ok .1 .1 .1 .1 .1 .1 .0;
-        cells = ok .1 .1 .1 .1 .1 .1 .1;
+        link = ok .1 .1 .1 .1 .1 .1 .0;
+        each = ok .1 .1 .1 .1 .1 .1 .1 .0;
+        cells = ok .1 .1 .1 .1 .1 .1 .1 .1;
       },
-      record { on = ok .1 .0 .0; start = ok .1 .0 .1; stop = ok .1 .0 .2; states = ok .1 .1 .1 .0 .2; cells = ok .1 .1 .1 .1 .1 .1 .2 },
+      record { on = ok .1 .0 .0; start = ok .1 .0 .1; stop = ok .1 .0 .2; states = ok .1 .1 .1 .0 .2; cells = ok .1 .1 .1 .1 .1 .1 .1 .2 },
     ))
 
 pub record SharesRange (s : Shares) : Type 0 where
@@ -242,22 +272,35 @@ pub record SharesRange (s : Shares) : Type 0 where
   pub scr : s .scr ≤ 1000
   pub nsc : s .nsc ≤ 1000
 
+-- two figures of reactive reserves, of a zone
+pub record TwoRange (most : ℕ) (r : ReactiveReserves) : Type 0 where
+  pub qru : r .qru ≤ most
+  pub qrd : r .qrd ≤ most
+
 pub record MinimaRange (m : Minima) : Type 0 where
   pub rru : m .rru ≤ 6400000
   pub rrd : m .rrd ≤ 6400000
+  pub reactive : TwoRange 6400000 (m .reactive)
 
 pub record ZoneRange (z : Zone) : Type 0 where
   pub shares : SharesRange (z .shares)
   pub minima : All MinimaRange (z .minima)
 
-shares-checked : Checked M.shares SharesRange
+pub shares-checked : Checked M.shares SharesRange
 unfolding M.shares
 shares-checked = let u = figure-checked 10 0 1000 in held-checked _ _ _ _ _ (pair-checked _ _ _ _ u (pair-checked _ _ _ _ u (pair-checked _ _ _ _ u u)))
     (λ v ok. record { rgu = ok .0; rgd = ok .1 .0; scr = ok .1 .1 .0; nsc = ok .1 .1 .1 })
 
-minima-checked : Checked M.minima MinimaRange
-unfolding M.minima
-minima-checked = let u = figure-checked 23 0 6400000 in held-checked _ _ _ _ _ (pair-checked _ _ _ _ u u) (λ v ok. record { rru = ok .0; rrd = ok .1 })
+reactive-minima-checked : Checked B.reactiveMinima (TwoRange 6400000)
+unfolding B.reactiveMinima
+reactive-minima-checked = let u = figure-checked 23 0 6400000 in held-checked _ _ _ _ _ (pair-checked _ _ _ _ u u) (λ v ok. record { qru = ok .0; qrd = ok .1 })
+
+minima-checked : (e : ℕ) → Checked (B.minima e) MinimaRange
+unfolding M.minima B.minima
+minima-checked e = let u = figure-checked 23 0 6400000 in held-checked _ _ _ _ _
+    (pair-checked _ _ _ _ (held-checked _ _ _ _ (λ m. (m .rru ≤ 6400000) × (m .rrd ≤ 6400000)) (pair-checked _ _ _ _ u u) (λ v ok. ok))
+    (since-checked e 2 noReactiveReserves B.reactiveMinima _ reactive-minima-checked (record { qru = omega arith; qrd = omega arith })))
+    (λ v ok. record { rru = ok .0 .0; rrd = ok .0 .1; reactive = ok .1 })
 
 pub record SixRange (r : Six) : Type 0 where
   pub rgu : r .rgu ≤ 100
@@ -267,16 +310,28 @@ pub record SixRange (r : Six) : Type 0 where
   pub rru : r .rru ≤ 100
   pub rrd : r .rrd ≤ 100
 
-six-checked : Checked (M.six (figure 7 1 100)) SixRange
+pub six-checked : Checked (M.six (figure 7 1 100)) SixRange
 unfolding M.six
 six-checked = let u = figure-checked 7 1 100 in
     held-checked _ _ _ _ _ (pair-checked _ _ _ _ u (pair-checked _ _ _ _ u (pair-checked _ _ _ _ u (pair-checked _ _ _ _ u (pair-checked _ _ _ _ u u)))))
     (λ v ok. record { rgu = ok .0; rgd = ok .1 .0; scr = ok .1 .1 .0; nsc = ok .1 .1 .1 .0; rru = ok .1 .1 .1 .1 .0; rrd = ok .1 .1 .1 .1 .1 })
 
-zone-checked : (e intervals : ℕ) → Checked (B.zone e intervals) (λ v. ZoneRange (v .0) × SixRange (v .1))
-unfolding M.zone
-zone-checked e n = held-checked _ _ _ _ _ (pair-checked _ _ _ _ shares-checked (pair-checked _ _ _ _ six-checked (list-checked n M.minima _ minima-checked)))
-    (λ v ok. (record { shares = ok .0; minima = ok .1 .1 .1 }, ok .1 .0))
+-- the prices of a zone's shortfalls
+pub record KindsRange (r : Kinds) : Type 0 where
+  pub six : SixRange (r .six)
+  pub reactive : TwoRange 100 (r .reactive)
+
+zone-prices-checked : Checked B.zoneReactivePrices (TwoRange 100)
+unfolding B.zoneReactivePrices
+zone-prices-checked = let u = figure-checked 7 1 100 in held-checked _ _ _ _ _ (pair-checked _ _ _ _ u u) (λ v ok. record { qru = ok .0; qrd = ok .1 })
+
+zone-checked : (e intervals : ℕ) → Checked (B.zone e intervals) (λ v. ZoneRange (v .0) × KindsRange (v .1))
+unfolding B.zone
+zone-checked e n = held-checked _ _ _ _ _
+    (pair-checked _ _ _ _ shares-checked (pair-checked _ _ _ _ six-checked
+    (pair-checked _ _ _ _ (since-checked e 2 unitPrices B.zoneReactivePrices _ zone-prices-checked (record { qru = omega arith; qrd = omega arith }))
+    (list-checked n (B.minima e) _ (minima-checked e)))))
+    (λ v ok. (record { shares = ok .0; minima = ok .1 .1 .1 .1 }, record { six = ok .1 .0; reactive = ok .1 .1 .0 }))
 
 -- the quantities of a case
 pub record SystemRange (q : System) : Type 0 where
@@ -293,7 +348,7 @@ pub record SystemRange (q : System) : Type 0 where
 pub record PricesRange (x : Prices) : Type 0 where
   pub mismatch : x .mismatch ≤ 10000
   pub overrun : x .overrun ≤ 10000
-  pub zones : All SixRange (x .zones)
+  pub zones : All KindsRange (x .zones)
   pub devices : All DevicePriceRange (x .devices)
 
 pub record CaseRange (c : Case) : Type 0 where
@@ -304,7 +359,7 @@ pub record CaseRange (c : Case) : Type 0 where
 abbrev Counted : ℕ → ℕ → M.Counts → Type 0
 Counted devices intervals n = ((1 ≤ n .devices) × (n .devices ≤ devices)) × ((1 ≤ n .intervals) × (n .intervals ≤ intervals)) × (n .zones ≤ mostZones)
 
-counts-checked : (e : ℕ) (l : Largest) → Checked (B.counts e l) (Counted (devicesIn e l) (intervalsIn e l))
+pub counts-checked : (e : ℕ) (l : Largest) → Checked (B.counts e l) (Counted (devicesIn e l) (intervalsIn e l))
 unfolding B.counts
 counts-checked e l = held-checked _ _ _ _ _ (pair-checked _ _ _ _ (nat-checked _) (pair-checked _ _ _ _ (nat-checked _) (nat-checked _))) (λ v ok. (ok .0, ok .1 .0, ok .1 .1 .1))
 
@@ -320,13 +375,13 @@ pub record StatedRange (l : Largest) (x : Stated) : Type 0 where
 
 -- any reader that takes no more than the most
 module _ (l : Largest) (most : l .devices ≤ mostDevices) (long : l .intervals ≤ mostIntervals) where
-  content-checked : (e : ℕ) → Checked (B.content e l) (Taken e l)
+  pub content-checked : (e : ℕ) → Checked (B.content e l) (Taken e l)
   unfolding B.content
   content-checked e = held-checked _ _ _ _ _
       (then-checked (B.counts e l) _ _ _ (counts-checked e l) (λ n ok.
       pair-checked _ _ _ _ (figure-checked 14 1 10000) (pair-checked _ _ _ _ (figure-checked 14 1 10000)
       (then-checked (list (n .intervals) (figure 8 1 180)) _ _ _ (list-checked _ _ _ (figure-checked 8 1 180)) (λ halves h.
-      pair-checked _ _ _ _ (some-checked (n .zones) _ ZoneRange SixRange (zone-checked e (n .intervals)))
+      pair-checked _ _ _ _ (some-checked (n .zones) _ ZoneRange KindsRange (zone-checked e (n .intervals)))
       (some-checked (n .devices) _ (DeviceRange (n .intervals)) DevicePriceRange (device-checked e (n .intervals) (n .zones) _)))))))
       (λ v ok. let h = ok .1 .1 .1 .0 in let z = ok .1 .1 .1 .1 .0 in let d = ok .1 .1 .1 .1 .1 in record {
         devices = omega arith;

@@ -9,7 +9,7 @@ use Rattle.layouts.specs.declared.Fault.{Fault}
 use Rattle.layouts.specs.declared.Place.{Place}
 use Rattle.layouts.specs.Layout.{int, _then_, _▸_, such, figure, noted}
 use Rattle.layouts.specs.Since.{has, since}
-use Rattle.model.specs.Case.{ReactiveLimits, ReactivePrices}
+use Rattle.model.specs.Case.{ReactiveLimits, ReactiveReserves}
 use Rattle.model.specs.ByEdition.{reactiveLimits, reactivePrices, reactiveCell, noReactiveCell}
 use Rattle.ranges.specs.Kept.{less, less-order}
 use Rattle.kilovars.specs.Reactive.{kvarOffset}
@@ -68,12 +68,12 @@ unfolding reactivePrices
 prices-natural = held-natural _ _ two
 
 module _ (s : List ℕ) (p : Place) {r : Figure} (e : figured r ≡ got (figure 14 0 10000) s p) where
-  pub no-qru : {w v : Went} (a : ReactivePrices) {f : Fault} → r ≡ F.Bad f → v ≡ placed r → w ≡ v → told w a ≡ got reactivePrices s p
+  pub no-qru : {w v : Went} (a : ReactiveReserves) {f : Fault} → r ≡ F.Bad f → v ≡ placed r → w ≡ v → told w a ≡ got reactivePrices s p
   unfolding reactivePrices
   no-qru a t d o = stop a t d o (held-off two _ _ s p (then-off (nat-natural _) _ s p (figure-off e t)))
 
   module _ {up : ℕ} {p₁ : Place} (t : r ≡ F.Good up p₁) {x : Figure} (h : figured x ≡ got (figure 14 0 10000) s p₁) where
-    pub no-qrd : {w v : Went} (a : ReactivePrices) {f : Fault} → x ≡ F.Bad f → v ≡ placed x → w ≡ v → told w a ≡ got reactivePrices s p
+    pub no-qrd : {w v : Went} (a : ReactiveReserves) {f : Fault} → x ≡ F.Bad f → v ≡ placed x → w ≡ v → told w a ≡ got reactivePrices s p
     unfolding reactivePrices
     no-qrd a g d o = stop a g d o (held-off two _ _ s p (then-late (nat-natural _) _ s p (nat-natural _) (figure-on e t) (figure-off h g)))
 
@@ -87,12 +87,12 @@ pub reactive-natural : (e : ℕ) → Natural (since e 2 noReactiveCell reactiveC
 reactive-natural e = present-natural (has 2 e) noReactiveCell (then-natural limits-natural (λ a. prices-natural))
 
 module _ (e : ℕ) (s : List ℕ) (p : Place) where
-  pub reactive-none : {w : Went} {x : ReactiveLimits × ReactivePrices} → e < 2 → (w ≡ W.On p) × (x ≡ noReactiveCell) → told w x ≡ got (since e 2 noReactiveCell reactiveCell) s p
-  reactive-none {x = x} h t = ap (λ (w : Went). told w x) (t .0) ∙ ap (λ (x : ReactiveLimits × ReactivePrices). good x p) (t .1) ∙ field-absent 2 e noReactiveCell reactiveCell s p h
+  pub reactive-none : {w : Went} {x : ReactiveLimits × ReactiveReserves} → e < 2 → (w ≡ W.On p) × (x ≡ noReactiveCell) → told w x ≡ got (since e 2 noReactiveCell reactiveCell) s p
+  reactive-none {x = x} h t = ap (λ (w : Went). told w x) (t .0) ∙ ap (λ (x : ReactiveLimits × ReactiveReserves). good x p) (t .1) ∙ field-absent 2 e noReactiveCell reactiveCell s p h
 
   module _ (h : 2 ≤ e) {w : Went} (l : ReactiveLimits) (t : told w l ≡ got reactiveLimits s p) where
-    pub reactive-no-limits : {v : Went} (x : ReactiveLimits × ReactivePrices) {f : Fault} → w ≡ W.Off f → v ≡ w → told v x ≡ got (since e 2 noReactiveCell reactiveCell) s p
+    pub reactive-no-limits : {v : Went} (x : ReactiveLimits × ReactiveReserves) {f : Fault} → w ≡ W.Off f → v ≡ w → told v x ≡ got (since e 2 noReactiveCell reactiveCell) s p
     reactive-no-limits x o k = field-there 2 e noReactiveCell reactiveCell s p h (pass x o k (then-off limits-natural _ s p (went-bad l t o)))
 
-    pub reactive-done : {q : Place} (v : Went) (x : ReactivePrices) → w ≡ W.On q → told v x ≡ got reactivePrices s q → told v (l, x) ≡ got (since e 2 noReactiveCell reactiveCell) s p
+    pub reactive-done : {q : Place} (v : Went) (x : ReactiveReserves) → w ≡ W.On q → told v x ≡ got reactivePrices s q → told v (l, x) ≡ got (since e 2 noReactiveCell reactiveCell) s p
     reactive-done v x o k = field-there 2 e noReactiveCell reactiveCell s p h (then-told limits-natural _ s p v x prices-natural (went-good l t o) k)

@@ -10,6 +10,10 @@ ghost use Rattle.fields.specs.Got.{got, told};
 ghost use Rattle.reactive_cells.specs.Reactive.{limitsIn, pricesIn, reactivePair};
 use fields::Figure;
 use fields::Went;
+use kilovars::KVAR_BITS;
+use kilovars::KVAR_HALF;
+use kilovars::MOST_KVAR;
+use kilovars::NO_KVAR;
 use kilovars::SignedKvar;
 use layouts::Place;
 use row_places::ReactiveCell;
@@ -17,20 +21,10 @@ use row_places::ReactiveCell;
 // "Edition 2 adds the rules .."
 const REACTIVE_EDITION: u32 = 2;
 
-// "qmin and qmax in kvar (18 bits, ±100,000)"; half is the weight of their highest bit
-const KVAR_BITS: u64 = 18;
-
-const KVAR_HALF: u64 = 131072;
-
-const MOST_KVAR: u64 = 100000;
-
 // "prices of 14 bits (0..10,000)"
 const PRICE_BITS: u64 = 14;
 
 const MOST_PRICE: u32 = 10000;
-
-// 0 kvar, kept from −100,000
-const NO_KVAR: SignedKvar = SignedKvar(100000);
 
 pub const NEUTRAL: ReactiveCell = ReactiveCell {
     qmin: NO_KVAR,
@@ -65,6 +59,7 @@ fn limits_checked(qmin: u32, qmax: u32, p: Place, b: u64) -> Place
     p
 }
 
+// "qmin and qmax in kvar (18 bits, ±100,000)"
 fn read_limits(s: &[u8], p: Place) -> LimitsRead
     ensures { λ r. ⌜ told (r .went) (limitsIn r) ≡ got reactiveLimits (now (s .entry)) p ⌝ }
 {

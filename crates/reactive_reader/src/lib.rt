@@ -7,20 +7,17 @@ ghost use Rattle.records.specs.Views.{reactiveIn};
 ghost use Rattle.fields.specs.Got.{got, told};
 use fields::Figure;
 use fields::Went;
+use kilovars::KVAR_BITS;
+use kilovars::KVAR_HALF;
 use kilovars::Kvar;
+use kilovars::MOST_KVAR;
+use kilovars::NO_KVAR;
 use kilovars::SignedKvar;
 use layouts::Place;
 use row_places::Reactive;
 
 // The edition that they came with.
 const SINCE: u32 = 2;
-
-// "q (as qmax)": 18 bits, ±100,000, kept from 0; the weight of its highest bit.
-const Q_BITS: u64 = 18;
-
-const Q_HALF: u64 = 131072;
-
-const MOST_Q: u64 = 100000;
 
 // "reactive reserves (17 each)", 0..100,000
 const RESERVE_BITS: u64 = 17;
@@ -29,7 +26,7 @@ const MOST_RESERVE: u32 = 100000;
 
 // No reactive power: "a field that an edition lacks takes no bits and has its neutral value".
 pub const NEUTRAL: Reactive = Reactive {
-    q: SignedKvar(MOST_Q as u32),
+    q: NO_KVAR,
     qru: Kvar(0),
     qrd: Kvar(0),
 };
@@ -49,11 +46,11 @@ fn no_reactive(went: Went) -> ReactiveRead
     }
 }
 
-// Field by field: from here comes every refusal.
+// "q (as qmax)", field by field: from here comes every refusal.
 fn read_three(s: &[u8], p: Place) -> ReactiveRead
     ensures { λ r. ⌜ told (r .went) (reactiveIn (r .reactive)) ≡ got reactive (now (s .entry)) p ⌝ }
 {
-    let power = fields::read_offset(s, p, Q_BITS, Q_HALF, MOST_Q);
+    let power = fields::read_offset(s, p, KVAR_BITS, KVAR_HALF, MOST_KVAR);
     let Figure::Good(q, at_qru) = power else {
         return no_reactive(fields::place_of(power));
     };

@@ -42,6 +42,7 @@ with d ramps limits states starts energies = record {
   starts = starts;
   nenergies = d .nenergies;
   energies = energies;
+  link = d .link;
 }
 
 with-same : (d : Device) {ramps : List ℕ} {limits : List Kw} {states : List State} {starts : List StartWindow} {energies : List EnergyWindow}

@@ -14,10 +14,10 @@ use lib.IntN.{ℤ, pos, natAbs}
 use Rattle.numbers.specs.Sum.{All}
 use Rattle.bits.specs.Pick.{pick}
 use Rattle.model.specs.Case as M
-use Rattle.model.specs.Case.{System, Plan, Case, noCell, noDevice, noZone, noDevicePrices, noCellPrices, noSix}
+use Rattle.model.specs.Case.{System, Plan, Case, noCell, noDevice, noZone, noDevicePrices, noCellPrices, noKinds}
 use Rattle.model.specs.Forced as F
 use Rattle.model.specs.Completion as C
-use Rattle.ranges.specs.Ranges.{CaseRange, DeviceRange, DevicePriceRange, CellRange, CellPriceRange, SettingRange, ZoneRange, SharesRange, SixRange, Eight}
+use Rattle.ranges.specs.Ranges.{CaseRange, DeviceRange, DevicePriceRange, CellRange, CellPriceRange, SettingRange, ZoneRange, SharesRange, KindsRange, MinimaRange, LinkRange, Eight}
 use Rattle.ranges.specs.Kept.{kept-small}
 use Rattle.numbers.specs.Every.{all-at, all-or, all-getD}
 use Rattle.kilowatts.specs.declared.Kw.{Kw}
@@ -28,7 +28,7 @@ use Rattle.row_places.specs.declared.Front.{Front}
 use Rattle.row_places.specs.Figures.{noState, cellOf, settingOf, deviceOf, zoneOf, minimaOf, previousAt}
 use Rattle.numbers.specs.Parts.{part, part-inside, place-inside, part-at, part-long}
 use Rattle.numbers.specs.Ranges.{sum-more, sum-rises}
-use Rattle.records.specs.Views.{less, priceOffset, costOffset, limitsIn, cellIn, cellPricesIn, settingIn, sharesIn, sixIn, deviceIn, devicePricesIn, systemIn, pricesIn, caseIn, planIn}
+use Rattle.records.specs.Views.{less, priceOffset, costOffset, limitsIn, cellIn, cellPricesIn, settingIn, sharesIn, kindsIn, linkIn, deviceIn, devicePricesIn, systemIn, pricesIn, caseIn, planIn}
 use Rattle.records.specs.Views.{mostDevices, mostIntervals, mostStates, mostWindows, mostPower, Padded, CaseRows, PlanRows, Ready}
 use Rattle.records.specs.Viewed as W
 use Rattle.records.specs.Viewed.{getD-any}
@@ -133,6 +133,9 @@ module _ {front : Front} {halves : List ℕ} {zones minima devices cells : List 
         cost h few j b = rw (W.first-at f noState (d i .nstates) (d i .states) j b) at
             (all-at (λ z. natAbs z ≤ 1000000000) (f noState) (map f (take (d i .nstates) (d i .states))) h j (omega (arith, W.firsts-long f noState (d i .nstates) (d i .states) few)))
 
+    pub link-range : LinkRange (linkIn (d i .link))
+    link-range = subst LinkRange (W.link-is halves zones minima devices cells i l) (device-range .link)
+
     -- ---- its cell in interval t
 
     module _ (t : ℕ) (h : t < m) where
@@ -198,9 +201,9 @@ module _ {front : Front} {halves : List ℕ} {zones minima devices cells : List 
     pub shares-small : SharesRange (sharesIn (getD zones z []))
     shares-small = subst SharesRange (W.shares-are halves zones minima devices cells z l) (zone-range .shares)
 
-    pub zone-prices-small : SixRange (sixIn (zoneOf (getD zones z []) .prices))
-    zone-prices-small = subst SixRange (W.zone-prices-are front halves zones minima devices cells z l)
-        (all-at SixRange noSix (k .prices .zones) (known .range .prices .zones) z (omega (arith, W.prices-of-zones front halves zones minima devices cells)))
+    pub zone-prices-small : KindsRange (kindsIn (zoneOf (getD zones z [])))
+    zone-prices-small = subst KindsRange (W.zone-prices-are front halves zones minima devices cells z l)
+        (all-at KindsRange noKinds (k .prices .zones) (known .range .prices .zones) z (omega (arith, W.prices-of-zones front halves zones minima devices cells)))
 
 -- ---- the plan
 

@@ -20,7 +20,10 @@ use Rattle.row_places.specs.declared.Cell.{Cell}
 use Rattle.row_places.specs.declared.State.{State}
 use Rattle.row_places.specs.declared.StartWindow.{StartWindow}
 use Rattle.row_places.specs.declared.EnergyWindow.{EnergyWindow}
+use Rattle.row_places.specs.declared.Line.{Line}
+use Rattle.row_places.specs.declared.Link.{Link}
 use Rattle.row_places.specs.declared.Device.{Device}
+use Rattle.row_places.specs.declared.Zone.{Zone}
 use Rattle.row_places.specs.declared.Front.{Front}
 use Rattle.row_places.specs.Figures.{cellOf, settingOf, deviceOf, zoneOf, minimaOf}
 use Rattle.numbers.specs.Parts.{part}
@@ -35,6 +38,9 @@ priceOffset = 10000
 
 abbrev pub costOffset : ℕ
 costOffset = 1000000000
+
+abbrev pub slopeOffset : ℕ
+slopeOffset = 10000
 
 abbrev pub eightIn : Reserves → M.Reserves
 eightIn r = record { rgu = r .rgu .0; rgd = r .rgd .0; scr = r .scr .0; nsc = r .nsc .0; rruOn = r .rruon .0; rruOff = r .rruoff .0; rrdOn = r .rrdon .0; rrdOff = r .rrdoff .0 }
@@ -51,7 +57,7 @@ limitsIn l = record { rgu = numberOf l 0; rgd = numberOf l 1; scr = numberOf l 2
 abbrev pub reactiveLimitsIn : ReactiveCell → M.ReactiveLimits
 reactiveLimitsIn r = record { qmin = less kvarOffset (r .qmin .0); qmax = less kvarOffset (r .qmax .0) }
 
-abbrev pub reactivePricesIn : ReactiveCell → M.ReactivePrices
+abbrev pub reactivePricesIn : ReactiveCell → M.ReactiveReserves
 reactivePricesIn r = record { qru = r .qru; qrd = r .qrd }
 
 -- the model's cell, and its prices, by the record
@@ -83,7 +89,7 @@ settingIn r = record {
 }
 
 abbrev pub minimaIn : List ℕ → M.Minima
-minimaIn r = record { rru = minimaOf r .rru .0; rrd = minimaOf r .rrd .0 }
+minimaIn r = record { rru = minimaOf r .rru .0; rrd = minimaOf r .rrd .0; reactive = record { qru = minimaOf r .qru .0; qrd = minimaOf r .qrd .0 } }
 
 abbrev pub startIn : StartWindow → M.StartWindow
 startIn w = record { from = w .from; until = w .until; most = w .most }
@@ -100,6 +106,16 @@ zoneIn r minima = record { shares = sharesIn r; minima = map minimaIn minima }
 abbrev pub sixIn : List ℕ → M.Six
 sixIn l = record { rgu = getD l 0 0; rgd = getD l 1 0; scr = getD l 2 0; nsc = getD l 3 0; rru = getD l 4 0; rrd = getD l 5 0 }
 
+-- the prices of a zone's shortfalls
+abbrev pub kindsIn : Zone → M.Kinds
+kindsIn z = record { six = sixIn (z .prices); reactive = record { qru = z .qru; qrd = z .qrd } }
+
+abbrev pub lineIn : Line → M.Line
+lineIn l = record { offset = less kvarOffset (l .offset .0); slope = less slopeOffset (l .slope) }
+
+abbrev pub linkIn : Link → M.Link
+linkIn l = record { kind = l .kind; upper = lineIn (l .upper); lower = lineIn (l .lower) }
+
 unfoldable pub deviceIn : Device → List (List ℕ) → M.Device
 deviceIn d cells = record {
   side = d .side;
@@ -114,6 +130,7 @@ deviceIn d cells = record {
   longest = map (λ s. s .longest) (take (d .nstates) (d .states));
   startWindows = map startIn (take (d .nstarts) (d .starts));
   energyWindows = map energyIn (take (d .nenergies) (d .energies));
+  link = linkIn (d .link);
   cells = map cellIn cells;
 }
 
@@ -139,7 +156,7 @@ unfoldable pub pricesIn : Front → (m : ℕ) (zones devices cells : List (List 
 pricesIn front m zones devices cells = record {
   mismatch = front .mismatch;
   overrun = front .overrun;
-  zones = rows (λ z. sixIn (zoneOf (getD zones z []) .prices)) (length zones);
+  zones = rows (λ z. kindsIn (zoneOf (getD zones z []))) (length zones);
   devices = rows (λ i. devicePricesIn (deviceOf (getD devices i [])) (part m i cells)) (length devices);
 }
 

@@ -17,12 +17,15 @@ use Rattle.energy.specs.Energy.{kwMin}
 use Rattle.grains.specs.Money.{grains}
 use Rattle.row_places.specs.declared.Reserves.{Reserves}
 use Rattle.row_places.specs.declared.ReservePrices.{ReservePrices}
+use Rattle.row_places.specs.declared.ReactiveCell.{ReactiveCell}
 use Rattle.row_places.specs.declared.Cell.{Cell}
 use Rattle.row_places.specs.declared.Reactive.{Reactive}
 use Rattle.row_places.specs.declared.Setting.{Setting}
 use Rattle.row_places.specs.declared.State.{State}
 use Rattle.row_places.specs.declared.StartWindow.{StartWindow}
 use Rattle.row_places.specs.declared.EnergyWindow.{EnergyWindow}
+use Rattle.row_places.specs.declared.Line.{Line}
+use Rattle.row_places.specs.declared.Link.{Link}
 use Rattle.row_places.specs.declared.Device.{Device}
 use Rattle.row_places.specs.declared.Zone.{Zone}
 use Rattle.row_places.specs.declared.Minima.{Minima}
@@ -107,6 +110,12 @@ energiesOf r = energyOf r 0 ∷ energyOf r 1 ∷ energyOf r 2 ∷ energyOf r 3 �
 abbrev pub limitsOf : List ℕ → List Kw
 limitsOf r = kw (at r 14) ∷ kw (at r 15) ∷ kw (at r 16) ∷ kw (at r 17) ∷ kw (at r 18) ∷ kw (at r 19) ∷ kw (at r 20) ∷ kw (at r 21) ∷ []
 
+abbrev pub lineOf : ℕ → ℕ → Line
+lineOf offset slope = record { offset = signedKvar offset; slope = slope }
+
+abbrev pub linkOf : List ℕ → Link
+linkOf r = record { kind = at r 59; upper = lineOf (at r 60) (at r 61); lower = lineOf (at r 62) (at r 63) }
+
 -- a device from its row; its costs, limits and counted lists given
 abbrev pub deviceWith : List ℕ → (startcost stopcost : Grains) → List Kw → ℕ → List State → ℕ → List StartWindow → ℕ → List EnergyWindow → Device
 deviceWith r startcost stopcost limits nstates states nstarts starts nenergies energies = record {
@@ -128,16 +137,17 @@ deviceWith r startcost stopcost limits nstates states nstarts starts nenergies e
   starts = starts;
   nenergies = nenergies;
   energies = energies;
+  link = linkOf r;
 }
 
 abbrev pub deviceOf : List ℕ → Device
 deviceOf r = deviceWith r (grains (at r 12)) (grains (at r 13)) (limitsOf r) (at r statesFrom) (statesOf r) (at r startsFrom) (startsOf r) (at r energiesFrom) (energiesOf r)
 
 abbrev pub zoneOf : List ℕ → Zone
-zoneOf r = record { rgu = at r 0; rgd = at r 1; scr = at r 2; nsc = at r 3; prices = at r 4 ∷ at r 5 ∷ at r 6 ∷ at r 7 ∷ at r 8 ∷ at r 9 ∷ [] }
+zoneOf r = record { rgu = at r 0; rgd = at r 1; scr = at r 2; nsc = at r 3; prices = at r 4 ∷ at r 5 ∷ at r 6 ∷ at r 7 ∷ at r 8 ∷ at r 9 ∷ []; qru = at r 10; qrd = at r 11 }
 
 abbrev pub minimaOf : List ℕ → Minima
-minimaOf r = record { rru = kw (at r 0); rrd = kw (at r 1) }
+minimaOf r = record { rru = kw (at r 0); rrd = kw (at r 1); qru = kvar (at r 2); qrd = kvar (at r 3) }
 
 -- ---- the row of a record
 
@@ -207,7 +217,8 @@ deviceRowWith d startcost stopcost nstates nstarts nenergies states starts energ
     ∷ nstates ∷ at states 0 ∷ at states 1 ∷ at states 2 ∷ at states 3 ∷ at states 4 ∷ at states 5
     ∷ nstarts ∷ at starts 0 ∷ at starts 1 ∷ at starts 2 ∷ at starts 3 ∷ at starts 4 ∷ at starts 5 ∷ at starts 6 ∷ at starts 7 ∷ at starts 8 ∷ at starts 9 ∷ at starts 10 ∷ at starts 11
     ∷ nenergies ∷ at energies 0 ∷ at energies 1 ∷ at energies 2 ∷ at energies 3 ∷ at energies 4 ∷ at energies 5 ∷ at energies 6 ∷ at energies 7 ∷ at energies 8
-    ∷ at energies 9 ∷ at energies 10 ∷ at energies 11 ∷ at energies 12 ∷ at energies 13 ∷ at energies 14 ∷ at energies 15 ∷ []
+    ∷ at energies 9 ∷ at energies 10 ∷ at energies 11 ∷ at energies 12 ∷ at energies 13 ∷ at energies 14 ∷ at energies 15
+    ∷ d .link .kind ∷ d .link .upper .offset .0 ∷ d .link .upper .slope ∷ d .link .lower .offset .0 ∷ d .link .lower .slope ∷ []
 
 abbrev pub deviceRow : Device → List ℕ
 deviceRow d =
@@ -222,10 +233,10 @@ device-row-is d e f g h i j k l = cc
 abbrev pub zoneRow : Zone → List ℕ
 zoneRow z =
     z .rgu ∷ z .rgd ∷ z .scr ∷ z .nsc
-    ∷ at (z .prices) 0 ∷ at (z .prices) 1 ∷ at (z .prices) 2 ∷ at (z .prices) 3 ∷ at (z .prices) 4 ∷ at (z .prices) 5 ∷ []
+    ∷ at (z .prices) 0 ∷ at (z .prices) 1 ∷ at (z .prices) 2 ∷ at (z .prices) 3 ∷ at (z .prices) 4 ∷ at (z .prices) 5 ∷ z .qru ∷ z .qrd ∷ []
 
 abbrev pub minimaRow : Minima → List ℕ
-minimaRow x = x .rru .0 ∷ x .rrd .0 ∷ []
+minimaRow x = x .rru .0 ∷ x .rrd .0 ∷ x .qru .0 ∷ x .qrd .0 ∷ []
 
 -- ---- one figure of a table's row k
 
@@ -237,6 +248,12 @@ onlineAt settings k = settingOf (getD settings k []) .online .0
 
 abbrev pub pminAt : List (List ℕ) → ℕ → ℕ
 pminAt cells k = cellOf (getD cells k []) .pmin .0
+
+abbrev pub reactiveAt : List (List ℕ) → ℕ → Reactive
+reactiveAt settings k = reactiveOf (getD settings k [])
+
+abbrev pub reactiveCellAt : List (List ℕ) → ℕ → ReactiveCell
+reactiveCellAt cells k = cellOf (getD cells k []) .reactive
 
 abbrev pub deviceAt : List (List ℕ) → ℕ → Device
 deviceAt devices i = deviceOf (getD devices i [])
@@ -261,6 +278,9 @@ startcostAt devices i = deviceAt devices i .startcost
 
 abbrev pub stopcostAt : List (List ℕ) → ℕ → Grains
 stopcostAt devices i = deviceAt devices i .stopcost
+
+abbrev pub linkAt : List (List ℕ) → ℕ → Link
+linkAt devices i = deviceAt devices i .link
 
 -- its startup states and energy windows: how many, and number k
 abbrev pub statesAt : List (List ℕ) → ℕ → ℕ

@@ -90,8 +90,9 @@ pub const SETTING_QRU: usize = 11;
 
 pub const SETTING_QRD: usize = 12;
 
-// A device ahead of its intervals: its head, ramps, costs, limits; then counted states, start windows and energy windows.
-pub type DeviceRow = [u32; 59];
+// A device ahead of its intervals: its head, ramps, costs, limits; then counted states, start windows and energy windows; then its link, the lines' offsets
+// kept from −100,000 and their slopes from −10,000.
+pub type DeviceRow = [u32; 64];
 
 // The places of its figures; of the limits of the eight.
 pub const DEVICE_SIDE: usize = 0;
@@ -145,6 +146,17 @@ pub const STARTS: usize = 29;
 
 pub const ENERGIES: usize = 42;
 
+// The places of its link's figures.
+pub const LINK_KIND: usize = 59;
+
+pub const UPPER_OFFSET: usize = 60;
+
+pub const UPPER_SLOPE: usize = 61;
+
+pub const LOWER_OFFSET: usize = 62;
+
+pub const LOWER_SLOPE: usize = 63;
+
 // How many figures a startup state, a start window and an energy window have there.
 pub const STATE_WIDTH: usize = 2;
 
@@ -152,8 +164,8 @@ pub const START_WIDTH: usize = 3;
 
 pub const ENERGY_WIDTH: usize = 4;
 
-// A zone ahead of its intervals: four shares, six prices.
-pub type ZoneRow = [u32; 10];
+// A zone ahead of its intervals: four shares, six prices, two of reactive reserves.
+pub type ZoneRow = [u32; 12];
 
 // The places of its shares and prices.
 pub const ZONE_RGU: usize = 0;
@@ -176,13 +188,21 @@ pub const ZONE_RRU_PRICE: usize = 8;
 
 pub const ZONE_RRD_PRICE: usize = 9;
 
-// A zone's minima in one interval: rru, rrd.
-pub type MinimaRow = [u32; 2];
+pub const ZONE_QRU_PRICE: usize = 10;
+
+pub const ZONE_QRD_PRICE: usize = 11;
+
+// A zone's minima in one interval: rru, rrd, qru, qrd.
+pub type MinimaRow = [u32; 4];
 
 // The places of its figures.
 pub const MINIMA_RRU: usize = 0;
 
 pub const MINIMA_RRD: usize = 1;
+
+pub const MINIMA_QRU: usize = 2;
+
+pub const MINIMA_QRD: usize = 3;
 
 // Rows of zeros, for an owner's tables: what a reader fills.
 pub fn blank_cell() -> CellRow {
@@ -194,15 +214,15 @@ pub fn blank_setting() -> SettingRow {
 }
 
 pub fn blank_device() -> DeviceRow {
-    [0u32; 59]
+    [0u32; 64]
 }
 
 pub fn blank_zone() -> ZoneRow {
-    [0u32; 10]
+    [0u32; 12]
 }
 
 pub fn blank_minima() -> MinimaRow {
-    [0u32; 2]
+    [0u32; 4]
 }
 
 // "The eight, in order": amounts of a plan, limits of a device.
@@ -284,6 +304,19 @@ pub struct EnergyWindow {
     pub energy: KwMin,
 }
 
+// "an offset .. and a slope in thousandths": the slope, in thousandths of a kvar per kW, is kept from 0: the slope and 10,000.
+pub struct Line {
+    pub offset: SignedKvar,
+    pub slope: u32,
+}
+
+// Kind 0 none, 1 two lines, 2 equality, which stands as the upper line.
+pub struct Link {
+    pub kind: u32,
+    pub upper: Line,
+    pub lower: Line,
+}
+
 // "Per device": what a case says of a device ahead of its intervals. The ramps are up, down, starting, stopping, in kW/min; the limits are the eight in
 // order; the on cost is grains a minute.
 pub struct Device {
@@ -305,20 +338,25 @@ pub struct Device {
     pub starts: [StartWindow; 4],
     pub nenergies: usize,
     pub energies: [EnergyWindow; 4],
+    pub link: Link,
 }
 
-// Shares in thousandths; prices of the six shortfalls in grains per W·min.
+// Shares in thousandths; prices of the six shortfalls in grains per W·min, of the two of reactive reserves in grains per var·min.
 pub struct Zone {
     pub rgu: u32,
     pub rgd: u32,
     pub scr: u32,
     pub nsc: u32,
     pub prices: [u32; 6],
+    pub qru: u32,
+    pub qrd: u32,
 }
 
 pub struct Minima {
     pub rru: Kw,
     pub rrd: Kw,
+    pub qru: Kvar,
+    pub qrd: Kvar,
 }
 
 // What stands at a case's front beside its counts: its edition; prices of mismatch and overrun in grains per kW·min.

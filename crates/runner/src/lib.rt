@@ -37,10 +37,10 @@ pub fn frame_buffer() -> [u8; 65539]
     [0u8; 65539]
 }
 
-pub fn result_buffer() -> [u8; 12288]
+pub fn result_buffer() -> [u8; 14336]
     ensures { λ r. ⌜ length r ≡ resultRoom ⌝ }
 {
-    [0u8; 12288]
+    [0u8; 14336]
 }
 
 // Whether a call that failed is tried again: it was interrupted, or what it asks for is not ready.

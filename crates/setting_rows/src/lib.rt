@@ -5,7 +5,7 @@ ghost use Prim.Native.Nat.{_<_};
 ghost use lib.Dec.{ltb};
 ghost use lib.ListN.{getD, length, set};
 ghost use Rattle.numbers.specs.Base.{bit};
-ghost use Rattle.row_places.specs.Figures.{settingRow, settingOf, onAt, onlineAt, onBefore, startedAt, stoppedAt};
+ghost use Rattle.row_places.specs.Figures.{settingRow, settingOf, onAt, onlineAt, onBefore, startedAt, stoppedAt, reactiveAt};
 use kilovars::Kvar;
 use kilovars::SignedKvar;
 use kilowatts::Kw;
@@ -60,6 +60,18 @@ pub fn online_at(settings: &[SettingRow], k: usize) -> Kw
     ensures { λ r. ⌜ r .0 ≡ onlineAt (now (settings .entry)) k ⌝ }
 {
     Kw(settings[k][SETTING_ONLINE])
+}
+
+// Its reactive power and the two reserves.
+pub fn reactive_at(settings: &[SettingRow], k: usize) -> Reactive
+    requires { ⌜ k < length (now settings) ⌝ }
+    ensures { λ r. ⌜ r ≡ reactiveAt (now (settings .entry)) k ⌝ }
+{
+    Reactive {
+        q: SignedKvar(settings[k][SETTING_Q]),
+        qru: Kvar(settings[k][SETTING_QRU]),
+        qrd: Kvar(settings[k][SETTING_QRD]),
+    }
 }
 
 // "u = on (1/0)"

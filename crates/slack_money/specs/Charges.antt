@@ -58,13 +58,13 @@ module _ (w : Day) where
   pub minutes-small : (t : ℕ) → 2 * getD (w .halves) t 0 ≤ minutesMost
   minutes-small t = omega (arith, Ranged.half-small (w .unbroken .ready .case-rows) t)
 
-  in-intervals : (t : ℕ) → t < length (w .halves) → t < F.intervals system
+  pub in-intervals : (t : ℕ) → t < length (w .halves) → t < F.intervals system
   in-intervals t h = omega (arith, Viewed.intervals-are (w .halves) (w .zones) (w .minima) (w .devices) (w .cells))
 
-  in-zones : (z : ℕ) → z < length (w .zones) → z < F.zones system
+  pub in-zones : (z : ℕ) → z < length (w .zones) → z < F.zones system
   in-zones z h = omega (arith, Viewed.zones-are (w .halves) (w .zones) (w .minima) (w .devices) (w .cells))
 
-  in-devices : (i : ℕ) → i < length (w .devices) → i < F.devices system
+  pub in-devices : (i : ℕ) → i < length (w .devices) → i < F.devices system
   in-devices i h = omega (arith, Viewed.devices-are (w .halves) (w .zones) (w .minima) (w .devices) (w .cells))
 
 -- ---- shortfalls
@@ -158,7 +158,7 @@ module _ {zone : Zone} {minutes : ℕ} {x : List Watts} (w : ZoneOf zone minutes
         amount = λ j l. rw (w .amounts) (six-get (λ n. n ≤ shortfallMost) need (λ s.
             shortfall-bound q p (system-range ready) (plan-range ready) (w .day .unbroken .rules) (few-devices ready) (w .t) (w .z) s
             (in-intervals (w .day) (w .t) (w .interval)) (in-zones (w .day) (w .z) (w .known))) j l);
-        price = λ j l. rw (w .is) (six-price prices (Ranged.zone-prices-small (ready .case-rows) (w .z) (w .known)) j l);
+        price = λ j l. rw (w .is) (six-price prices (Ranged.zone-prices-small (ready .case-rows) (w .z) (w .known) .six) j l);
       }
 
   -- each price times its need, as the definition adds them
@@ -174,7 +174,7 @@ module _ {zone : Zone} {minutes : ℕ} {x : List Watts} (w : ZoneOf zone minutes
       ap (λ (n : ℕ). negℤ (pos n))
       (ap₂ (λ (m n : ℕ). m * n) (w .minutes-are ∙ duration-is (w .day) (w .t)) (ap₂ (λ (y : Zone) (v : List Watts). sixCost (y .prices) v) (w .is) (w .amounts) ∙ total-is))
       ∙ ap (λ (s : Six). negℤ (pos (F.duration q (w .t) * total s)))
-      (sym (Viewed.zone-prices-are (w .day .front) (w .day .halves) (w .day .zones) (w .day .minima) (w .day .devices) (w .day .cells) (w .z) (w .known)))
+      (sym (Viewed.six-prices-are (w .day .front) (w .day .halves) (w .day .zones) (w .day .minima) (w .day .devices) (w .day .cells) (w .z) (w .known)))
 
 -- the code's answer
 pub record ZoneEntered (zone : Zone) (minutes : ℕ) (x : List Watts) (l r : Ledger) : Type 0 where

@@ -1,4 +1,4 @@
--- The day's balance in the order in which it is added up, and that it is our surplus.
+-- The day's balance of real power in the order in which it is added up, and that it is our surplus' part.
 use mathlib.Core.Path.{_≡_, refl, ap, ap₂, _∙_}
 use mathlib.Core.List.{List}
 use Prim.Native.Nat.{ℕ, _*_, _≤_}
@@ -10,12 +10,10 @@ use Rattle.grains.specs.declared.Ledger.{Ledger}
 use Rattle.numbers.specs.Base.{upTo}
 use Rattle.model.specs.Case.{System, Plan, Case}
 use Rattle.model.specs.Forced.{intervals, devices, zones, device}
-use Rattle.model.specs.Completion.{blockWorth, onCost, changeCost, reservesCost, shortfallCost, mismatchCost, overruns, surplusOf}
-use Rattle.model.specs.Judgement.{ourSurplus}
-use Rattle.records.specs.Views.{mostDevices, mostIntervals}
-use Rattle.model.specs.Editions.{mostZones, mostWindows}
-use Rattle.money.specs.Bounds.{cellMost, zoneMost, mismatchCostMost, overrunCostMost, intervalMost, windowsCostMost, dayMost}
-use Rattle.money.specs.Entries.{Entered, entered-then, entered-as}
+use Rattle.model.specs.Completion.{blockWorth, onCost, changeCost, reservesCost, shortfallCost, mismatchCost, overruns, realSurplus}
+use Rattle.model.specs.Editions.{mostWindows}
+use Rattle.money.specs.Bounds.{overrunCostMost, windowsCostMost}
+use Rattle.money.specs.Entries.{Entered, entered-as}
 use Rattle.money.specs.Terms.{our, cellBalance}
 use Rattle.slack_money.specs.Charges.{overrunBalance}
 
@@ -94,24 +92,13 @@ module _ (c : Case) (p : Plan) where
           ∙ ap negℤ (sum-scale (pos (c .prices .overrun)) (our c p .overrun i) (upTo (length (device q i .energyWindows))))
 
   -- the surplus sums each term over the day by itself
-  pub day-is : dayBalance ≡ ourSurplus c p
-  unfolding dayBalance ourSurplus surplusOf over A B E G S M
+  pub day-is : dayBalance ≡ realSurplus c p (our c p)
+  unfolding dayBalance realSurplus over A B E G S M
   day-is = ap₂ (λ (y z : ℤ). y +ℤ z) (intervals-are ∙ ap (λ (z : ℤ). z +ℤ negℤ (over S (zones q)) +ℤ negℤ (sumℤ M (upTo (intervals q)))) cells-are) windows-are
 
-  -- ---- what the entries of the day come to
-
-  pub interval-entered : (t : ℕ) {l a b r : Ledger} → devices q ≤ mostDevices → zones q ≤ mostZones → Entered l a (sumℤ (cellBalance c p t) (upTo (devices q))) (devices q * cellMost)
-      → Entered a b (sumℤ (λ z. negℤ (shortfallCost c p (our c p) t z)) (upTo (zones q))) (zones q * zoneMost) → Entered b r (negℤ (mismatchCost c p (our c p) t)) mismatchCostMost
-      → Entered l r (intervalBalance t) intervalMost
-  unfolding intervalBalance
-  interval-entered t m n f g h = entered-as (entered-then (entered-then f g) h) refl (omega arith)
+  -- ---- what the entries of a device's windows come to
 
   pub windows-entered : (i : ℕ) {l r : Ledger} → length (device q i .energyWindows) ≤ mostWindows
       → Entered l r (sumℤ (overrunBalance c p i) (upTo (length (device q i .energyWindows)))) (length (device q i .energyWindows) * overrunCostMost) → Entered l r (windowsBalance i) windowsCostMost
   unfolding windowsBalance
   windows-entered i n h = entered-as h refl (omega arith)
-
-  pub day-entered : {l a r : Ledger} → intervals q ≤ mostIntervals → devices q ≤ mostDevices → Entered l a (sumℤ intervalBalance (upTo (intervals q))) (intervals q * intervalMost)
-      → Entered a r (sumℤ windowsBalance (upTo (devices q))) (devices q * windowsCostMost) → Entered l r (ourSurplus c p) dayMost
-  unfolding dayBalance
-  day-entered m n f g = entered-as (entered-then f g) day-is (omega arith)

@@ -39,7 +39,8 @@ module _ (q : System) (p : Plan) (rq : SystemRange q) (rp : PlanRange q p) (ok :
   mismatch-bound t l = bound-sub (pos (C.total q p true t)) (pos (C.total q p false t)) loadMost loadMost (total-bound true t l) (total-bound false t l)
 
   minima-at : (t z : ℕ) → z < zones q → MinimaRange (getD (zone q z .minima) t noMinima)
-  minima-at t z m = all-or MinimaRange noMinima (record { rru = omega arith; rrd = omega arith }) (zone q z .minima) (zone-at q p rq rp ok z m .minima) t
+  minima-at t z m = all-or MinimaRange noMinima (record { rru = omega arith; rrd = omega arith; reactive = record { qru = omega arith; qrd = omega arith } })
+      (zone q z .minima) (zone-at q p rq rp ok z m .minima) t
 
   required-bound : (t z : ℕ) (k : C.Shortfall) → t < intervals q → z < zones q → C.required q p t z k ≤ shortfallMost
   unfolding C.required

@@ -2,69 +2,71 @@
 use mathlib.Core.Path.{_≡_, refl, sym, _∙_, ap}
 use mathlib.Core.List.{List}
 use Prim.Native.Nat.{ℕ, _≤_}
+use native.Mathlib.Omega.{arith}
 use lib.ListN.{length}
-use Rattle.layouts.specs.As.{mapWhole, as-whole, whole-as}
-use Rattle.layouts.specs.Layout.{Whole, passes, fails, bytes}
+use lib.IntN.{ℤ}
+use Rattle.layouts.specs.As.{mapWhole, whole-as}
+use Rattle.layouts.specs.Layout.{Whole, passes, fails, nat, _then_, held, bytes}
 use Rattle.model.specs.Case.{Case, Plan}
-use Rattle.model.specs.Editions.{Largest, deviceLimit, intervalLimit}
+use Rattle.model.specs.Editions.{Largest, deviceLimit, intervalLimit, batch}
 use Rattle.model.specs.Messages as M
 use Rattle.model.specs.Messages.{edition1}
 use Rattle.model.specs.ByEdition.{editionOf, caseLayout, statedIn, plannedIn}
 use Rattle.model.specs.Ours.{ours}
-use Rattle.model.specs.Breaches.{breaches}
 use Rattle.model.specs.Judgement as J
 use Rattle.model.specs.Judgement.{Judged, written, countsOf, energyWindows, ourSurplus, accepts, unlessBroken, bufferAfter}
 use Rattle.model.specs.Before as P
-use Rattle.model.specs.Before.{readCase, readPlan}
-use Rattle.model.specs.AsBefore.{stated, case-as, edition1-reads, planned-as-before, completion-as}
+use Rattle.model.specs.Before.{readCase, readPlan, completionOf}
+use Rattle.model.specs.AsBefore.{stated, first, first-as, edition1-reads, planned-as-before, completion-as}
 use Rattle.ranges.specs.Ranges.{case-checked}
+use Rattle.ranges.specs.Plain.{SystemPlain, PlanPlain, stated-plain, planned-plain}
+use Rattle.theorems.specs.Plain.{surplus-real, breaches-as-before}
 
 -- ---- a plan for a case of edition 1
 
-bytes-as-before : (c : Case) (p : Plan) → J.completionBytes (stated 1 c) p ≡ P.completionBytes c p
-unfolding J.completionBytes P.completionBytes
-bytes-as-before c p = ap bytes (completion-as (countsOf (c .system)) (energyWindows (c .system)) (written (c .system) (ours c p) (ourSurplus c p)))
+-- neither knows reactive power
+module _ (c : Case) (p : Plan) (hs : SystemPlain (c .system)) (hp : PlanPlain p) where
+  bytes-as-before : J.completionBytes (stated 1 c) p ≡ P.completionBytes c p
+  unfolding J.completionBytes P.completionBytes P.ourSurplus
+  bytes-as-before =
+      let q = c .system in
+      ap bytes (completion-as (countsOf q) (energyWindows q) (written q (ours c p) (ourSurplus c p)) ∙ ap (λ (z : ℤ). completionOf q .write (written q (ours c p) z)) (surplus-real c p hs hp))
 
--- the verdict and the buffer, by the completion's bytes
-abbrev judgedBy : Case → Plan → List ℕ → List ℕ → Judged
-judgedBy c p buffer out =
-    let v = unlessBroken (breaches (c .system) p) (accepts (ourSurplus c p) (length out) (length buffer)) in
-    record { verdict = v; result = bufferAfter v out buffer }
+  judged-as-before : (buffer : List ℕ) → J.judged (stated 1 c) p buffer ≡ P.judged c p buffer
+  unfolding J.judged J.verdict P.judged P.ourSurplus
+  judged-as-before buffer = rw (bytes-as-before, breaches-as-before (c .system) p hs hp, surplus-real c p hs hp) refl
 
-judged-as-before : (c : Case) (p : Plan) (buffer : List ℕ) → J.judged (stated 1 c) p buffer ≡ P.judged c p buffer
-unfolding J.judged J.verdict P.judged
-judged-as-before c p buffer = ap (judgedBy c p buffer) (bytes-as-before c p)
+plan-as-before : (c : Case) → SystemPlain (c .system) → (ps buffer : List ℕ) (r : Whole Plan) → plannedIn 1 (c .system) ps ≡ r → J.withPlan (stated 1 c) buffer r ≡ P.withPlan c buffer r
+plan-as-before c hs ps buffer (passes p) e = judged-as-before c p hs (planned-plain 1 refl (c .system) ps p e) buffer
+plan-as-before c hs ps buffer (fails f) e = refl
 
-plan-as-before : (c : Case) (buffer : List ℕ) (r : Whole Plan) → J.withPlan (stated 1 c) buffer r ≡ P.withPlan c buffer r
-plan-as-before c buffer (passes p) = judged-as-before c p buffer
-plan-as-before c buffer (fails f) = refl
-
-case-as-before : (ps buffer : List ℕ) (r : Whole Case) → J.withCase ps buffer (mapWhole (stated 1) r) ≡ P.withCase ps buffer r
-case-as-before ps buffer (passes c) = ap (J.withPlan (stated 1 c) buffer) (planned-as-before (c .system) ps) ∙ plan-as-before c buffer (readPlan (c .system) ps)
-case-as-before ps buffer (fails f) = refl
+case-as-before : (ps buffer : List ℕ) (r : Whole Case) → ((c : Case) → r ≡ passes c → SystemPlain (c .system)) → J.withCase ps buffer (mapWhole (stated 1) r) ≡ P.withCase ps buffer r
+case-as-before ps buffer (passes c) plain =
+    let e = planned-as-before (c .system) ps in
+    ap (J.withPlan (stated 1 c) buffer) e ∙ plan-as-before c (plain c refl) ps buffer (readPlan (c .system) ps) e
+case-as-before ps buffer (fails f) plain = refl
 
 -- ---- by any reader that takes all that edition 1 allows
 
+-- for every list of bytes whose edition is 1, whatever is the newest
+read-as-before : (l : Largest) → deviceLimit 1 ≤ l .devices → intervalLimit 1 ≤ l .intervals → (s : List ℕ) → editionOf s ≡ 1 → statedIn l s ≡ mapWhole (stated 1) (readCase s)
+unfolding statedIn readCase
+read-as-before l h k s e = whole-as _ _ _ _ case-checked s (λ next. edition1-reads l h k s e fails next)
+
 module _ (l : Largest) (h : deviceLimit 1 ≤ l .devices) (k : intervalLimit 1 ≤ l .intervals) where
-  -- for every list of bytes, where 1 is the newest edition
-  pub stated-as-before : (s : List ℕ) → statedIn l s ≡ mapWhole (stated 1) (readCase s)
-  unfolding statedIn readCase
-  stated-as-before s = as-whole (case-as l h k) _ case-checked s
-
-  -- for every list of bytes whose edition is 1, whatever is the newest
   pub edition1-as-before : (s : List ℕ) → editionOf s ≡ 1 → statedIn l s ≡ mapWhole (stated 1) (readCase s)
-  unfolding statedIn readCase
-  edition1-as-before s e = whole-as _ _ _ _ case-checked s (λ next. edition1-reads l h k s e fails next)
+  edition1-as-before s e = read-as-before l h k s e
 
+  -- a case of edition 1 is written as before
   pub case-written-as-before : (c : Case) → caseLayout l .write (stated 1 c) ≡ M.caseLayout edition1 .write c
-  case-written-as-before c = case-as l h k .writes c
+  unfolding caseLayout first held _then_ nat
+  case-written-as-before c = first-as l h k .writes c
+
+  -- a case of edition 1 knows no reactive power
+  edition1-plain : (cs : List ℕ) → editionOf cs ≡ 1 → (c : Case) → readCase cs ≡ passes c → SystemPlain (c .system)
+  edition1-plain cs e c r = stated-plain batch (omega arith) (omega arith) cs (stated 1 c) (read-as-before batch (omega arith) (omega arith) cs e ∙ ap (mapWhole (stated 1)) r) refl
 
   -- a case whose edition is 1, with any plan and any buffer, is judged as before: the same verdict, and the same bytes in the buffer
   pub edition1-judged : (cs ps buffer : List ℕ) → editionOf cs ≡ 1 → J.judgement l cs ps buffer ≡ P.judgement cs ps buffer
   unfolding J.judgement P.judgement
-  edition1-judged cs ps buffer e = ap (J.withCase ps buffer) (edition1-as-before cs e) ∙ case-as-before ps buffer (readCase cs)
-
-  -- and where 1 is the newest edition, so are all bytes
-  pub all-judged : (cs ps buffer : List ℕ) → J.judgement l cs ps buffer ≡ P.judgement cs ps buffer
-  unfolding J.judgement P.judgement
-  all-judged cs ps buffer = ap (J.withCase ps buffer) (stated-as-before cs) ∙ case-as-before ps buffer (readCase cs)
+  edition1-judged cs ps buffer e = ap (J.withCase ps buffer) (edition1-as-before cs e) ∙ case-as-before ps buffer (readCase cs) (edition1-plain cs e)

@@ -5,13 +5,14 @@ use native.Mathlib.Omega.{arith}
 use lib.ListN.{length}
 use lib.IntN.{natAbs}
 use Rattle.numbers.specs.Sum.{All}
-use Rattle.model.specs.Case.{Six}
+use Rattle.model.specs.Case.{Six, Kinds, ReactiveReserves, noReactiveReserves}
 use Rattle.layouts.specs.declared.Fault.{Fault}
 use Rattle.layouts.specs.Layout.{Layout, nat, _then_, _▸_, readWhole, passes, bytes, any, countOf}
 use Rattle.model.specs.Editions.{deviceBits, intervalBits}
 use Rattle.model.specs.ByEdition as B
 use Rattle.model.specs.ByEdition.{completionFront, completionKind}
-use Rattle.model.specs.Messages.{Counts, six, deviceChoice, intervalChoice, DeviceChoice, IntervalChoice, Written}
+use Rattle.model.specs.Messages.{Counts, six, deviceChoice, DeviceChoice, IntervalChoice, Written}
+use Rattle.layouts.specs.Since.{has, present, present-law, Where}
 use Rattle.layouts.specs.Trip.{Lawful, nat-law, int-law, then-law, held-law, list-law, weaken, whole-back, Fits}
 
 -- ---- what fits
@@ -24,6 +25,15 @@ pub record FitsSix (r : Six) : Type 0 where
   pub rru : r .rru ≤ 2 ^ 33 - 1
   pub rrd : r .rrd ≤ 2 ^ 33 - 1
 
+pub record FitsTwo (r : ReactiveReserves) : Type 0 where
+  pub qru : r .qru ≤ 2 ^ 33 - 1
+  pub qrd : r .qrd ≤ 2 ^ 33 - 1
+
+-- in edition e: what it lacks is neutral
+pub record FitsKinds (e : ℕ) (r : Kinds) : Type 0 where
+  pub six : FitsSix (r .six)
+  pub reactive : Where (has 2 e) noReactiveReserves FitsTwo (r .reactive)
+
 pub record FitsDevice (r : DeviceChoice) : Type 0 where
   pub started : r .started ≤ 1
   pub stopped : r .stopped ≤ 1
@@ -31,16 +41,17 @@ pub record FitsDevice (r : DeviceChoice) : Type 0 where
   pub four : length (r .blocks) ≡ 4
   pub blocks : All (λ b. b ≤ 2 ^ 17 - 1) (r .blocks)
 
-pub record FitsInterval (n : Counts) (r : IntervalChoice) : Type 0 where
+pub record FitsInterval (e : ℕ) (n : Counts) (r : IntervalChoice) : Type 0 where
   pub each : length (r .devices) ≡ n .devices
   pub devices : All FitsDevice (r .devices)
   pub every : length (r .zones) ≡ n .zones
-  pub zones : All FitsSix (r .zones)
+  pub zones : All (FitsKinds e) (r .zones)
   pub mismatch : r .mismatch ≤ 2 ^ 23 - 1
+  pub reactiveMismatch : Where (has 2 e) 0 (λ v. v ≤ 2 ^ 23 - 1) (r .reactiveMismatch)
 
-pub record FitsWritten (n : Counts) (windows : ℕ) (r : Written) : Type 0 where
+pub record FitsWritten (e : ℕ) (n : Counts) (windows : ℕ) (r : Written) : Type 0 where
   pub length : length (r .intervals) ≡ n .intervals
-  pub each : All (FitsInterval n) (r .intervals)
+  pub each : All (FitsInterval e n) (r .intervals)
   pub count : lib.ListN.length (r .overruns) ≡ windows
   pub overruns : All (λ x. x ≤ 2 ^ 32 - 1) (r .overruns)
   pub surplus : Fits 64 (r .surplus)
@@ -60,6 +71,14 @@ six-law = let u = any-law 33 (omega arith) in
     weaken _ _ _ (held-law _ _ _ _ (pair-law _ _ _ _ u (pair-law _ _ _ _ u (pair-law _ _ _ _ u (pair-law _ _ _ _ u (pair-law _ _ _ _ u u))))))
     (λ r ok. ((ok .rgu, (ok .rgd, (ok .scr, (ok .nsc, (ok .rru, ok .rrd))))), refl))
 
+two-law : Lawful B.reactiveChoice FitsTwo
+unfolding B.reactiveChoice
+two-law = let u = any-law 33 (omega arith) in weaken _ _ _ (held-law _ _ _ _ (pair-law _ _ _ _ u u)) (λ r ok. ((ok .qru, ok .qrd), refl))
+
+kinds-law : (e : ℕ) → Lawful (B.zoneChoice e) (FitsKinds e)
+unfolding B.zoneChoice
+kinds-law e = weaken _ _ _ (held-law _ _ _ _ (pair-law _ _ _ _ six-law (present-law (has 2 e) noReactiveReserves B.reactiveChoice FitsTwo two-law))) (λ r ok. ((ok .six, ok .reactive), refl))
+
 device-law : Lawful deviceChoice FitsDevice
 unfolding deviceChoice
 device-law =
@@ -67,12 +86,13 @@ device-law =
     (pair-law _ _ _ _ (any-law 1 (omega arith)) (pair-law _ _ _ _ (any-law 3 (omega arith)) (list-law 4 (any 17) _ (any-law 17 (omega arith)))))))
     (λ r ok. ((ok .started, (ok .stopped, (ok .state, (ok .four, ok .blocks)))), refl))
 
-interval-law : (n : Counts) → Lawful (intervalChoice (n .devices) (n .zones)) (FitsInterval n)
-unfolding intervalChoice
-interval-law n =
+interval-law : (e : ℕ) (n : Counts) → Lawful (B.intervalChoice e (n .devices) (n .zones)) (FitsInterval e n)
+unfolding B.intervalChoice
+interval-law e n =
     weaken _ _ _ (held-law _ _ _ _ (pair-law _ _ _ _ (list-law (n .devices) deviceChoice FitsDevice device-law)
-    (pair-law _ _ _ _ (list-law (n .zones) (six (any 33)) FitsSix six-law) (any-law 23 (omega arith)))))
-    (λ r ok. (((ok .each, ok .devices), ((ok .every, ok .zones), ok .mismatch)), refl))
+    (pair-law _ _ _ _ (list-law (n .zones) (B.zoneChoice e) (FitsKinds e) (kinds-law e))
+    (pair-law _ _ _ _ (any-law 23 (omega arith)) (present-law (has 2 e) 0 (any 23) _ (any-law 23 (omega arith)))))))
+    (λ r ok. (((ok .each, ok .devices), ((ok .every, ok .zones), (ok .mismatch, ok .reactiveMismatch))), refl))
 
 -- ---- a completion of every edition
 
@@ -94,17 +114,17 @@ front-law e n k = weaken _ _ _
     (pair-law _ _ _ _ (only-law (deviceBits e) (n .devices) _ (k .devices)) (pair-law _ _ _ _ (only-law (intervalBits e) (n .intervals) _ (k .intervals)) (only-law 3 (n .zones) _ (k .zones)))))))
     (λ m h. rw h ((refl, (refl, (refl, (refl, refl)))), refl))
 
-completed-law : (e : ℕ) (n : Counts) (windows : ℕ) → Countable e n → Lawful (B.completionLayout e n windows) (FitsWritten n windows)
+completed-law : (e : ℕ) (n : Counts) (windows : ℕ) → Countable e n → Lawful (B.completionLayout e n windows) (FitsWritten e n windows)
 unfolding B.completionLayout
 completed-law e n windows k =
     weaken _ _ _ (held-law _ _ _ _
     (pair-law _ _ _ _ (front-law e n k)
-    (pair-law _ _ _ _ (list-law (n .intervals) (B.intervalChoice e (n .devices) (n .zones)) (FitsInterval n) (interval-law n))
+    (pair-law _ _ _ _ (list-law (n .intervals) (B.intervalChoice e (n .devices) (n .zones)) (FitsInterval e n) (interval-law e n))
     (pair-law _ _ _ _ (list-law windows (any 32) _ (any-law 32 (omega arith)))
     (int-law 64 (2 ^ 63))))))
     (λ x ok. ((refl, ((ok .length, ok .each), ((ok .count, ok .overruns), (ok .surplus, ok .size)))), refl))
 
 -- what is written reads back, in every edition
-pub completed-back : (e : ℕ) (n : Counts) (windows : ℕ) → Countable e n → (r : Written) → FitsWritten n windows r → length (B.completionLayout e n windows .write r) + 8 < 2 ^ 63
+pub completed-back : (e : ℕ) (n : Counts) (windows : ℕ) → Countable e n → (r : Written) → FitsWritten e n windows r → length (B.completionLayout e n windows .write r) + 8 < 2 ^ 63
     → readWhole (B.completionLayout e n windows) (bytes (B.completionLayout e n windows .write r)) ≡ passes r
 completed-back e n windows k r fits small = whole-back _ _ (completed-law e n windows k) r fits small

@@ -16,11 +16,13 @@ use Rattle.numbers.specs.Blocks.{Asc, asc-range, cheapest-least, dearest-most, 
 use Rattle.numbers.specs.State.{best, Beats, best-beats, best-is}
 use Rattle.bits.specs.Pick.{pick}
 use Rattle.numbers.specs.Base.{range, upTo}
-use Rattle.model.specs.Case.{System, Plan, Case, noSix}
+use Rattle.model.specs.Case.{System, Plan, Case, noKinds}
 use Rattle.model.specs.Forced.{intervals, devices, zones, device, cap, consuming, duration, su, sd, power}
 use Rattle.model.specs.Rules.{blocks}
 use Rattle.model.specs.Completion as C
-use Rattle.model.specs.Completion.{Completion, Shortfall, shortfalls, Meets, StateAllowed, MayUse, bySide, stateCost, shortfallPrice, surplusOf, shortfallNeed, mismatchNeed, overrunNeed, blockPrice}
+use Rattle.model.specs.Completion.{Completion, Shortfall, shortfalls, Meets, StateAllowed, MayUse, bySide, stateCost, shortfallPrice, blockPrice}
+use Rattle.model.specs.Completion.{realSurplus, surplusOf, shortfallNeed, mismatchNeed, overrunNeed}
+use Rattle.model.specs.Completion.{ReactiveShortfall, reactiveShortfalls, reactiveNeed, reactiveMismatchNeed, reactivePrice, reactiveCosts}
 use Rattle.model.specs.Breaches.{breaches}
 use Rattle.model.specs.Ours.{filling, lasts, bestState, ours, whole}
 use Rattle.model.specs.Tests.{same}
@@ -113,7 +115,9 @@ module _ (c : Case) (p : Plan) where
     filled = λ t i l m. sumℕ-pos _ blocks ∙ ap pos (filling-total (consuming q i) (blockPrice c t i) (cap q t i) (power q p t i) (rule19-holds q p r t i l m));
     state = λ t i l m. our-state-allowed c p t i;
     shortfall = λ t z k l m. record { enough = L.short-meets (shortfallNeed q p t z k); notNegative = L.pos-nonneg (L.maxZero (shortfallNeed q p t z k)) };
+    reactiveShortfall = λ t z k l m. record { enough = L.short-meets (reactiveNeed q p t z k); notNegative = L.pos-nonneg (L.maxZero (reactiveNeed q p t z k)) };
     mismatch = λ t l. record { enough = L.≤-refl (pos (mismatchNeed q p t)); notNegative = L.pos-nonneg (mismatchNeed q p t) };
+    reactiveMismatch = λ t l. record { enough = L.≤-refl (pos (reactiveMismatchNeed q p t)); notNegative = L.pos-nonneg (reactiveMismatchNeed q p t) };
     overrun = λ i w l m. record { enough = L.short-meets (overrunNeed q p i w); notNegative = L.pos-nonneg (L.maxZero (overrunNeed q p i w)) };
   }
 
@@ -144,7 +148,7 @@ module _ (c : Case) (p : Plan) where
         (L.short-least (shortfallNeed q p t z s) (x .shortfall t z s) (m .shortfall t z s l k .enough) (m .shortfall t z s l k .notNegative))) shortfalls))
       where
         price : Shortfall → ℕ
-        price s = shortfallPrice (getD (c .prices .zones) z noSix) s
+        price s = shortfallPrice (getD (c .prices .zones) z noKinds .six) s
 
     mismatch-least : (t : ℕ) → t < intervals q → C.mismatchCost c p our t ≤ℤ C.mismatchCost c p x t
     unfolding C.mismatchCost whole ours
@@ -155,10 +159,36 @@ module _ (c : Case) (p : Plan) where
     overruns-least i l = sum-mono _ _ (upTo (length (device q i .energyWindows)))
         (all-upTo _ _ (λ w k. L.short-least (overrunNeed q p i w) (x .overrun i w) (m .overrun i w l k .enough) (m .overrun i w l k .notNegative)))
 
-    -- no completion that meets every rule has a greater surplus
-    pub ours-best : surplusOf c p x ≤ℤ surplusOf c p our
-    unfolding surplusOf
-    ours-best =
+    reactive-reserves-same : (t i : ℕ) → t < intervals q → i < devices q → C.reactiveReservesCost c p our t i ≤ℤ C.reactiveReservesCost c p x t i
+    unfolding C.reactiveReservesCost
+    reactive-reserves-same t i l k = L.≤-refl _
+
+    reactive-shortfalls-least : (t z : ℕ) → t < intervals q → z < zones q → C.reactiveShortfallCost c p our t z ≤ℤ C.reactiveShortfallCost c p x t z
+    unfolding C.reactiveShortfallCost whole ours
+    reactive-shortfalls-least t z l k = L.mul-mono (pos (duration q t)) _ _ (L.pos-nonneg (duration q t))
+        (sum-mono (λ s. pos (price s) *ℤ our .reactiveShortfall t z s) (λ s. pos (price s) *ℤ x .reactiveShortfall t z s) reactiveShortfalls
+        (all (λ s. L.mul-mono (pos (price s)) _ _ (L.pos-nonneg (price s))
+        (L.short-least (reactiveNeed q p t z s) (x .reactiveShortfall t z s) (m .reactiveShortfall t z s l k .enough) (m .reactiveShortfall t z s l k .notNegative))) reactiveShortfalls))
+      where
+        price : ReactiveShortfall → ℕ
+        price s = reactivePrice (getD (c .prices .zones) z noKinds .reactive) s
+
+    reactive-mismatch-least : (t : ℕ) → t < intervals q → C.reactiveMismatchCost c p our t ≤ℤ C.reactiveMismatchCost c p x t
+    unfolding C.reactiveMismatchCost whole ours
+    reactive-mismatch-least t l =
+        L.mul-mono (pos (duration q t)) _ _ (L.pos-nonneg (duration q t)) (L.mul-mono (pos (c .prices .mismatch)) _ _ (L.pos-nonneg (c .prices .mismatch)) (m .reactiveMismatch t l .enough))
+
+    reactive-least : reactiveCosts c p our ≤ℤ reactiveCosts c p x
+    unfolding reactiveCosts
+    reactive-least =
+        L.add-mono (L.add-mono
+        (grid-mono (intervals q) (devices q) _ _ reactive-reserves-same)
+        (grid-mono (intervals q) (zones q) _ _ reactive-shortfalls-least))
+        (sum-mono _ _ (upTo (intervals q)) (all-upTo _ _ reactive-mismatch-least))
+
+    real-best : realSurplus c p x ≤ℤ realSurplus c p our
+    unfolding realSurplus
+    real-best =
         L.sub-mono (L.sub-mono (L.sub-mono (L.sub-mono (L.sub-mono (L.sub-mono
         (grid-mono (intervals q) (devices q) _ _ blocks-best)
         (grid-mono (intervals q) (devices q) _ _ on-same))
@@ -167,3 +197,8 @@ module _ (c : Case) (p : Plan) where
         (grid-mono (intervals q) (zones q) _ _ shortfalls-least))
         (sum-mono _ _ (upTo (intervals q)) (all-upTo _ _ mismatch-least)))
         (L.mul-mono (pos (c .prices .overrun)) _ _ (L.pos-nonneg (c .prices .overrun)) (sum-mono _ _ (upTo (devices q)) (all-upTo _ _ overruns-least)))
+
+    -- no completion that meets every rule has a greater surplus
+    pub ours-best : surplusOf c p x ≤ℤ surplusOf c p our
+    unfolding surplusOf
+    ours-best = L.sub-mono real-best reactive-least

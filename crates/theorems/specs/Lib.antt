@@ -1,4 +1,5 @@
 pub mod Best
+pub mod Plain
 pub mod Theorem
 pub mod AsBefore
 pub mod Back

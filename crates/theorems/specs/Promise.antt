@@ -1,5 +1,6 @@
 -- The three promises, on messages: what judging the bytes of a case and a plan gives back, for any bytes and any result buffer.
 use mathlib.Core.Path.{_≡_, refl, sym, _∙_, ap, subst}
+use mathlib.Core.Bool.{Bool, true, false}
 use mathlib.Core.List.{List, _++_}
 use Prim.Native.Nat.{ℕ, zero, suc, _+_, _-_, _*_, _^_, _≤_, _<_}
 use native.Mathlib.Omega.{arith}
@@ -16,7 +17,7 @@ use Rattle.model.specs.declared.Subject.{Subject}
 use Rattle.model.specs.declared.Subject.the-variants as S
 use Rattle.model.specs.declared.Verdict.{Verdict}
 use Rattle.model.specs.declared.Verdict.the-variants.{Accepted, Broken, Refused}
-use Rattle.model.specs.Case.{System, Case, Plan, noSix, noDevicePrices, noCellPrices}
+use Rattle.model.specs.Case.{System, Case, Plan, noKinds, noReactiveReserves, noDevicePrices, noCellPrices}
 use Rattle.model.specs.Forced.{intervals, devices, zones, device}
 use Rattle.model.specs.Completion as C
 use Rattle.model.specs.Ours.{ours}
@@ -31,8 +32,10 @@ use Rattle.model.specs.ByEdition as B
 use Rattle.model.specs.ByEdition.{Stated, statedIn, plannedIn}
 use Rattle.model.specs.Judgement.{Judged, judged, verdict, bufferAfter, withPlan, withCase, readPlan, judgement, written, countsOf, completionIn, energyWindows, ourSurplus, completionBytes}
 use Rattle.layouts.specs.Trip.{Fits, length-bits}
-use Rattle.theorems.specs.Back.{FitsDevice, FitsInterval, FitsSix, FitsWritten, Countable, completed-back}
-use Rattle.ranges.specs.Ranges.{PricesRange, SixRange, DevicePriceRange, CellPriceRange, CaseRange, Taken, StatedRange, PlanRange, stated-checked, stated-range, planned-checked, planned-range}
+use Rattle.theorems.specs.Back.{FitsDevice, FitsInterval, FitsSix, FitsKinds, FitsWritten, Countable, completed-back}
+use Rattle.layouts.specs.Since.{has, present, nothing}
+use Rattle.ranges.specs.Plain.{SystemPlain, PlanPlain, stated-plain, planned-plain}
+use Rattle.ranges.specs.Ranges.{PricesRange, KindsRange, DevicePriceRange, CellPriceRange, CaseRange, Taken, StatedRange, PlanRange, stated-checked, stated-range, planned-checked, planned-range}
 use Rattle.theorems.specs.Sizes.{PriceRange, mostPrice, mostShortfallPrice, mostChange, mostBlocks, surplusLimit, fits, surplus-size, device-at}
 use Rattle.numbers.specs.Every.{all-or}
 use Rattle.theorems.specs.Theorem.{Right, right-verdict, apart}
@@ -40,8 +43,8 @@ use Rattle.theorems.specs.Theorem.{Right, right-verdict, apart}
 -- ---- prices by index
 
 module _ (c : Case) (r : PricesRange (c .prices)) where
-  pub six-at : (z : ℕ) → SixRange (getD (c .prices .zones) z noSix)
-  six-at z = all-or SixRange noSix (omega arith) (c .prices .zones) (r .zones) z
+  pub kinds-at : (z : ℕ) → KindsRange (getD (c .prices .zones) z noKinds)
+  kinds-at z = all-or KindsRange noKinds (record { six = omega arith; reactive = omega arith }) (c .prices .zones) (r .zones) z
 
   pub prices-at : (i : ℕ) → DevicePriceRange (C.devicePrices c i)
   prices-at i = all-or DevicePriceRange noDevicePrices (record { on = omega arith; start = omega arith; stop = omega arith; states = tt; cells = tt }) (c .prices .devices) (r .devices) i
@@ -55,25 +58,27 @@ module _ (c : Case) (r : PricesRange (c .prices)) where
   state-at i (pos (suc k)) = all-or (λ z. natAbs z ≤ mostChange) (pos 0) (omega arith) (C.devicePrices c i .stateCosts) (prices-at i .states) k
   state-at i (negsuc k) = omega arith
 
-  pub shortfall-at : (z : ℕ) (k : C.Shortfall) → C.shortfallPrice (getD (c .prices .zones) z noSix) k ≤ mostShortfallPrice
-  shortfall-at z C.rgu = six-at z .rgu
-  shortfall-at z C.rgd = six-at z .rgd
-  shortfall-at z C.scr = six-at z .scr
-  shortfall-at z C.nsc = six-at z .nsc
-  shortfall-at z C.rru = six-at z .rru
-  shortfall-at z C.rrd = six-at z .rrd
+  pub shortfall-at : (z : ℕ) (k : C.Shortfall) → C.shortfallPrice (getD (c .prices .zones) z noKinds .six) k ≤ mostShortfallPrice
+  shortfall-at z C.rgu = kinds-at z .six .rgu
+  shortfall-at z C.rgd = kinds-at z .six .rgd
+  shortfall-at z C.scr = kinds-at z .six .scr
+  shortfall-at z C.nsc = kinds-at z .six .nsc
+  shortfall-at z C.rru = kinds-at z .six .rru
+  shortfall-at z C.rrd = kinds-at z .six .rrd
 
   pub price-range : PriceRange c
   price-range = record {
     mismatch = r .mismatch;
     overrun = r .overrun;
     shortfall = shortfall-at;
+    reactiveShortfall = λ z. kinds-at z .reactive;
     on = λ i. prices-at i .on;
     start = λ i. prices-at i .start;
     stop = λ i. prices-at i .stop;
     state = state-at;
     block = λ t i k. all-or (λ z. natAbs z ≤ mostPrice) (pos 0) (omega arith) (C.cellPrices c t i .blocks) (cell-prices-at t i .blocks) k;
     reserve = λ t i. cell-prices-at t i .reserves;
+    reactiveReserve = λ t i. cell-prices-at t i .reactive;
   }
 
 pub fits-64 : (z : ℤ) → natAbs z < surplusLimit → Fits 64 z
@@ -110,6 +115,10 @@ held-sized to from l P Q n u h = record { size = λ b ok. u .size (from b) (h b 
 abbrev shortfallsWidth : ℕ
 shortfallsWidth = 33 + (33 + (33 + (33 + (33 + 33))))
 
+-- of real power, then of reactive power where there is any
+abbrev zoneWidth : ℕ
+zoneWidth = shortfallsWidth + (33 + 33)
+
 abbrev blocksWidth : ℕ
 blocksWidth = mostBlocks * 17
 
@@ -117,7 +126,7 @@ abbrev deviceWidth : ℕ
 deviceWidth = 1 + (1 + (3 + blocksWidth))
 
 abbrev intervalWidth : ℕ
-intervalWidth = mostDevices * deviceWidth + (mostZones * shortfallsWidth + 23)
+intervalWidth = mostDevices * deviceWidth + (mostZones * zoneWidth + (23 + 23))
 
 abbrev frontWidth : ℕ → ℕ
 frontWidth e = 4 + (4 + (deviceBits e + (intervalBits e + 3)))
@@ -137,6 +146,20 @@ unfolding M.six
 six-sized = let u = nat-sized _ Any in held-sized _ _ _ _ _ _
     (pair-sized _ _ _ _ _ _ u (pair-sized _ _ _ _ _ _ u (pair-sized _ _ _ _ _ _ u (pair-sized _ _ _ _ _ _ u (pair-sized _ _ _ _ _ _ u u))))) (λ b ok. (tt, (tt, (tt, (tt, (tt, tt))))))
 
+-- what an edition has or lacks
+present-sized : {A : Type 0} (b : Bool) (neutral : A) (l : Layout A) (n : ℕ) → Sized l Any n → Sized (present b neutral l) Any n
+unfolding present nothing
+present-sized true neutral l n u = u
+present-sized false neutral l n u = record { size = λ a ok. omega arith }
+
+two-sized : Sized B.reactiveChoice Any (33 + 33)
+unfolding B.reactiveChoice
+two-sized = let u = nat-sized _ Any in held-sized _ _ _ _ _ _ (pair-sized _ _ _ _ _ _ u u) (λ b ok. (tt, tt))
+
+zone-sized : (e : ℕ) → Sized (B.zoneChoice e) (FitsKinds e) zoneWidth
+unfolding B.zoneChoice
+zone-sized e = held-sized _ _ _ _ _ _ (pair-sized _ _ _ _ _ _ six-sized (present-sized (has 2 e) noReactiveReserves B.reactiveChoice (33 + 33) two-sized)) (λ b ok. (ok .six, tt))
+
 device-sized : Sized M.deviceChoice FitsDevice deviceWidth
 unfolding M.deviceChoice
 device-sized = held-sized _ _ _ _ _ _
@@ -146,11 +169,12 @@ device-sized = held-sized _ _ _ _ _ _
 
 -- at most so many devices, intervals, zones and energy windows
 module _ (e : ℕ) (n : Counts) (d : n .devices ≤ mostDevices) (i : n .intervals ≤ mostIntervals) (z : n .zones ≤ mostZones) where
-  interval-sized : Sized (B.intervalChoice e (n .devices) (n .zones)) (FitsInterval n) intervalWidth
-  unfolding M.intervalChoice
+  interval-sized : Sized (B.intervalChoice e (n .devices) (n .zones)) (FitsInterval e n) intervalWidth
+  unfolding B.intervalChoice
   interval-sized = held-sized _ _ _ _ _ _
-      (pair-sized _ _ _ _ _ _ (list-sized _ mostDevices _ FitsDevice deviceWidth device-sized) (pair-sized _ _ _ _ _ _ (list-sized _ mostZones _ FitsSix shortfallsWidth six-sized) (nat-sized _ Any)))
-      (λ b ok. ((omega (arith, ok .each), ok .devices), ((omega (arith, ok .every), ok .zones), tt)))
+      (pair-sized _ _ _ _ _ _ (list-sized _ mostDevices _ FitsDevice deviceWidth device-sized) (pair-sized _ _ _ _ _ _ (list-sized _ mostZones _ (FitsKinds e) zoneWidth (zone-sized e))
+      (pair-sized _ _ _ _ _ _ (nat-sized _ Any) (present-sized (has 2 e) 0 (any 23) 23 (nat-sized _ Any)))))
+      (λ b ok. ((omega (arith, ok .each), ok .devices), ((omega (arith, ok .every), ok .zones), (tt, tt))))
 
   front-sized : Sized (B.completionFront e n) Any (frontWidth e)
   unfolding B.completionFront
@@ -162,10 +186,10 @@ module _ (e : ℕ) (n : Counts) (d : n .devices ≤ mostDevices) (i : n .interva
   unfolding int
   int-sized w most = record { size = λ z ok. omega (arith, length-bits w (toTwos w z)) }
 
-  pub completion-sized : (windows : ℕ) → windows ≤ mostDevices * mostWindows → Sized (B.completionLayout e n windows) (FitsWritten n windows) (completionWidth e)
+  pub completion-sized : (windows : ℕ) → windows ≤ mostDevices * mostWindows → Sized (B.completionLayout e n windows) (FitsWritten e n windows) (completionWidth e)
   unfolding B.completionLayout
   completion-sized windows w = held-sized _ _ _ _ _ _
-      (pair-sized _ _ _ _ _ _ front-sized (pair-sized _ _ _ _ _ _ (list-sized _ mostIntervals _ (FitsInterval n) intervalWidth interval-sized)
+      (pair-sized _ _ _ _ _ _ front-sized (pair-sized _ _ _ _ _ _ (list-sized _ mostIntervals _ (FitsInterval e n) intervalWidth interval-sized)
       (pair-sized _ _ _ _ _ _ (list-sized _ (mostDevices * mostWindows) _ (λ x. x ≤ 2 ^ 32 - 1) _ (nat-sized _ _)) (int-sized 64 _))))
       (λ b k. (tt, ((omega (arith, k .length), k .each), ((omega (arith, k .count), k .overruns), tt))))
 
@@ -178,19 +202,23 @@ module _ (c : Case) (p : Plan) (g : CaseRange c) (rp : PlanRange (c .system) p) 
   pub small-surplus : natAbs (ourSurplus c p) < surplusLimit
   small-surplus = surplus-size c p (g .system) rp ok (price-range c (g .prices))
 
-  pub our-fits : FitsWritten (countsOf (c .system)) (energyWindows (c .system)) our
-  our-fits = let small = small-surplus in fits c p (g .system) rp ok (fits-64 (ourSurplus c p) small) (omega arith)
+  -- an edition that lacks reactive power knows none
+  abbrev Lacks : ℕ → Type 0
+  Lacks e = has 2 e ≡ false → SystemPlain (c .system) × PlanPlain p
 
-  pub our-size : (e : ℕ) → length (completionIn e (c .system) .write our) ≤ completionWidth e
+  pub our-fits : (e : ℕ) → Lacks e → FitsWritten e (countsOf (c .system)) (energyWindows (c .system)) our
+  our-fits e plain = let small = small-surplus in fits c p (g .system) rp ok e plain (fits-64 (ourSurplus c p) small) (omega arith)
+
+  pub our-size : (e : ℕ) → Lacks e → length (completionIn e (c .system) .write our) ≤ completionWidth e
   unfolding energyWindows
-  our-size e = completion-sized e (countsOf (c .system)) (g .system .devices) (g .system .intervals) (g .system .zones) (energyWindows (c .system))
+  our-size e plain = completion-sized e (countsOf (c .system)) (g .system .devices) (g .system .intervals) (g .system .zones) (energyWindows (c .system))
       (sum-few (λ i. length (device (c .system) i .energyWindows)) mostWindows (devices (c .system)) mostDevices (g .system .devices)
       (λ i m. device-at (c .system) p (g .system) rp ok i m .energies))
-      .size our our-fits
+      .size our (our-fits e plain)
 
   -- "exactly the completion's bytes": they read back as our completion with the surplus reported, in every edition whose fields hold the case's counts
-  pub our-back : (e : ℕ) → Countable e (countsOf (c .system)) → readWhole (completionIn e (c .system)) (bytes (completionIn e (c .system) .write our)) ≡ passes our
-  our-back e k = completed-back e (countsOf (c .system)) (energyWindows (c .system)) k our our-fits (let n = our-size e in omega arith)
+  pub our-back : (e : ℕ) → Lacks e → Countable e (countsOf (c .system)) → readWhole (completionIn e (c .system)) (bytes (completionIn e (c .system) .write our)) ≡ passes our
+  our-back e plain k = completed-back e (countsOf (c .system)) (energyWindows (c .system)) k our (our-fits e plain) (let n = our-size e plain in omega arith)
 
 -- the counts of a case that a reader takes fit their fields
 taken-countable : (e : ℕ) (l : Largest) (c : Case) → e ≤ newest → Taken e l c → Countable e (countsOf (c .system))
@@ -234,14 +262,17 @@ untouched (Accepted z) out before h = absurd (h z refl)
 untouched (Broken b) out before h = refl
 untouched (Refused s f) out before h = refl
 
--- a case within its ranges, whose counts fit their fields
+-- a case within its ranges, whose counts fit their fields, and which has nothing that its edition lacks
 pub record Sound (x : Stated) : Type 0 where
   pub range : CaseRange (x .case)
   pub countable : Countable (x .edition) (countsOf (x .case .system))
+  pub plain : has 2 (x .edition) ≡ false → SystemPlain (x .case .system)
 
--- what any reader takes is
-pub stated-sound : (l : Largest) (x : Stated) → StatedRange l x → Sound x
-stated-sound l x g = record { range = g .case .range; countable = taken-countable (x .edition) l (x .case) (g .edition .1) (g .case) }
+-- what any reader takes is, if it takes no more than the most
+pub stated-sound : (l : Largest) → l .devices ≤ mostDevices → l .intervals ≤ mostIntervals → (s : List ℕ) (x : Stated) → statedIn l s ≡ passes x → Sound x
+stated-sound l most long s x e =
+    let g = stated-range l most long s x e in
+    record { range = g .case .range; countable = taken-countable (x .edition) l (x .case) (g .edition .1) (g .case); plain = stated-plain l most long s x e }
 
 module _ (x : Stated) (ps : List ℕ) (p : Plan) (g : Sound x) (rp : readPlan x ps ≡ passes p) (room : ℕ) where
   abbrev c : Case
@@ -253,7 +284,8 @@ module _ (x : Stated) (ps : List ℕ) (p : Plan) (g : Sound x) (rp : readPlan x 
   -- the bytes of an acceptance read back as our completion
   our-bytes : (z : ℤ) → verdict x p room ≡ Accepted z → readWhole (completionIn (x .edition) (c .system)) (completionBytes x p) ≡ passes (written (c .system) (ours c p) (ourSurplus c p))
   unfolding completionBytes
-  our-bytes z e = our-back c p (g .range) plan-in (right-verdict x p room .meets z e .rules) (x .edition) (g .countable)
+  our-bytes z e = our-back c p (g .range) plan-in (right-verdict x p room .meets z e .rules) (x .edition)
+      (λ h. (g .plain h, planned-plain (x .edition) h (c .system) ps p rp)) (g .countable)
 
   wrote-by : (z : ℤ) (before after : List ℕ) → verdict x p room ≡ Accepted z → after ≡ completionBytes x p ++ drop (length (completionBytes x p)) before → Wrote x p z before after
   unfolding ourSurplus
@@ -315,5 +347,5 @@ module _ (l : Largest) (most : l .devices ≤ mostDevices) (long : l .intervals 
   unfolding judgement
   promised cs ps before = record {
     case-refused = λ f e. record { verdict = rw e refl; number = case-tells cs f e; untouched = rw e refl };
-    case-passed = λ x e. subst (PlanPromise x ps before) (sym (ap (withCase ps before) e)) (plan-promised x (stated-sound l x (stated-range l most long cs x e)) ps before);
+    case-passed = λ x e. subst (PlanPromise x ps before) (sym (ap (withCase ps before) e)) (plan-promised x (stated-sound l most long cs x e) ps before);
   }

@@ -1,5 +1,5 @@
 -- The sizes of our completion: each figure fits its field, for a case and a plan within their ranges that break no rule.
-use mathlib.Core.Path.{refl}
+use mathlib.Core.Path.{_≡_, refl, sym}
 use mathlib.Core.Bool.{Bool, true, false, not, _&&_}
 use mathlib.Core.List.{List, [], map}
 use Prim.Native.Nat.{ℕ, zero, suc, _+_, _-_, _*_, _^_, _≤_, _<_, max}
@@ -9,18 +9,21 @@ use lib.Dec.{T, ltb, leb, eqb}
 use lib.ListN.{length, getD, length-map}
 use lib.IntN.{ℤ, pos, natAbs, _+ℤ_, _-ℤ_, _*ℤ_}
 use Rattle.numbers.specs.Laws.{maxZero, above-is}
-use Rattle.numbers.specs.Sum.{All, all, sumℤ}
+use Rattle.numbers.specs.Sum.{All, all, sumℤ, sum-sub}
 use Rattle.numbers.specs.Bounds.{bound-sub, bound-add, bound-mul, bound-sum, bound-few, apart-is, abs-neg}
 use Rattle.numbers.specs.State.{best, best-is}
 use Rattle.bits.specs.Pick.{pick}
 use Rattle.numbers.specs.Base.{range, upTo}
-use Rattle.model.specs.Case.{System, Plan, Case, noDevice, noCell, noZone, Minima, noMinima, noSetting, noEnergyWindow, noSix}
+use Rattle.model.specs.Case.{System, Plan, Case, noDevice, noCell, noZone, Minima, noMinima, noSetting, noEnergyWindow, noKinds, noReactiveReserves}
+use Rattle.layouts.specs.Since.{has, Where}
+use Rattle.ranges.specs.Plain.{SystemPlain, PlanPlain}
+use Rattle.theorems.specs.Plain.{none-short, none-apart}
 use Rattle.model.specs.Forced.{intervals, devices, zones, device, cell, zone, cap, energyWindow, consuming, member, duration, endOf, setting, u, uBefore, su, sd, psu, psd, power}
 use Rattle.model.specs.Rules.{blocks, EveryRule}
 use Rattle.model.specs.Named.{rule16-holds, rule18-holds}
 use Rattle.model.specs.Completion as C
 use Rattle.model.specs.Ours.{filling, bestState, lasts, ours, whole}
-use Rattle.ranges.specs.Ranges.{SystemRange, DeviceRange, EnergyRange, CellRange, ZoneRange, MinimaRange, PlanRange, SettingRange, Eight}
+use Rattle.ranges.specs.Ranges.{SystemRange, DeviceRange, EnergyRange, CellRange, ZoneRange, MinimaRange, TwoRange, ReactivePriceRange, PlanRange, SettingRange, Eight}
 use Rattle.numbers.specs.Every.{all-at, all-or, all-getD, all-gather, length-range, largest-bound, gate-le, bit-le, map-of-all, all-range, all-upTo}
 use Rattle.numbers.specs.Gather.{gather-counted}
 use Rattle.numbers.specs.Ranges.{sum-few}
@@ -28,7 +31,7 @@ use Rattle.theorems.specs.Best.{filling-cap}
 use Rattle.model.specs.Editions.{mostDevices, mostIntervals, mostZones, mostStates, mostWindows}
 use Rattle.model.specs.Judgement.{written, countsOf, energyWindows, ourSurplus}
 use Rattle.layouts.specs.Trip.{Fits}
-use Rattle.theorems.specs.Back.{FitsSix, FitsDevice, FitsInterval, FitsWritten}
+use Rattle.theorems.specs.Back.{FitsSix, FitsTwo, FitsKinds, FitsDevice, FitsInterval, FitsWritten}
 
 -- ---- the greatest figures that pass reading, each with its words
 
@@ -82,6 +85,10 @@ mostTotal n = n * mostPower
 abbrev pub mostShortfall : ℕ → ℕ
 mostShortfall n = max (watts * mostMinimum) (mostShare * mostTotal n + 2 * (mostShare * mostPower))
 
+-- var: "Zones gain two minima in kvar .., with rru's widths and ranges"
+abbrev pub mostReactiveShortfall : ℕ
+mostReactiveShortfall = watts * mostMinimum
+
 -- kW·min: a minimum, or a set's energy over the day
 abbrev pub mostOverrun : ℕ → ℕ
 mostOverrun m = max mostEnergy (m * (mostMinutes * mostPower))
@@ -98,6 +105,10 @@ reserveKinds = 8
 
 abbrev pub shortfallKinds : ℕ
 shortfallKinds = 6
+
+-- of reactive power: two kinds of reserve, and of shortfall
+abbrev pub reactiveKinds : ℕ
+reactiveKinds = 2
 
 abbrev pub mostBlockWorth : ℕ
 mostBlockWorth = mostMinutes * (mostBlocks * (mostPrice * mostPower))
@@ -118,6 +129,12 @@ mostShortfallCost n = mostMinutes * (shortfallKinds * (mostShortfallPrice * most
 abbrev pub mostMismatchCost : ℕ → ℕ
 mostMismatchCost n = mostMinutes * (mostPrice * mostTotal n)
 
+abbrev pub mostReactiveReserves : ℕ
+mostReactiveReserves = mostMinutes * (reactiveKinds * (mostPrice * mostPower))
+
+abbrev pub mostReactiveShortfallCost : ℕ
+mostReactiveShortfallCost = mostMinutes * (reactiveKinds * (mostShortfallPrice * mostReactiveShortfall))
+
 abbrev pub mostOverrunCost : ℕ → ℕ → ℕ
 mostOverrunCost n m = mostPrice * (n * (mostWindows * mostOverrun m))
 
@@ -132,7 +149,7 @@ shared m (suc zero) a b l h i = omega arith
 shared m (suc (suc v)) a b l h i = absurd (omega arith)
 
 minima-get : (l : List Minima) → All MinimaRange l → (k : ℕ) → MinimaRange (getD l k noMinima)
-minima-get l h k = all-or MinimaRange noMinima (record { rru = omega arith; rrd = omega arith }) l h k
+minima-get l h k = all-or MinimaRange noMinima (record { rru = omega arith; rrd = omega arith; reactive = omega arith }) l h k
 
 module _ (q : System) (p : Plan) (rq : SystemRange q) (rp : PlanRange q p) (ok : EveryRule q p) where
   pub device-at : (i : ℕ) → i < devices q → DeviceRange (intervals q) (device q i)
@@ -186,6 +203,22 @@ module _ (q : System) (p : Plan) (rq : SystemRange q) (rp : PlanRange q p) (ok :
     unfolding C.mismatchNeed
     mismatch-bound t l = omega (arith, apart-is (C.total q p true t) (C.total q p false t), total-bound true t l, total-bound false t l)
 
+    -- the reactive power of both sides together, and so their difference
+    pub reactive-mismatch-bound : (t : ℕ) → t < intervals q → C.reactiveMismatchNeed q p t ≤ mostTotal n
+    unfolding C.reactiveMismatchNeed C.reactiveTotal
+    reactive-mismatch-bound t l = rw (sym (sum-sub f g (upTo (devices q)))) (bound-few (λ i. f i -ℤ g i) mostPower (devices q) n few (λ i m. go i (consuming q i) (setting-at t i l m .reactive .q)))
+      where
+        f : ℕ → ℤ
+        f i = pick (consuming q i) (setting q p t i .reactive .q) (pos 0)
+
+        g : ℕ → ℤ
+        g i = pick (consuming q i) (pos 0) (setting q p t i .reactive .q)
+
+        go : (i : ℕ) (b : Bool) → natAbs (setting q p t i .reactive .q) ≤ mostPower
+            → natAbs (pick b (setting q p t i .reactive .q) (pos 0) -ℤ pick b (pos 0) (setting q p t i .reactive .q)) ≤ mostPower
+        go i true h = omega (arith, bound-sub (setting q p t i .reactive .q) (pos 0) mostPower 0 h (omega arith))
+        go i false h = omega (arith, bound-sub (pos 0) (setting q p t i .reactive .q) 0 mostPower (omega arith) h)
+
     share-bound : (share t z : ℕ) → share ≤ mostShare → t < intervals q → share * C.load q p t z ≤ mostShare * mostTotal n
     share-bound share t z h l = mul-le-mul h (load-bound t z l)
 
@@ -204,6 +237,15 @@ module _ (q : System) (p : Plan) (rq : SystemRange q) (rp : PlanRange q p) (ok :
     pub shortfall-bound : (t z : ℕ) (k : C.Shortfall) → t < intervals q → z < zones q → maxZero (C.shortfallNeed q p t z k) ≤ mostShortfall n
     unfolding C.shortfallNeed
     shortfall-bound t z k l m = omega (arith, above-is (C.required q p t z k) (1000 * C.held q p t z k), required-bound t z k l m)
+
+  reactive-required : (t z : ℕ) (k : C.ReactiveShortfall) → z < zones q → C.reactiveRequired q p t z k ≤ mostReactiveShortfall
+  unfolding C.reactiveRequired
+  reactive-required t z C.qru m = omega (arith, minima-get (zone q z .minima) (zone-at z m .minima) t .reactive .qru)
+  reactive-required t z C.qrd m = omega (arith, minima-get (zone q z .minima) (zone-at z m .minima) t .reactive .qrd)
+
+  pub reactive-shortfall-bound : (t z : ℕ) (k : C.ReactiveShortfall) → z < zones q → maxZero (C.reactiveNeed q p t z k) ≤ mostReactiveShortfall
+  unfolding C.reactiveNeed
+  reactive-shortfall-bound t z k m = omega (arith, above-is (C.reactiveRequired q p t z k) (1000 * C.reactiveHeld q p t z k), reactive-required t z k m)
 
   -- ---- at most m intervals
   module _ (m : ℕ) (short : intervals q ≤ m) where
@@ -265,24 +307,50 @@ module _ (c : Case) (p : Plan) (rq : SystemRange (c .system)) (rp : PlanRange (c
   overrun-fits : (i w : ℕ) → i < devices q → maxZero (C.overrunNeed q p i w) ≤ 2 ^ 32 - 1
   overrun-fits i w m = omega (arith, overrun-bound q p rq rp ok mostIntervals (rq .intervals) i w m)
 
+  -- in edition e, where an edition that lacks reactive power knows none
+  module _ (e : ℕ) (plain : has 2 e ≡ false → SystemPlain q × PlanPlain p) where
+    two-fit : (t z : ℕ) → z < zones q
+        → Where (has 2 e) noReactiveReserves FitsTwo (record { qru = maxZero (C.reactiveNeed q p t z C.qru); qrd = maxZero (C.reactiveNeed q p t z C.qrd) })
+    two-fit t z m = go (has 2 e) plain
+      where
+        go : (b : Bool) → (b ≡ false → SystemPlain q × PlanPlain p)
+            → Where b noReactiveReserves FitsTwo (record { qru = maxZero (C.reactiveNeed q p t z C.qru); qrd = maxZero (C.reactiveNeed q p t z C.qrd) })
+        go true h = record {
+          qru = omega (arith, reactive-shortfall-bound q p rq rp ok t z C.qru m);
+          qrd = omega (arith, reactive-shortfall-bound q p rq rp ok t z C.qrd m);
+        }
+        go false h = let s = h refl in rw (none-short q p (s .0) (s .1) t z C.qru, none-short q p (s .0) (s .1) t z C.qrd) refl
+
+    apart-fits : (t : ℕ) → t < intervals q → Where (has 2 e) 0 (λ v. v ≤ 2 ^ 23 - 1) (C.reactiveMismatchNeed q p t)
+    apart-fits t l = go (has 2 e) plain
+      where
+        go : (b : Bool) → (b ≡ false → SystemPlain q × PlanPlain p) → Where b 0 (λ v. v ≤ 2 ^ 23 - 1) (C.reactiveMismatchNeed q p t)
+        go true h = omega (arith, reactive-mismatch-bound q p rq rp ok mostDevices (rq .devices) t l)
+        go false h = let s = h refl in none-apart q p (s .0) (s .1) t
+
   -- all but the surplus
-  pub fits : Fits 64 (ourSurplus c p) → natAbs (ourSurplus c p) ≤ 2 ^ 63 → FitsWritten (countsOf q) (energyWindows q) (written q (ours c p) (ourSurplus c p))
+  pub fits : (e : ℕ) → (has 2 e ≡ false → SystemPlain q × PlanPlain p) → Fits 64 (ourSurplus c p) → natAbs (ourSurplus c p) ≤ 2 ^ 63
+      → FitsWritten e (countsOf q) (energyWindows q) (written q (ours c p) (ourSurplus c p))
   unfolding written ours energyWindows
-  fits f s = record {
+  fits e plain f s = record {
     length = rw length-map (length-range 0 (intervals q));
-    each = map-of-all (FitsInterval (countsOf q)) _ (upTo (intervals q)) (all-upTo _ _ (λ t l. record {
+    each = map-of-all (FitsInterval e (countsOf q)) _ (upTo (intervals q)) (all-upTo _ _ (λ t l. record {
       each = rw length-map (length-range 0 (devices q));
       devices = map-of-all FitsDevice _ (upTo (devices q)) (all-upTo _ _ (λ i m. device-fits t i l m));
       every = rw length-map (length-range 0 (zones q));
-      zones = map-of-all FitsSix _ (upTo (zones q)) (all-upTo _ _ (λ z m. record {
-        rgu = shortfall-fits t z C.rgu l m;
-        rgd = shortfall-fits t z C.rgd l m;
-        scr = shortfall-fits t z C.scr l m;
-        nsc = shortfall-fits t z C.nsc l m;
-        rru = shortfall-fits t z C.rru l m;
-        rrd = shortfall-fits t z C.rrd l m;
+      zones = map-of-all (FitsKinds e) _ (upTo (zones q)) (all-upTo _ _ (λ z m. record {
+        six = record {
+          rgu = shortfall-fits t z C.rgu l m;
+          rgd = shortfall-fits t z C.rgd l m;
+          scr = shortfall-fits t z C.scr l m;
+          nsc = shortfall-fits t z C.nsc l m;
+          rru = shortfall-fits t z C.rru l m;
+          rrd = shortfall-fits t z C.rrd l m;
+        };
+        reactive = two-fit e plain t z m;
       }));
       mismatch = omega (arith, mismatch-bound q p rq rp ok mostDevices (rq .devices) t l);
+      reactiveMismatch = apart-fits e plain t l;
     }));
     count = gather-counted (λ i w. maxZero (C.overrunNeed q p i w)) (λ i. length (device q i .energyWindows)) (upTo (devices q));
     overruns = all-gather _ _ (upTo (devices q)) (all-upTo _ _ (λ i m.
@@ -298,13 +366,15 @@ module _ (c : Case) (p : Plan) (rq : SystemRange (c .system)) (rp : PlanRange (c
 pub record PriceRange (c : Case) : Type 0 where
   pub mismatch : c .prices .mismatch ≤ mostPrice
   pub overrun : c .prices .overrun ≤ mostPrice
-  pub shortfall : (z : ℕ) (k : C.Shortfall) → C.shortfallPrice (getD (c .prices .zones) z noSix) k ≤ mostShortfallPrice
+  pub shortfall : (z : ℕ) (k : C.Shortfall) → C.shortfallPrice (getD (c .prices .zones) z noKinds .six) k ≤ mostShortfallPrice
+  pub reactiveShortfall : (z : ℕ) → TwoRange mostShortfallPrice (getD (c .prices .zones) z noKinds .reactive)
   pub on : (i : ℕ) → C.devicePrices c i .onCost ≤ mostOnCost
   pub start : (i : ℕ) → C.devicePrices c i .startCost ≤ mostChange
   pub stop : (i : ℕ) → C.devicePrices c i .stopCost ≤ mostChange
   pub state : (i : ℕ) (z : ℤ) → natAbs (C.stateCost c i z) ≤ mostChange
   pub block : (t i k : ℕ) → natAbs (C.blockPrice c t i k) ≤ mostPrice
   pub reserve : (t i : ℕ) → Eight (λ r. r ≤ mostPrice) (C.cellPrices c t i .reserves)
+  pub reactiveReserve : (t i : ℕ) → ReactivePriceRange (C.cellPrices c t i .reactive)
 
 side-bound : (b : Bool) (z : ℤ) (n : ℕ) → natAbs z ≤ n → natAbs (C.bySide b z) ≤ n
 side-bound true z n h = h
@@ -377,11 +447,11 @@ module _ (c : Case) (p : Plan) (rq : SystemRange (c .system)) (rp : PlanRange (c
   unfolding C.shortfallCost whole ours
   shortfall-cost t z l m = bound-mul (d t) (sumℤ term C.shortfalls) mostMinutes (shortfallKinds * most) (duration-bound sys p rq rp ok t) (bound-sum term most C.shortfalls
       (all {P = λ k. natAbs (term k) ≤ most} (λ k.
-      bound-mul (pos (C.shortfallPrice (getD (c .prices .zones) z noSix) k)) (our .shortfall t z k) mostShortfallPrice (mostShortfall mostDevices) (rc .shortfall z k)
+      bound-mul (pos (C.shortfallPrice (getD (c .prices .zones) z noKinds .six) k)) (our .shortfall t z k) mostShortfallPrice (mostShortfall mostDevices) (rc .shortfall z k)
       (shortfall-bound sys p rq rp ok mostDevices (rq .devices) t z k l m)) C.shortfalls))
     where
       term : C.Shortfall → ℤ
-      term k = pos (C.shortfallPrice (getD (c .prices .zones) z noSix) k) *ℤ our .shortfall t z k
+      term k = pos (C.shortfallPrice (getD (c .prices .zones) z noKinds .six) k) *ℤ our .shortfall t z k
 
       most : ℕ
       most = mostShortfallPrice * mostShortfall mostDevices
@@ -396,9 +466,63 @@ module _ (c : Case) (p : Plan) (rq : SystemRange (c .system)) (rp : PlanRange (c
   overruns-sum i m = bound-few (our .overrun i) (mostOverrun mostIntervals) (length (device sys i .energyWindows)) mostWindows (device-at sys p rq rp ok i m .energies)
       (λ w k. overrun-bound sys p rq rp ok mostIntervals (rq .intervals) i w m)
 
-  pub surplus-size : natAbs (ourSurplus c p) < surplusLimit
-  unfolding ourSurplus C.surplusOf
-  surplus-size = omega (
+  reactive-reserves-cost : (t i : ℕ) → t < intervals sys → i < devices sys → natAbs (C.reactiveReservesCost c p our t i) ≤ mostReactiveReserves
+  unfolding C.reactiveReservesCost C.reactiveReserveCost
+  reactive-reserves-cost t i l m =
+      let a = rc .reactiveReserve t i in let b = setting-at sys p rq rp ok t i l m .reactive in
+      bound-mul (d t) (pos (C.reactiveReserveCost (C.cellPrices c t i .reactive) (setting sys p t i .reactive))) mostMinutes (reactiveKinds * (mostPrice * mostPower))
+      (duration-bound sys p rq rp ok t) (omega (arith, mul-le-mul (a .qru) (b .qru), mul-le-mul (a .qrd) (b .qrd)))
+
+  reactive-price : (z : ℕ) (k : C.ReactiveShortfall) → C.reactivePrice (getD (c .prices .zones) z noKinds .reactive) k ≤ mostShortfallPrice
+  reactive-price z C.qru = rc .reactiveShortfall z .qru
+  reactive-price z C.qrd = rc .reactiveShortfall z .qrd
+
+  reactive-shortfall-cost : (t z : ℕ) → t < intervals sys → z < zones sys → natAbs (C.reactiveShortfallCost c p our t z) ≤ mostReactiveShortfallCost
+  unfolding C.reactiveShortfallCost whole ours
+  reactive-shortfall-cost t z l m = bound-mul (d t) (sumℤ term C.reactiveShortfalls) mostMinutes (reactiveKinds * most) (duration-bound sys p rq rp ok t) (bound-sum term most C.reactiveShortfalls
+      (all {P = λ k. natAbs (term k) ≤ most} (λ k.
+      bound-mul (pos (C.reactivePrice (getD (c .prices .zones) z noKinds .reactive) k)) (our .reactiveShortfall t z k) mostShortfallPrice mostReactiveShortfall (reactive-price z k)
+      (reactive-shortfall-bound sys p rq rp ok t z k m)) C.reactiveShortfalls))
+    where
+      term : C.ReactiveShortfall → ℤ
+      term k = pos (C.reactivePrice (getD (c .prices .zones) z noKinds .reactive) k) *ℤ our .reactiveShortfall t z k
+
+      most : ℕ
+      most = mostShortfallPrice * mostReactiveShortfall
+
+  reactive-mismatch-cost : (t : ℕ) → t < intervals sys → natAbs (C.reactiveMismatchCost c p our t) ≤ mostMismatchCost mostDevices
+  unfolding C.reactiveMismatchCost whole ours
+  reactive-mismatch-cost t l = bound-mul (d t) (pos (c .prices .mismatch) *ℤ our .reactiveMismatch t) mostMinutes (mostPrice * mostTotal mostDevices) (duration-bound sys p rq rp ok t)
+      (bound-mul (pos (c .prices .mismatch)) (our .reactiveMismatch t) mostPrice (mostTotal mostDevices) (rc .mismatch) (reactive-mismatch-bound sys p rq rp ok mostDevices (rq .devices) t l))
+
+  abbrev mostReactiveCosts : ℕ
+  mostReactiveCosts = mostIntervals * (mostDevices * mostReactiveReserves) + mostIntervals * (mostZones * mostReactiveShortfallCost) + mostIntervals * mostMismatchCost mostDevices
+
+  reactive-size : natAbs (C.reactiveCosts c p our) ≤ mostReactiveCosts
+  unfolding C.reactiveCosts
+  reactive-size = bound-add (A +ℤ B) E _ _
+      (bound-add A B _ _ (grid (devices sys) mostDevices mostReactiveReserves (C.reactiveReservesCost c p our) (rq .devices) reactive-reserves-cost)
+      (grid (zones sys) mostZones mostReactiveShortfallCost (C.reactiveShortfallCost c p our) (rq .zones) reactive-shortfall-cost))
+      (bound-few (C.reactiveMismatchCost c p our) (mostMismatchCost mostDevices) (intervals sys) mostIntervals (rq .intervals) reactive-mismatch-cost)
+    where
+      A : ℤ
+      A = sumℤ (λ t. sumℤ (C.reactiveReservesCost c p our t) (upTo (devices sys))) (upTo (intervals sys))
+
+      B : ℤ
+      B = sumℤ (λ t. sumℤ (C.reactiveShortfallCost c p our t) (upTo (zones sys))) (upTo (intervals sys))
+
+      E : ℤ
+      E = sumℤ (C.reactiveMismatchCost c p our) (upTo (intervals sys))
+
+  abbrev mostRealSurplus : ℕ
+  mostRealSurplus =
+      mostIntervals * (mostDevices * mostBlockWorth) + mostIntervals * (mostDevices * mostOnCosts) + mostIntervals * (mostDevices * mostChanges)
+      + mostIntervals * (mostDevices * mostReserves) + mostIntervals * (mostZones * mostShortfallCost mostDevices) + mostIntervals * mostMismatchCost mostDevices
+      + mostPrice * (mostDevices * (mostWindows * mostOverrun mostIntervals))
+
+  real-size : natAbs (C.realSurplus c p our) ≤ mostRealSurplus
+  unfolding C.realSurplus
+  real-size = omega (
     arith,
     bound-sub (A -ℤ B -ℤ E -ℤ H -ℤ K -ℤ M) G _ _ (bound-sub (A -ℤ B -ℤ E -ℤ H -ℤ K) M _ _
         (bound-sub (A -ℤ B -ℤ E -ℤ H) K _ _ (bound-sub (A -ℤ B -ℤ E) H _ _ (bound-sub (A -ℤ B) E _ _ (bound-sub A B _ _
@@ -435,3 +559,7 @@ module _ (c : Case) (p : Plan) (rq : SystemRange (c .system)) (rp : PlanRange (c
 
       G : ℤ
       G = pos (c .prices .overrun) *ℤ sumℤ (C.overruns c p our) (upTo (devices sys))
+
+  pub surplus-size : natAbs (ourSurplus c p) < surplusLimit
+  unfolding ourSurplus C.surplusOf
+  surplus-size = omega (arith, bound-sub (C.realSurplus c p our) (C.reactiveCosts c p our) mostRealSurplus mostReactiveCosts real-size reactive-size)

@@ -1,1 +1,2 @@
 pub mod Trajectories
+pub mod Terms

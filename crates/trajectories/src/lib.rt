@@ -21,7 +21,7 @@ pub fn leaves_at(power0: Kw, cells: &[CellRow], t: usize) -> Kw
 }
 
 // What a ramp leaves of a power after some minutes.
-fn left_after(power: u32, ramp: u32, minutes: u32) -> u32
+pub fn left_after(power: u32, ramp: u32, minutes: u32) -> u32
     requires { ⌜ (power ≤ 100000) × (ramp ≤ 100000) × (minutes ≤ lastMinute) ⌝ }
     ensures { λ r. ⌜ (r ≡ power - ramp * minutes) × (r ≤ 100000) ⌝ }
 {

@@ -1,7 +1,10 @@
-// A zone of a case: its shares and prices by value, its minima in its part of the table.
+// A zone of a case: its shares and prices by value, its minima in its part of the table. What edition 2 added to it is read by `reactive_zones`.
 use fields::Went;
+use kilovars::Kvar;
 use kilowatts::Kw;
 use layouts::Place;
+use reactive_zones::NEUTRAL_PRICE;
+use reactive_zones::NO_MINIMUM;
 use row_places::Minima;
 use row_places::MinimaRow;
 use row_places::Zone;
@@ -11,10 +14,11 @@ ghost use Prim.Native.Nat.{_≤_};
 ghost use lib.ListN.{length};
 ghost use Rattle.layouts.specs.Layout.{list};
 ghost use Rattle.model.specs.Messages as M;
+ghost use Rattle.model.specs.ByEdition as B;
 ghost use Rattle.row_places.specs.Figures.{minimaRow};
 ghost use Rattle.records.specs.Views.{minimaIn, mostIntervals};
 ghost use Rattle.fields.specs.Got.{got, told};
-ghost use Rattle.zone_reader.specs.Zones.{zoneFrom, terms, termsIn, ZoneDone};
+ghost use Rattle.zone_reader.specs.Zones.{zoneFrom, zoneWith, terms, termsIn, ahead, aheadIn, ZoneDone};
 
 // "shares for rgu, rgd, scr, nsc 10 each (0..1,000 thousandths)"
 const SHARE_BITS: u64 = 10;
@@ -43,6 +47,7 @@ pub struct MinimaRead {
     pub minima: Minima,
 }
 
+// A zone of what every edition has.
 fn zone_of(shares: [u32; 4], prices: [u32; 6]) -> Zone
     ensures { λ r. ⌜ r ≡ zoneFrom shares prices ⌝ }
 {
@@ -52,10 +57,28 @@ fn zone_of(shares: [u32; 4], prices: [u32; 6]) -> Zone
         scr: shares[2],
         nsc: shares[3],
         prices,
+        qru: NEUTRAL_PRICE,
+        qrd: NEUTRAL_PRICE,
     }
 }
 
-// Shares and prices, ahead of the intervals.
+// The same with its prices of reactive reserves.
+fn zone_with(z: Zone, qru: u32, qrd: u32) -> Zone
+    ensures { λ r. ⌜ r ≡ zoneWith z qru qrd ⌝ }
+{
+    let prices = z.prices;
+    Zone {
+        rgu: z.rgu,
+        rgd: z.rgd,
+        scr: z.scr,
+        nsc: z.nsc,
+        prices,
+        qru,
+        qrd,
+    }
+}
+
+// Shares and the six prices.
 fn read_terms(s: &[u8], p: Place) -> ZoneRead
     ensures { λ r. ⌜ told (r .went) (termsIn (r .zone)) ≡ got terms (now (s .entry)) p ⌝ }
 {
@@ -79,7 +102,23 @@ fn read_terms(s: &[u8], p: Place) -> ZoneRead
     ZoneRead { went, zone }
 }
 
-// The minima of one interval.
+// Shares and all prices: what stands ahead of the intervals.
+fn read_ahead(s: &[u8], p: Place, edition: u32) -> ZoneRead
+    ensures { λ r. ⌜ told (r .went) (aheadIn (r .zone)) ≡ got (ahead edition) (now (s .entry)) p ⌝ }
+{
+    let first = read_terms(s, p);
+    let went = first.went;
+    let Went::On(at_reactive) = went else {
+        return first;
+    };
+    let old = first.zone;
+    let prices = reactive_zones::read_prices(s, at_reactive, edition);
+    let went = prices.went;
+    let zone = zone_with(old, prices.qru, prices.qrd);
+    ZoneRead { went, zone }
+}
+
+// The minima of rru and rrd in one interval.
 fn read_pair(s: &[u8], p: Place) -> MinimaRead
     ensures { λ r. ⌜ told (r .went) (minimaIn (minimaRow (r .minima))) ≡ got M.minima (now (s .entry)) p ⌝ }
 {
@@ -88,18 +127,41 @@ fn read_pair(s: &[u8], p: Place) -> MinimaRead
     let minima = Minima {
         rru: Kw(v[0]),
         rrd: Kw(v[1]),
+        qru: NO_MINIMUM,
+        qrd: NO_MINIMUM,
+    };
+    MinimaRead { went, minima }
+}
+
+// All minima of one interval.
+fn read_interval(s: &[u8], p: Place, edition: u32) -> MinimaRead
+    ensures { λ r. ⌜ told (r .went) (minimaIn (minimaRow (r .minima))) ≡ got (B.minima edition) (now (s .entry)) p ⌝ }
+{
+    let pair = read_pair(s, p);
+    let went = pair.went;
+    let Went::On(at_reactive) = went else {
+        return pair;
+    };
+    let old = pair.minima;
+    let reactive = reactive_zones::read_minima(s, at_reactive, edition);
+    let went = reactive.went;
+    let minima = Minima {
+        rru: Kw(old.rru.0),
+        rrd: Kw(old.rrd.0),
+        qru: Kvar(reactive.qru.0),
+        qrd: Kvar(reactive.qrd.0),
     };
     MinimaRead { went, minima }
 }
 
 // The minima of every interval.
-fn read_minima(s: &[u8], p: Place, minima: &mut [MinimaRow]) -> Went
-    ensures { λ r. ⌜ told r (map minimaIn (now (minima .exit))) ≡ got (list (length (now (minima .exit))) M.minima) (now (s .entry)) p ⌝ }
+fn read_minima(s: &[u8], p: Place, edition: u32, minima: &mut [MinimaRow]) -> Went
+    ensures { λ r. ⌜ told r (map minimaIn (now (minima .exit))) ≡ got (list (length (now (minima .exit))) (B.minima edition)) (now (s .entry)) p ⌝ }
 {
     let mut q = p;
     let mut k: usize = 0;
     while k < minima.len() {
-        let one = read_pair(s, q);
+        let one = read_interval(s, q, edition);
         let went = one.went;
         let x = one.minima;
         let Went::On(next) = went else {
@@ -112,17 +174,17 @@ fn read_minima(s: &[u8], p: Place, minima: &mut [MinimaRow]) -> Went
     Went::On(q)
 }
 
-// A zone, in whatever edition; its minima for each interval into its part of the table.
+// A zone; its minima for each interval into its part of the table.
 pub fn read_zone(s: &[u8], p: Place, edition: u32, minima: &mut [MinimaRow]) -> ZoneRead
     requires { ⌜ length (now minima) ≤ mostIntervals ⌝ }
     ensures { λ r. ⌜ ZoneDone edition (now (s .entry)) p (r .went) (r .zone) (now (minima .exit)) ⌝ }
 {
-    let ahead = read_terms(s, p);
+    let ahead = read_ahead(s, p, edition);
     let went = ahead.went;
     let Went::On(at_minima) = went else {
         return ahead;
     };
     let zone = ahead.zone;
-    let went = read_minima(s, at_minima, minima);
+    let went = read_minima(s, at_minima, edition, minima);
     ZoneRead { went, zone }
 }

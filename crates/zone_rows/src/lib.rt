@@ -4,13 +4,18 @@ ghost use mathlib.Core.List.{[]};
 ghost use Prim.Native.Nat.{_<_};
 ghost use lib.ListN.{getD, length, set};
 ghost use Rattle.row_places.specs.Figures.{zoneRow, minimaRow, zoneOf, minimaOf};
+use kilovars::Kvar;
 use kilowatts::Kw;
+use row_places::MINIMA_QRD;
+use row_places::MINIMA_QRU;
 use row_places::MINIMA_RRD;
 use row_places::MINIMA_RRU;
 use row_places::Minima;
 use row_places::MinimaRow;
 use row_places::ZONE_NSC;
 use row_places::ZONE_NSC_PRICE;
+use row_places::ZONE_QRD_PRICE;
+use row_places::ZONE_QRU_PRICE;
 use row_places::ZONE_RGD;
 use row_places::ZONE_RGD_PRICE;
 use row_places::ZONE_RGU;
@@ -40,6 +45,8 @@ pub fn zone_at(zones: &[ZoneRow], z: usize) -> Zone
             r[ZONE_RRU_PRICE],
             r[ZONE_RRD_PRICE],
         ],
+        qru: r[ZONE_QRU_PRICE],
+        qrd: r[ZONE_QRD_PRICE],
     }
 }
 
@@ -51,6 +58,8 @@ pub fn minima_at(minima: &[MinimaRow], k: usize) -> Minima
     Minima {
         rru: Kw(r[MINIMA_RRU]),
         rrd: Kw(r[MINIMA_RRD]),
+        qru: Kvar(r[MINIMA_QRU]),
+        qrd: Kvar(r[MINIMA_QRD]),
     }
 }
 
@@ -69,6 +78,8 @@ fn zone_row(z: Zone) -> ZoneRow
         prices[3],
         prices[4],
         prices[5],
+        z.qru,
+        z.qrd,
     ]
 }
 
@@ -85,5 +96,5 @@ pub fn put_minima(minima: &mut [MinimaRow], k: usize, x: Minima)
     requires { ⌜ k < length (now minima) ⌝ }
     ensures { λ _. ⌜ now (minima .exit) ≡ set (now (minima .entry)) k (minimaRow x) ⌝ }
 {
-    minima[k] = [x.rru.0, x.rrd.0];
+    minima[k] = [x.rru.0, x.rrd.0, x.qru.0, x.qrd.0];
 }

@@ -25,7 +25,7 @@ use Rattle.row_places.specs.declared.Minima.{Minima}
 use Rattle.row_places.specs.Figures.{sideAt, zonebitsAt, inZone, settingOf, zoneOf, minimaOf}
 use Rattle.numbers.specs.Parts.{part, part-at}
 use Rattle.numbers.specs.Ranges.{sum-next, sum-skip, largest-next, largest-skip}
-use Rattle.records.specs.Views.{eightIn, systemIn, planIn, Ready}
+use Rattle.records.specs.Views.{eightIn, minimaIn, systemIn, planIn, Ready}
 use Rattle.records.specs.Viewed as W
 use Rattle.records.specs.Ranged.{shares-small}
 use Rattle.zone_totals.specs.declared.ZoneSums.{ZoneSums}
@@ -199,7 +199,7 @@ module _ {front : Front} {halves : List ℕ} {zones minima devices cells setting
     standing : here .nsc * s .unit .0 ≡ zone q z .shares .nsc * C.largestUnit q p t z
     standing = part-of (share (λ x. x .nsc)) unit-all
 
-    minimum : (f : M.Minima → ℕ) → f (getD (zone q z .minima) t noMinima) ≡ f (record { rru = least .rru .0; rrd = least .rrd .0 })
+    minimum : (f : M.Minima → ℕ) → f (getD (zone q z .minima) t noMinima) ≡ f (minimaIn (getD (part m z minima) t []))
     minimum f = ap f (W.minima-are halves zones minima devices cells z l t)
 
     pub thousandths : Thousandths here

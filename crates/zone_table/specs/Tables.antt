@@ -24,7 +24,7 @@ pub record Fits (n m : ℕ) (heads table : List (List ℕ)) : Type 0 where
   pub parts : n * m ≤ length table
 
 -- the n first zones
-abbrev pub zonesIn : (n m : ℕ) → (zones minima : List (List ℕ)) → List (C.Zone × C.Six)
+abbrev pub zonesIn : (n m : ℕ) → (zones minima : List (List ℕ)) → List (C.Zone × C.Kinds)
 zonesIn n m zones minima = rows (λ z. zonePair (getD zones z []) (part m z minima)) n
 
 -- a device's row with its part of the cells

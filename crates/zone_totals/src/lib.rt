@@ -60,7 +60,7 @@ fn with_member(s: ZoneSums, side: u32, p: Kw, r: Reserves) -> ZoneSums
 }
 
 // "zone bits 4, zone 1 first"
-fn in_zone(zonebits: u32, z: usize) -> bool
+pub fn in_zone(zonebits: u32, z: usize) -> bool
     requires { ⌜ z < mostZones ⌝ }
     ensures { λ r. ⌜ r ≡ inZone zonebits z ⌝ }
 {

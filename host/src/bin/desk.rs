@@ -119,12 +119,12 @@ impl fmt::Display for Trouble {
 fn meaning(number: u64) -> &'static str {
     match number {
         1 => "the message ends before or inside the field at this bit",
-        2 => "wrong kind or edition",
+        2 => "wrong kind, or an edition that is unknown or unlike the case's",
         3 => "a count out of range, or unlike the case's",
         4 => "a field out of its range",
         5 => {
-            "pmin above pmax, a window's start after its end, its end after the day's, \
-             or a zone bit above the zone count"
+            "pmin above pmax, qmin above qmax, a window's start after its end, its end after \
+             the day's, or a zone bit above the zone count"
         }
         6 => "a fill bit that is not 0, or a surplus byte",
         _ => "a number without a meaning",
@@ -346,7 +346,7 @@ fn inspect_file(path: &Path) -> Result<Answer, Trouble> {
         other => return Err(Trouble::Defect(format!("the plan unit answered {other}"))),
     }
     let case = read_case(&message).ok_or_else(differs)?;
-    let counts = [case.devices.len(), case.intervals.len(), case.zones];
+    let counts = [case.devices.len(), case.intervals.len(), case.zones.len()];
     if counts.map(|count| count as u64) != told.figures[..3] {
         return Err(differs());
     }

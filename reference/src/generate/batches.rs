@@ -1,11 +1,12 @@
 //! Random batches for the long run: one case, many plans.
 
 use crate::batch::{append_length, append_message, LONGEST_MESSAGE};
+use crate::edition::Edition;
 use crate::encode::{encode_case, encode_plan};
 use crate::generate::breaks::{
     metered_plan, nudged_plan, plan_breaking, plan_broken_severally, recommitted_plan,
 };
-use crate::generate::damage::{contradict, damaged, give_too_many_states, CONTRADICTIONS};
+use crate::generate::damage::{contradict, contradictions, damaged, give_too_many_states};
 use crate::generate::plans::{good_plan, wild_plan};
 use crate::generate::sample::{random_sample, wild_case, Sample};
 use crate::generate::shape::Size;
@@ -19,7 +20,7 @@ pub fn random_batch(rng: &mut Rng, size: Size, plans: usize) -> Vec<u8> {
         _ => {
             let sample = random_sample(rng, size);
             let mut batch = Vec::new();
-            append_message(&mut batch, &encode_case(&sample.case).bytes);
+            append_message(&mut batch, &encode_case(sample.edition, &sample.case).bytes);
             for _ in 0..plans {
                 append_message(&mut batch, &random_plan_message(rng, &sample));
             }
@@ -42,26 +43,38 @@ pub fn random_size(rng: &mut Rng) -> Size {
     }
 }
 
-/// A plan's message: accepted in a good share, broken at any rule, or refused.
+/// A plan's message: accepted in a good share, broken at any rule of the edition, or refused.
 pub fn random_plan_message(rng: &mut Rng, sample: &Sample) -> Vec<u8> {
+    let edition = sample.edition;
     let plan = match rng.below(100) {
         0..=3 => plan_broken_severally(rng, sample),
         4..=11 => nudged_plan(rng, sample),
         12..=16 => recommitted_plan(rng, sample),
-        17..=18 => wild_plan(rng, &sample.case),
+        17..=18 => wild_plan(rng, edition, &sample.case),
         19..=22 => metered_plan(rng, sample),
         23..=52 => {
-            let rule = rng.from_to(1, 20) as u8;
+            let rule = rng.from_to(1, i128::from(edition.last_rule())) as u8;
             plan_breaking(rng, sample, rule).unwrap_or_else(|| nudged_plan(rng, sample))
         }
         53..=60 => {
-            let message = encode_plan(&good_plan(rng, sample));
+            let message = encode_plan(edition, &good_plan(rng, sample));
             return damaged(rng, &message);
         }
-        61 => return encode_case(&sample.case).bytes,
+        61 => return encode_case(edition, &sample.case).bytes,
+        62 => return plan_of_another_edition(rng, sample),
         _ => good_plan(rng, sample),
     };
-    encode_plan(&plan).bytes
+    encode_plan(edition, &plan).bytes
+}
+
+/// A plan, whole and good but for its edition: "A plan's edition equals its case's, else 2."
+pub fn plan_of_another_edition(rng: &mut Rng, sample: &Sample) -> Vec<u8> {
+    let others: Vec<Edition> = Edition::ALL
+        .into_iter()
+        .filter(|&edition| edition != sample.edition)
+        .collect();
+    let plan = good_plan(rng, sample).without_reactive_power();
+    encode_plan(rng.pick(&others), &plan).bytes
 }
 
 /// A batch whose case is refused; what follows it is never read.
@@ -70,7 +83,7 @@ pub fn refused_case_batch(rng: &mut Rng, size: Size) -> Vec<u8> {
     let contradicts = rng.chance(50);
     if contradicts {
         for _ in 0..1 + rng.below(3) {
-            let contradiction = rng.pick(&CONTRADICTIONS);
+            let contradiction = rng.pick(contradictions(sample.edition));
             contradict(rng, &mut sample.case, contradiction);
         }
     }
@@ -78,7 +91,7 @@ pub fn refused_case_batch(rng: &mut Rng, size: Size) -> Vec<u8> {
     if is_overfull {
         give_too_many_states(rng, &mut sample.case);
     }
-    let message = encode_case(&sample.case);
+    let message = encode_case(sample.edition, &sample.case);
     let mut batch = Vec::new();
     let bytes = if (contradicts || is_overfull) && rng.chance(70) {
         message.bytes
@@ -87,17 +100,17 @@ pub fn refused_case_batch(rng: &mut Rng, size: Size) -> Vec<u8> {
     };
     append_message(&mut batch, &bytes);
     let plan = good_plan(rng, &sample);
-    append_message(&mut batch, &encode_plan(&plan).bytes);
+    append_message(&mut batch, &encode_plan(sample.edition, &plan).bytes);
     batch
 }
 
 fn wild_batch(rng: &mut Rng, size: Size, plans: usize) -> Vec<u8> {
-    let case = wild_case(rng, size);
+    let (edition, case) = wild_case(rng, size);
     let mut batch = Vec::new();
-    append_message(&mut batch, &encode_case(&case).bytes);
+    append_message(&mut batch, &encode_case(edition, &case).bytes);
     for _ in 0..plans {
-        let plan = wild_plan(rng, &case);
-        append_message(&mut batch, &encode_plan(&plan).bytes);
+        let plan = wild_plan(rng, edition, &case);
+        append_message(&mut batch, &encode_plan(edition, &plan).bytes);
     }
     batch
 }

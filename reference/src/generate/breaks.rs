@@ -1,10 +1,12 @@
 //! Plans broken at a chosen rule, by as little as breaks it or by more.
 
 use crate::bits::HIGHEST_POWER;
-use crate::case::{Device, Reserves, Side};
+use crate::case::{Device, ReactiveReserves, Reserves, Side};
+use crate::edition::Edition;
 use crate::forced::{commit, Commitment};
 use crate::generate::device::random_commitment;
-use crate::generate::plans::{good_plan, plan_of};
+use crate::generate::plans::{good_plan, plan_of, set_reactive_power};
+use crate::generate::reactive::Running;
 use crate::generate::sample::Sample;
 use crate::generate::schedule::Schedule;
 use crate::plan::{Plan, Setting};
@@ -60,14 +62,34 @@ fn plan_with_broken_setting(rng: &mut Rng, sample: &Sample, rule: u8) -> Option<
         .then_some(plan)
 }
 
-/// Breaks `rule`, one of 5 to 19, at a place drawn by chance; false if it cannot be broken there.
+/// Breaks `rule`, one of 5 to 19 and 21 to 26, at a place drawn by chance; false if it cannot be
+/// broken there.
 pub fn break_somewhere(rng: &mut Rng, sample: &Sample, plan: &mut Plan, rule: u8) -> bool {
-    let t = rng.below(sample.spans.len());
-    let j = rng.below(sample.case.devices.len());
-    break_at(rng, sample, plan, rule, (t, j))
+    let any = |rng: &mut Rng| {
+        let t = rng.below(sample.spans.len());
+        (t, rng.below(sample.case.devices.len()))
+    };
+    let place = match rule {
+        21..=26 if rng.chance(50) => place_of_meeting(rng, sample, plan).unwrap_or(any(rng)),
+        _ => any(rng),
+    };
+    break_at(rng, sample, plan, rule, place)
 }
 
-/// Breaks `rule`, one of 5 to 19, in interval `t` at device `j`; false if it cannot be.
+/// A place, as interval and device, where trajectories meet, if the plan has any.
+fn place_of_meeting(rng: &mut Rng, sample: &Sample, plan: &Plan) -> Option<(usize, usize)> {
+    let mut places = Vec::new();
+    for (j, device) in sample.case.devices.iter().enumerate() {
+        let on = plan.intervals.iter().map(|row| row[j].on).collect();
+        let bracket = commit(device, &sample.spans, on).bracket;
+        let of_device = (0..bracket.len()).filter(|&t| bracket[t] > 1);
+        places.extend(of_device.map(|t| (t, j)));
+    }
+    (!places.is_empty()).then(|| rng.pick(&places))
+}
+
+/// Breaks `rule`, one of 5 to 19 and 21 to 26, in interval `t` at device `j`; false if it cannot
+/// be.
 pub fn break_at(
     rng: &mut Rng,
     sample: &Sample,
@@ -87,7 +109,11 @@ pub fn break_at(
 
 fn is_sayable(setting: &Setting) -> bool {
     let in_range = |power: i128| (0..=HIGHEST_POWER).contains(&power);
-    in_range(setting.online_power) && setting.reserves.in_order().into_iter().all(in_range)
+    let reactive_reserves = setting.reactive_reserves.in_order();
+    in_range(setting.online_power)
+        && setting.reserves.in_order().into_iter().all(in_range)
+        && in_range(setting.reactive_power.abs())
+        && reactive_reserves.into_iter().all(in_range)
 }
 
 /// A setting to be broken, and what bounds it.
@@ -99,6 +125,7 @@ struct Spot<'a> {
     highest: i128,
     lowest: i128,
     trajectory: i128,
+    bracket: i128,
     /// How far beyond a bound to go.
     excess: i128,
 }
@@ -119,6 +146,7 @@ impl<'a> Spot<'a> {
             highest: previous + most_rise(device, &sample.spans, &commitment, t),
             lowest: previous - most_fall(device, &sample.spans, &commitment, t),
             trajectory: commitment.trajectory(t),
+            bracket: commitment.bracket[t],
             excess: match rng.below(3) {
                 0 => rng.from_to(1, 1_000),
                 _ => 1,
@@ -185,8 +213,36 @@ impl<'a> Spot<'a> {
             17 => self.below_pmin(rng),
             18 => self.above_pmax_while_off(),
             19 => self.above_caps(),
+            25 if rng.chance(50) => self.beside_equality(rng),
+            21..=26 => {
+                let running = self.running(self.setting.online_power);
+                running.broken(rng, &self.setting, rule, excess)
+            }
             _ => None,
         }
+    }
+
+    /// The device in this interval, with some online power.
+    fn running(&self, online_power: i128) -> Running<'a> {
+        Running {
+            device: self.device,
+            t: self.t,
+            bracket: self.bracket,
+            power: online_power + self.trajectory,
+        }
+    }
+
+    /// Rule 25, by a power for which q would not be a whole number of kvar or is another.
+    fn beside_equality(&self, rng: &mut Rng) -> Option<Setting> {
+        let terms = &self.device.terms[self.t];
+        let power = self.setting.online_power + self.trajectory + rng.pick(&[-1, 1]);
+        let mut setting = self.with_power(power)?;
+        setting.reserves = Reserves::default();
+        let online = setting.online_power;
+        let keeps_others = online >= self.while_on(terms.pmin)
+            && online <= self.while_on(terms.pmax)
+            && power <= terms.sum_of_caps();
+        (keeps_others && self.running(online).breaks(&setting, 25)).then_some(setting)
     }
 
     /// Rule 15, with the limits of rules 12 to 14 kept: only while off.
@@ -285,11 +341,18 @@ impl<'a> Spot<'a> {
     }
 }
 
+/// A rule of one device in one interval that an edition has, none of rules 1 to 4.
+pub fn random_rule_of_a_setting(rng: &mut Rng, edition: Edition) -> u8 {
+    let is_reactive = edition.has_reactive_power() && rng.chance(50);
+    let (least, greatest) = if is_reactive { (21, 26) } else { (5, 19) };
+    rng.from_to(least, greatest) as u8
+}
+
 /// A good plan broken at several places.
 pub fn plan_broken_severally(rng: &mut Rng, sample: &Sample) -> Plan {
     let mut plan = good_plan(rng, sample);
     for _ in 0..ATTEMPTS {
-        let rule = rng.from_to(5, 19) as u8;
+        let rule = random_rule_of_a_setting(rng, sample.edition);
         break_somewhere(rng, sample, &mut plan, rule);
     }
     plan
@@ -300,36 +363,62 @@ pub fn plan_broken_severally(rng: &mut Rng, sample: &Sample) -> Plan {
 pub fn metered_plan(rng: &mut Rng, sample: &Sample) -> Plan {
     let mut plan = good_plan(rng, sample);
     let drift = rng.pick(&[1, 30, 1_000]);
-    let metered =
-        |rng: &mut Rng, figure: i128| (figure + rng.from_to(-drift, drift)).clamp(0, HIGHEST_POWER);
+    let metered = |rng: &mut Rng, figure: i128, least: i128| {
+        (figure + rng.from_to(-drift, drift)).clamp(least, HIGHEST_POWER)
+    };
     for setting in plan.intervals.iter_mut().flatten() {
-        setting.online_power = metered(rng, setting.online_power);
+        setting.online_power = metered(rng, setting.online_power, 0);
         if rng.chance(20) {
             let eight = setting.reserves.in_order();
-            let drifted = eight.map(|reserve| metered(rng, reserve));
+            let drifted = eight.map(|reserve| metered(rng, reserve, 0));
             setting.reserves = Reserves::from_order(drifted);
         }
         setting.on ^= rng.chance(3);
+        if sample.edition.has_reactive_power() && rng.chance(30) {
+            setting.reactive_power = metered(rng, setting.reactive_power, -HIGHEST_POWER);
+            let two = setting.reactive_reserves.in_order();
+            let drifted = two.map(|reserve| metered(rng, reserve, 0));
+            setting.reactive_reserves = ReactiveReserves::from_order(drifted);
+        }
     }
     plan
 }
 
-/// A good plan in which one device follows any commitment at all, at pmin while on.
+/// A good plan in which one device follows any commitment at all, at pmin while on; with reactive
+/// power that keeps rules 21 to 26 where it can, or is nudged at one place.
 pub fn recommitted_plan(rng: &mut Rng, sample: &Sample) -> Plan {
     let mut plan = good_plan(rng, sample);
     let j = rng.below(sample.case.devices.len());
-    let restless = rng.chance(50);
-    let (_, commitment) = random_commitment(rng, sample.spans.len());
-    for (t, calm_on) in commitment.into_iter().enumerate() {
-        let on = if restless { rng.chance(50) } else { calm_on };
-        let pmin = sample.case.devices[j].terms[t].pmin;
-        plan.intervals[t][j] = Setting {
-            on,
-            online_power: if on { pmin } else { 0 },
-            reserves: Reserves::default(),
-        };
+    let device = &sample.case.devices[j];
+    let mut settings = settings_of_any_commitment(rng, device, sample.spans.len());
+    if sample.edition.has_reactive_power() {
+        let on = settings.iter().map(|setting| setting.on).collect();
+        let commitment = commit(device, &sample.spans, on);
+        set_reactive_power(rng, device, &commitment, &mut settings);
+        if rng.chance(40) {
+            let t = rng.below(settings.len());
+            nudge_reactive_power(rng, &mut settings[t]);
+        }
+    }
+    for (t, setting) in settings.into_iter().enumerate() {
+        plan.intervals[t][j] = setting;
     }
     plan
+}
+
+/// Settings of a device that is switched by chance, at pmin while on.
+fn settings_of_any_commitment(rng: &mut Rng, device: &Device, intervals: usize) -> Vec<Setting> {
+    let restless = rng.chance(50);
+    let (_, commitment) = random_commitment(rng, intervals);
+    let mut setting = |(t, calm_on): (usize, bool)| {
+        let on = if restless { rng.chance(50) } else { calm_on };
+        Setting {
+            on,
+            online_power: if on { device.terms[t].pmin } else { 0 },
+            ..Setting::default()
+        }
+    };
+    (0..).zip(commitment).map(&mut setting).collect()
 }
 
 /// A good plan with one figure, or one commitment, changed a little.
@@ -338,18 +427,30 @@ pub fn nudged_plan(rng: &mut Rng, sample: &Sample) -> Plan {
     let t = rng.below(sample.spans.len());
     let j = rng.below(sample.case.devices.len());
     let setting = &mut plan.intervals[t][j];
-    let near = |rng: &mut Rng, figure: i128| {
-        (figure + rng.pick(&[-1, 1, -60, 60])).clamp(0, HIGHEST_POWER)
-    };
     match rng.below(10) {
         0 => setting.on = !setting.on,
-        1 | 2 => setting.online_power = near(rng, setting.online_power),
+        1 | 2 => setting.online_power = near(rng, setting.online_power, 0),
+        3..=6 if sample.edition.has_reactive_power() => nudge_reactive_power(rng, setting),
         _ => {
             let mut eight = setting.reserves.in_order();
             let k = rng.below(8);
-            eight[k] = near(rng, eight[k]);
+            eight[k] = near(rng, eight[k], 0);
             setting.reserves = Reserves::from_order(eight);
         }
     }
     plan
+}
+
+/// A figure beside another, not below `least`.
+fn near(rng: &mut Rng, figure: i128, least: i128) -> i128 {
+    (figure + rng.pick(&[-1, 1, -60, 60])).clamp(least, HIGHEST_POWER)
+}
+
+fn nudge_reactive_power(rng: &mut Rng, setting: &mut Setting) {
+    let reserves = &mut setting.reactive_reserves;
+    match rng.below(4) {
+        0 => reserves.qru = near(rng, reserves.qru, 0),
+        1 => reserves.qrd = near(rng, reserves.qrd, 0),
+        _ => setting.reactive_power = near(rng, setting.reactive_power, -HIGHEST_POWER),
+    }
 }

@@ -2,6 +2,7 @@
 
 use crate::bits::{overwrite, HIGHEST_POWER};
 use crate::case::{Case, StartupState, Terms, MOST_STATES};
+use crate::edition::Edition;
 use crate::encode::{Class, Encoded, Field};
 use crate::rng::Rng;
 
@@ -83,7 +84,25 @@ pub fn with_surplus_bytes(rng: &mut Rng, bytes: &[u8]) -> Vec<u8> {
     longer
 }
 
-/// The kinds of contradiction that number 5 names.
+/// Where a message of any kind has its edition.
+const EDITION_PLACE: usize = 4;
+const EDITION_WIDTH: usize = 4;
+
+/// The message with the number of another edition in its header: a plan is refused for it, a case
+/// is read with that edition's fields.
+pub fn with_other_edition(rng: &mut Rng, message: &Encoded) -> Vec<u8> {
+    let stated = i128::from(message.bytes[0] & 15);
+    let others: Vec<Edition> = Edition::ALL
+        .into_iter()
+        .filter(|edition| edition.figure() != stated)
+        .collect();
+    let mut bytes = message.bytes.clone();
+    let other = rng.pick(&others).figure();
+    overwrite(&mut bytes, EDITION_PLACE, EDITION_WIDTH, other);
+    bytes
+}
+
+/// The kinds of contradiction that number 5 names, and "A qmin above qmax is a contradiction".
 #[derive(Clone, Copy, PartialEq, Eq, Debug)]
 pub enum Contradiction {
     PminAbovePmax,
@@ -92,18 +111,31 @@ pub enum Contradiction {
     EnergyWindowBackward,
     EnergyWindowBeyondDay,
     ZoneBitAboveCount,
+    QminAboveQmax,
 }
 
-pub const CONTRADICTIONS: [Contradiction; 6] = [
+/// Every kind, those of edition 1 first.
+const CONTRADICTIONS: [Contradiction; 7] = [
     Contradiction::PminAbovePmax,
     Contradiction::StartWindowBackward,
     Contradiction::StartWindowBeyondDay,
     Contradiction::EnergyWindowBackward,
     Contradiction::EnergyWindowBeyondDay,
     Contradiction::ZoneBitAboveCount,
+    Contradiction::QminAboveQmax,
 ];
 
-/// Makes a case contradict itself at a place drawn by chance; false if nothing there can.
+/// The kinds of contradiction that a case of an edition can hold.
+pub fn contradictions(edition: Edition) -> &'static [Contradiction] {
+    if edition.has_reactive_power() {
+        &CONTRADICTIONS
+    } else {
+        &CONTRADICTIONS[..6]
+    }
+}
+
+/// Makes a case contradict itself at a place drawn by chance, in a way that its edition can say;
+/// false if nothing there can.
 pub fn contradict(rng: &mut Rng, case: &mut Case, contradiction: Contradiction) -> bool {
     let last_end: i128 = case.durations.iter().sum();
     let after_day = rng.pick(&[last_end + 1, LATEST]);
@@ -128,6 +160,7 @@ pub fn contradict(rng: &mut Rng, case: &mut Case, contradiction: Contradiction) 
         Contradiction::ZoneBitAboveCount => any_of(rng, &mut device.zone_bits[zones..])
             .map(|member| *member = true)
             .is_some(),
+        Contradiction::QminAboveQmax => part_qmin_and_qmax(rng, &mut device.terms[t]),
     }
 }
 
@@ -178,11 +211,21 @@ fn part_pmin_and_pmax(rng: &mut Rng, terms: &mut Terms) -> bool {
     terms.pmin > terms.pmax
 }
 
+/// Puts qmin above qmax; false where qmin is the least and qmax the greatest reactive power.
+fn part_qmin_and_qmax(rng: &mut Rng, terms: &mut Terms) -> bool {
+    if terms.qmax < HIGHEST_POWER {
+        terms.qmin = rng.pick(&[terms.qmax + 1, HIGHEST_POWER]);
+    } else if terms.qmin > -HIGHEST_POWER {
+        terms.qmax = rng.pick(&[terms.qmin - 1, -HIGHEST_POWER]);
+    }
+    terms.qmin > terms.qmax
+}
+
 /// Damages a message in one of the ways of numbers 1, 2, 3, 4 and 6, or several at once, or by
 /// bits turned at random.
 pub fn damaged(rng: &mut Rng, message: &Encoded) -> Vec<u8> {
     let field = message.fields[rng.below(message.fields.len())];
-    let damaged = match rng.below(12) {
+    let damaged = match rng.below(13) {
         0 | 1 => cut_at(rng, message, &field),
         2 => any_out_of_range(rng, message, Class::Kind),
         3 | 4 => any_out_of_range(rng, message, Class::Count),
@@ -192,6 +235,7 @@ pub fn damaged(rng: &mut Rng, message: &Encoded) -> Vec<u8> {
         9 => with_fill_bit(rng, message).map(|bytes| with_surplus_bytes(rng, &bytes)),
         10 => any_out_of_range(rng, message, Class::Figure)
             .map(|bytes| with_surplus_bytes(rng, &bytes)),
+        11 => Some(with_other_edition(rng, message)),
         _ => Some(with_turned_bits(rng, &message.bytes)),
     };
     damaged.unwrap_or_else(|| cut_anywhere(rng, &message.bytes))

@@ -3,13 +3,15 @@
 //! an interval's edge or a minute beside it, equal prices and costs.
 
 use crate::case::{
-    Block, Device, EnergyKind, EnergyWindow, Ramps, Reserves, Side, StartWindow, StartupState,
-    Status, Terms, MOST_ITEMS, MOST_STATES, MOST_ZONES,
+    Block, Device, EnergyKind, EnergyWindow, Link, Ramps, Reserves, Side, StartWindow,
+    StartupState, Status, Terms, MOST_ITEMS, MOST_STATES, MOST_ZONES,
 };
 use crate::clock::Span;
+use crate::edition::Edition;
 use crate::energy::EnergyRule;
 use crate::forced::{commit, Commitment};
-use crate::generate::schedule::{schedule, Waived};
+use crate::generate::reactive::{random_grid, set_reactive_power, snap_to_grid};
+use crate::generate::schedule::{schedule, Schedule, Waived};
 use crate::generate::shape::{Shape, Size};
 use crate::ours::downtime;
 use crate::rng::Rng;
@@ -35,11 +37,24 @@ pub struct Built {
 }
 
 /// Builds a device for a day.
-pub fn random_device(rng: &mut Rng, shape: &Shape, spans: &[Span], scale: Scale) -> Built {
+pub fn random_device(
+    rng: &mut Rng,
+    edition: Edition,
+    shape: &Shape,
+    spans: &[Span],
+    scale: Scale,
+) -> Built {
     let (initially_on, on) = random_commitment(rng, spans.len());
     let mut device = bare_device(rng, spans.len(), initially_on, scale);
+    let grid = if edition.has_reactive_power() {
+        random_grid(rng)
+    } else {
+        1
+    };
     set_powers(rng, shape, &mut device, scale);
+    snap_to_grid(&mut device, grid);
     set_ramps(rng, spans, &on, &mut device);
+    snap_to_grid(&mut device, grid);
     make_followable(spans, &on, &mut device);
     let commitment = commit(&device, spans, on);
     if rng.chance(25) {
@@ -47,19 +62,40 @@ pub fn random_device(rng: &mut Rng, shape: &Shape, spans: &[Span], scale: Scale)
     }
     set_minima(rng, spans, &commitment, &mut device);
     set_statuses(rng, &commitment, &mut device);
-    device.startup_states = (0..shape.items(rng, MOST_STATES))
-        .map(|_| random_state(rng, spans, &commitment, &device, scale))
-        .collect();
-    device.start_windows = (0..shape.items(rng, MOST_ITEMS))
-        .map(|_| random_start_window(rng, spans, &commitment))
-        .collect();
-    device.energy_windows = (0..shape.items(rng, MOST_ITEMS))
-        .map(|_| random_energy_window(rng, spans, &device, scale))
-        .collect();
+    set_lists(rng, shape, spans, &commitment, &mut device, scale);
+    if edition.has_reactive_power() {
+        let schedule = schedule_of(&device, spans, &commitment.on);
+        set_reactive_power(rng, &mut device, &schedule, scale, grid);
+    }
     Built {
         device,
         on: commitment.on,
     }
+}
+
+fn schedule_of(device: &Device, spans: &[Span], on: &[bool]) -> Schedule {
+    let schedule = schedule(device, spans, on.to_vec(), Waived::None);
+    schedule.expect("a device can follow its own commitment")
+}
+
+/// Startup states, start windows and energy windows.
+fn set_lists(
+    rng: &mut Rng,
+    shape: &Shape,
+    spans: &[Span],
+    commitment: &Commitment,
+    device: &mut Device,
+    scale: Scale,
+) {
+    device.startup_states = (0..shape.items(rng, MOST_STATES))
+        .map(|_| random_state(rng, spans, commitment, device, scale))
+        .collect();
+    device.start_windows = (0..shape.items(rng, MOST_ITEMS))
+        .map(|_| random_start_window(rng, spans, commitment))
+        .collect();
+    device.energy_windows = (0..shape.items(rng, MOST_ITEMS))
+        .map(|_| random_energy_window(rng, spans, device, scale))
+        .collect();
 }
 
 /// An initial state and a commitment: steady, switched once, or switched often.
@@ -84,13 +120,6 @@ pub fn random_commitment(rng: &mut Rng, intervals: usize) -> (bool, Vec<bool>) {
 }
 
 fn bare_device(rng: &mut Rng, intervals: usize, initially_on: bool, scale: Scale) -> Device {
-    let idle = Terms {
-        status: Status::Free,
-        pmin: 0,
-        pmax: 0,
-        blocks: Vec::new(),
-        reserve_prices: Reserves::default(),
-    };
     Device {
         side: rng.pick(&[Side::Producing, Side::Consuming]),
         zone_bits: [false; MOST_ZONES],
@@ -107,7 +136,8 @@ fn bare_device(rng: &mut Rng, intervals: usize, initially_on: bool, scale: Scale
         startup_states: Vec::new(),
         start_windows: Vec::new(),
         energy_windows: Vec::new(),
-        terms: vec![idle; intervals],
+        link: Link::None,
+        terms: vec![Terms::default(); intervals],
     }
 }
 
@@ -163,7 +193,7 @@ fn set_powers(rng: &mut Rng, shape: &Shape, device: &mut Device, scale: Scale) {
     }));
 }
 
-fn reserve_price(rng: &mut Rng, scale: Scale) -> i128 {
+pub fn reserve_price(rng: &mut Rng, scale: Scale) -> i128 {
     match scale {
         Scale::Calm => rng.from_to(0, 1),
         Scale::Low => rng.from_to(0, 9),

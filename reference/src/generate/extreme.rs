@@ -2,10 +2,11 @@
 //! the most breaches.
 
 use crate::case::{
-    Block, Case, Device, EnergyKind, EnergyWindow, Ramps, Reserves, Side, StartWindow,
-    StartupState, Status, Terms, Zone, MOST_DEVICES, MOST_INTERVALS, MOST_ITEMS, MOST_STATES,
-    MOST_ZONES,
+    Block, Case, Device, EnergyKind, EnergyWindow, Link, LinkLine, Ramps, ReactiveReserves,
+    Reserves, Side, StartWindow, StartupState, Status, Terms, Zone, MOST_DEVICES, MOST_INTERVALS,
+    MOST_ITEMS, MOST_SHORTFALLS, MOST_STATES, MOST_ZONES,
 };
+use crate::edition::Edition;
 use crate::plan::{Plan, Setting};
 use crate::worked_day::Day;
 
@@ -14,8 +15,9 @@ const HIGHEST_PRICE: i128 = 10_000;
 const HIGHEST_POWER: i128 = 100_000;
 
 /// Every price and every need as great as it can be, no reserve anywhere: 16 consuming devices that
-/// pay for their power, in all four zones, each with four energy minima over nothing.
-pub fn very_low_surplus_day() -> Day {
+/// pay for their power, in all four zones, each with four energy minima over nothing. In edition 2
+/// also every reactive need, and 100,000 kvar of each device that nothing produces.
+pub fn very_low_surplus_day(edition: Edition) -> Day {
     let unmet = EnergyWindow {
         kind: EnergyKind::Minimum,
         start: 0,
@@ -32,16 +34,75 @@ pub fn very_low_surplus_day() -> Day {
     };
     let zone = Zone {
         shares: [1_000; 4],
-        shortfall_prices: [100; 6],
-        ramping_minima: vec![[6_400_000; 2]; MOST_INTERVALS],
+        shortfall_prices: [100, 100, 100, 100, 100, 100, 1, 1],
+        minima: vec![[HIGHEST_MINIMUM, HIGHEST_MINIMUM, 0, 0]; MOST_INTERVALS],
     };
-    full_day(Case {
+    let day = full_day(Case {
         mismatch_price: HIGHEST_PRICE,
         overrun_price: HIGHEST_PRICE,
         durations: vec![360; MOST_INTERVALS],
         zones: vec![zone; MOST_ZONES],
         devices: vec![device; MOST_DEVICES],
-    })
+    });
+    if edition.has_reactive_power() {
+        with_greatest_reactive_needs(edition, day)
+    } else {
+        day
+    }
+}
+
+const HIGHEST_MINIMUM: i128 = 6_400_000;
+
+/// A day with every reactive figure at its greatest, and no reactive reserve.
+fn with_greatest_reactive_needs(edition: Edition, day: Day) -> Day {
+    let mut day = Day { edition, ..day };
+    for zone in &mut day.case.zones {
+        zone.shortfall_prices = [100; MOST_SHORTFALLS];
+        zone.minima.fill([HIGHEST_MINIMUM; 4]);
+    }
+    set_greatest_reactive_terms(&mut day.case);
+    for setting in day.plan.intervals.iter_mut().flatten() {
+        setting.reactive_power = HIGHEST_POWER;
+    }
+    day
+}
+
+/// Limits, prices and lines at the ends of their ranges.
+fn set_greatest_reactive_terms(case: &mut Case) {
+    let highest_line = LinkLine {
+        offset: HIGHEST_POWER,
+        slope: HIGHEST_SLOPE,
+    };
+    let lowest_line = LinkLine {
+        offset: -HIGHEST_POWER,
+        slope: -HIGHEST_SLOPE,
+    };
+    for device in &mut case.devices {
+        device.link = Link::TwoLines {
+            upper: highest_line,
+            lower: lowest_line,
+        };
+        for terms in &mut device.terms {
+            (terms.qmin, terms.qmax) = (-HIGHEST_POWER, HIGHEST_POWER);
+            terms.reactive_prices = ReactiveReserves::from_order([HIGHEST_PRICE; 2]);
+        }
+    }
+}
+
+const HIGHEST_SLOPE: i128 = 10_000;
+
+/// The very high surplus day in edition 2 with as much of both reactive reserves as a device can
+/// hold, at the highest price, and no zone that needs them.
+pub fn costly_reactive_reserves_day() -> Day {
+    let mut day = Day {
+        edition: Edition::Two,
+        ..very_high_surplus_day()
+    };
+    set_greatest_reactive_terms(&mut day.case);
+    for setting in day.plan.intervals.iter_mut().flatten() {
+        setting.reactive_reserves = ReactiveReserves::from_order([HIGHEST_POWER; 2]);
+    }
+    day
 }
 
 /// As many producing devices, paid for their power, as consuming ones at the highest price; no
@@ -64,31 +125,61 @@ pub fn very_high_surplus_day() -> Day {
 
 /// The most breaches that a plan can have: 16 devices that are switched in every interval, so that
 /// each breaks 15 rules in each of 48 intervals, rule 2 in the 24 in which it is on, rule 3 or 4 in
-/// all but the first, and rule 20 in four windows.
+/// all but the first, and rule 20 in four windows. In edition 2 four rules more in each interval:
+/// 21 to 24, or, of a device whose link is an equality, 21, 22, 25 and 26.
 ///
 /// No plan has more. Rules 5 and 6 are never broken at one place, nor rules 3 and 4; each interval
-/// more away from the initial state breaks rule 2 once more and is two switches less.
-pub fn most_breaches_day() -> Day {
+/// more away from the initial state breaks rule 2 once more and is two switches less. No link is of
+/// two kinds.
+pub fn most_breaches_day(edition: Edition) -> Day {
+    let day = most_breaches_without_reactive_power();
+    if edition.has_reactive_power() {
+        with_most_reactive_breaches(edition, day)
+    } else {
+        day
+    }
+}
+
+/// Limits and lines of 0, and both reserves as great as can be; every fourth device, two of either
+/// side, with an equality that its power is far from.
+fn with_most_reactive_breaches(edition: Edition, day: Day) -> Day {
+    let mut day = Day { edition, ..day };
+    let line = |slope| LinkLine { offset: 0, slope };
+    for (number, device) in day.case.devices.iter_mut().enumerate() {
+        device.link = match number / 2 % 4 {
+            0 => Link::Equality(line(1)),
+            _ => Link::TwoLines {
+                upper: line(0),
+                lower: line(0),
+            },
+        };
+    }
+    for setting in day.plan.intervals.iter_mut().flatten() {
+        setting.reactive_reserves = ReactiveReserves::from_order([HIGHEST_POWER; 2]);
+    }
+    day
+}
+
+fn most_breaches_without_reactive_power() -> Day {
     const POWER_ON: i128 = 50_000;
     const POWER_OFF: i128 = 25_000;
     let is_on = |t: usize| t.is_multiple_of(2);
     let terms = |t: usize| Terms {
         status: if is_on(t) { Status::Off } else { Status::On },
-        pmin: 0,
-        pmax: 0,
-        blocks: Vec::new(),
-        reserve_prices: Reserves::default(),
+        ..Terms::default()
     };
     let setting = |t: usize| Setting {
         on: is_on(t),
         online_power: if is_on(t) { POWER_ON } else { POWER_OFF },
         reserves: Reserves::from_order([HIGHEST_POWER; 8]),
+        ..Setting::default()
     };
     let device = |number: usize| {
         let side = [Side::Producing, Side::Consuming][number % 2];
         never_allowed(side, (0..MOST_INTERVALS).map(terms).collect())
     };
     Day {
+        edition: Edition::One,
         case: Case {
             mismatch_price: 1,
             overrun_price: 1,
@@ -141,6 +232,7 @@ fn device(side: Side, price: i128, state_cost: i128) -> Device {
         pmax: HIGHEST_POWER,
         blocks: vec![block; MOST_ITEMS],
         reserve_prices: Reserves::from_order([HIGHEST_PRICE; 8]),
+        ..Terms::default()
     };
     let state = StartupState {
         longest_downtime: 60_000,
@@ -152,9 +244,6 @@ fn device(side: Side, price: i128, state_cost: i128) -> Device {
         most_starts: 1,
     };
     Device {
-        side,
-        zone_bits: [false; MOST_ZONES],
-        initially_on: false,
         initial_power: HIGHEST_POWER,
         minutes_already_so: 60_000,
         minimum_up: 60_000,
@@ -165,14 +254,10 @@ fn device(side: Side, price: i128, state_cost: i128) -> Device {
             starting: 100_000,
             stopping: 100_000,
         },
-        on_cost: 0,
-        start_cost: 0,
-        stop_cost: 0,
         reserve_limits: Reserves::from_order([HIGHEST_POWER; 8]),
         startup_states: vec![state; MOST_STATES],
         start_windows: vec![window; MOST_ITEMS],
-        energy_windows: Vec::new(),
-        terms: vec![terms; MOST_INTERVALS],
+        ..Device::plain(side, vec![terms; MOST_INTERVALS])
     }
 }
 
@@ -181,9 +266,10 @@ fn full_day(case: Case) -> Day {
     let setting = Setting {
         on: true,
         online_power: HIGHEST_POWER,
-        reserves: Reserves::default(),
+        ..Setting::default()
     };
     Day {
+        edition: Edition::One,
         case,
         plan: Plan {
             intervals: vec![vec![setting; MOST_DEVICES]; MOST_INTERVALS],

@@ -4,6 +4,7 @@
 //! - [`device`]: a device built around a commitment that it can follow.
 //! - [`sample`]: a case with the schedules that its devices can and cannot follow.
 //! - [`schedule`]: the dispatch that a commitment leaves open.
+//! - [`reactive`]: reactive power of devices and plans.
 //! - [`plans`]: plans that keep every rule, and wild ones.
 //! - [`breaks`]: plans broken at a chosen rule.
 //! - [`damage`]: messages damaged in every way that numbers 1 to 6 name.
@@ -16,6 +17,7 @@ pub mod damage;
 pub mod device;
 pub mod extreme;
 pub mod plans;
+pub mod reactive;
 pub mod sample;
 pub mod schedule;
 pub mod shape;

@@ -1,10 +1,14 @@
 //! A generated case with, per device, schedules that keep the rules and schedules that break
 //! exactly one of rules 1 to 4 and 18 to 20.
 
-use crate::case::{Block, Case, Device, Reserves, Side, Status, Zone, MOST_ITEMS};
+use crate::case::{
+    Block, Case, Device, Reserves, Side, Status, Zone, MOST_ITEMS, MOST_MINIMA, MOST_SHORTFALLS,
+};
 use crate::clock::{spans, Span};
+use crate::edition::Edition;
 use crate::forced::{commit, Commitment};
 use crate::generate::device::{random_commitment, random_device, Scale};
+use crate::generate::reactive::{can_be_kept, scramble_reactive_power};
 use crate::generate::schedule::{schedule, Schedule, Waived};
 use crate::generate::shape::{Shape, Size};
 use crate::rng::Rng;
@@ -14,6 +18,7 @@ use crate::rules::{
 
 /// A case to plan for.
 pub struct Sample {
+    pub edition: Edition,
     pub case: Case,
     pub spans: Vec<Span>,
     /// Per device.
@@ -33,8 +38,14 @@ pub struct Spoilt {
     pub schedule: Schedule,
 }
 
-/// A case whose devices can each follow some schedule.
+/// A case of either edition whose devices can each follow some schedule.
 pub fn random_sample(rng: &mut Rng, size: Size) -> Sample {
+    let edition = rng.pick(&Edition::ALL);
+    sample_in(rng, edition, size)
+}
+
+/// A case of an edition whose devices can each follow some schedule.
+pub fn sample_in(rng: &mut Rng, edition: Edition, size: Size) -> Sample {
     let shape = Shape::random(rng, size);
     let scale = match rng.below(20) {
         0 => Scale::Extreme,
@@ -42,23 +53,32 @@ pub fn random_sample(rng: &mut Rng, size: Size) -> Sample {
         6..=11 => Scale::Calm,
         _ => Scale::Low,
     };
-    sample_of(rng, &shape, scale)
+    sample_of(rng, edition, &shape, scale)
 }
 
-/// A case of a given shape and scale.
-pub fn sample_of(rng: &mut Rng, shape: &Shape, scale: Scale) -> Sample {
+/// A case of a given edition, shape and scale; now and then with the content of edition 1.
+pub fn sample_of(rng: &mut Rng, edition: Edition, shape: &Shape, scale: Scale) -> Sample {
+    let content = if rng.chance(6) { Edition::One } else { edition };
+    Sample {
+        edition,
+        ..sample_with(rng, content, shape, scale)
+    }
+}
+
+/// A case with the content of an edition.
+fn sample_with(rng: &mut Rng, edition: Edition, shape: &Shape, scale: Scale) -> Sample {
     let durations = random_durations(rng, shape.intervals);
     let spans = spans(&durations);
     let mut devices = Vec::new();
     let mut pools = Vec::new();
     for _ in 0..shape.devices {
-        let built = random_device(rng, shape, &spans, scale);
+        let built = random_device(rng, edition, shape, &spans, scale);
         pools.push(find_schedules(rng, &built.device, &spans, &built.on));
         devices.push(built.device);
     }
     set_zone_bits(rng, shape.zones, &mut devices);
     let zones = (0..shape.zones)
-        .map(|_| random_zone(rng, shape.intervals, scale))
+        .map(|_| random_zone(rng, edition, shape.intervals, scale))
         .collect();
     let price = |rng: &mut Rng| match scale {
         Scale::Calm => 1,
@@ -67,6 +87,7 @@ pub fn sample_of(rng: &mut Rng, shape: &Shape, scale: Scale) -> Sample {
         Scale::Extreme => 10_000,
     };
     Sample {
+        edition,
         case: Case {
             mismatch_price: price(rng),
             overrun_price: price(rng),
@@ -91,7 +112,7 @@ fn random_durations(rng: &mut Rng, intervals: usize) -> Vec<i128> {
         .collect()
 }
 
-fn random_zone(rng: &mut Rng, intervals: usize, scale: Scale) -> Zone {
+fn random_zone(rng: &mut Rng, edition: Edition, intervals: usize, scale: Scale) -> Zone {
     let (share_scale, minimum_scale) = match scale {
         Scale::Calm => (rng.pick(&[0, 1]), 0),
         _ => (
@@ -99,26 +120,35 @@ fn random_zone(rng: &mut Rng, intervals: usize, scale: Scale) -> Zone {
             rng.pick(&[0, 20, 400, 60_000]),
         ),
     };
+    let shares = [(); 4].map(|_| match scale {
+        Scale::Extreme => 1_000,
+        _ => rng.from_to(0, share_scale),
+    });
+    let mut shortfall_prices = [1; MOST_SHORTFALLS];
+    for price in &mut shortfall_prices[..edition.shortfalls()] {
+        *price = shortfall_price(rng, scale);
+    }
+    let mut minima = vec![[0; MOST_MINIMA]; intervals];
+    for minimum in minima.iter_mut().flat_map(|m| &mut m[..edition.minima()]) {
+        *minimum = match scale {
+            Scale::Extreme => 6_400_000,
+            Scale::Wide if rng.chance(10) => rng.from_to(0, 6_400_000),
+            _ => rng.from_to(0, minimum_scale),
+        };
+    }
     Zone {
-        shares: [(); 4].map(|_| match scale {
-            Scale::Extreme => 1_000,
-            _ => rng.from_to(0, share_scale),
-        }),
-        shortfall_prices: [(); 6].map(|_| match scale {
-            Scale::Calm => 1,
-            Scale::Low => rng.from_to(1, 4),
-            Scale::Wide => rng.from_to(1, 100),
-            Scale::Extreme => 100,
-        }),
-        ramping_minima: (0..intervals)
-            .map(|_| {
-                [(); 2].map(|_| match scale {
-                    Scale::Extreme => 6_400_000,
-                    Scale::Wide if rng.chance(10) => rng.from_to(0, 6_400_000),
-                    _ => rng.from_to(0, minimum_scale),
-                })
-            })
-            .collect(),
+        shares,
+        shortfall_prices,
+        minima,
+    }
+}
+
+fn shortfall_price(rng: &mut Rng, scale: Scale) -> i128 {
+    match scale {
+        Scale::Calm => 1,
+        Scale::Low => rng.from_to(1, 4),
+        Scale::Wide => rng.from_to(1, 100),
+        Scale::Extreme => 100,
     }
 }
 
@@ -170,26 +200,32 @@ impl Pool {
         };
         let kept = schedule(device, spans, on.clone(), Waived::None);
         match (rule, kept) {
-            (None, Some(schedule)) if self.good.len() < MOST_GOOD => self.good.push(schedule),
+            (None, Some(schedule)) => self.add_good(device, schedule),
             (None, None) => {
                 for (rule, waived) in [(18, Waived::Rule18), (19, Waived::Rule19)] {
                     if let Some(schedule) = schedule(device, spans, on.clone(), waived) {
-                        self.add_spoilt(rule, schedule);
+                        self.add_spoilt(device, rule, schedule);
                     }
                 }
             }
-            (Some(rule), Some(schedule)) => self.add_spoilt(rule, schedule),
+            (Some(rule), Some(schedule)) => self.add_spoilt(device, rule, schedule),
             _ => {}
         }
     }
 
-    fn add_spoilt(&mut self, rule: u8, schedule: Schedule) {
+    fn add_good(&mut self, device: &Device, schedule: Schedule) {
+        if self.good.len() < MOST_GOOD && can_be_kept(device, &schedule) {
+            self.good.push(schedule);
+        }
+    }
+
+    fn add_spoilt(&mut self, device: &Device, rule: u8, schedule: Schedule) {
         let already = self
             .spoilt
             .iter()
             .filter(|spoilt| spoilt.rule == rule)
             .count();
-        if already < MOST_SPOILT_PER_RULE {
+        if already < MOST_SPOILT_PER_RULE && can_be_kept(device, &schedule) {
             self.spoilt.push(Spoilt { rule, schedule });
         }
     }
@@ -246,13 +282,17 @@ fn propose(rng: &mut Rng, base: &[bool]) -> Vec<bool> {
 }
 
 /// A case of figures drawn without regard to one another; few plans of it keep the rules.
-pub fn wild_case(rng: &mut Rng, size: Size) -> Case {
+pub fn wild_case(rng: &mut Rng, size: Size) -> (Edition, Case) {
+    let edition = rng.pick(&Edition::ALL);
     let shape = Shape::random(rng, size);
-    let mut case = sample_of(rng, &shape, Scale::Wide).case;
+    let mut case = sample_of(rng, edition, &shape, Scale::Wide).case;
     for device in &mut case.devices {
         scramble(rng, device, shape.zones);
+        if edition.has_reactive_power() {
+            scramble_reactive_power(rng, device);
+        }
     }
-    case
+    (edition, case)
 }
 
 fn scramble(rng: &mut Rng, device: &mut Device, zones: usize) {

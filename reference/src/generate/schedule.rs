@@ -4,6 +4,7 @@
 use crate::case::Device;
 use crate::clock::Span;
 use crate::forced::{commit, Commitment};
+use crate::generate::reactive::grid_of;
 use crate::rng::Rng;
 use crate::rules::{most_fall, most_rise};
 
@@ -43,6 +44,16 @@ impl Preference {
             Preference::Ends,
         ])
     }
+
+    /// A figure from `low` to `high`, in steps from `low` on.
+    pub fn choose(self, rng: &mut Rng, (low, high): (i128, i128), step: i128) -> i128 {
+        match self {
+            Preference::Any => low + step * rng.from_to(0, (high - low) / step),
+            Preference::Least => low,
+            Preference::Greatest => high,
+            Preference::Ends => rng.pick(&[low, high]),
+        }
+    }
 }
 
 /// The schedule of a commitment, if any dispatch of it keeps rules 5, 6 and 16 to 19.
@@ -55,7 +66,7 @@ pub fn schedule(
     let commitment = commit(device, spans, on);
     let mut reach = Vec::with_capacity(spans.len());
     for t in 0..spans.len() {
-        reach.push(open_powers(device, &commitment, t, waived)?);
+        reach.push(powers_in_limits(device, &commitment, t, waived)?);
     }
     for t in (1..spans.len()).rev() {
         let rise = most_rise(device, spans, &commitment, t);
@@ -73,7 +84,7 @@ pub fn schedule(
 }
 
 /// The powers of one interval that rules 16 to 19 allow without reserves.
-fn open_powers(
+fn powers_in_limits(
     device: &Device,
     commitment: &Commitment,
     t: usize,
@@ -96,6 +107,12 @@ fn open_powers(
 }
 
 impl Schedule {
+    /// The least and the greatest power of interval `t` from which the rest of the day can still be
+    /// followed.
+    pub fn open_powers(&self, t: usize) -> (i128, i128) {
+        self.reach[t]
+    }
+
     /// The powers of interval `t` that can follow `previous`.
     fn reach_from(
         &self,
@@ -111,7 +128,8 @@ impl Schedule {
         )
     }
 
-    /// Online powers of a dispatch that keeps rules 5, 6 and 16 to 19.
+    /// Online powers of a dispatch that keeps rules 5, 6 and 16 to 19, with whole kvar where the
+    /// device's link is an equality.
     pub fn dispatch(
         &self,
         rng: &mut Rng,
@@ -120,15 +138,11 @@ impl Schedule {
         preference: Preference,
     ) -> Vec<i128> {
         let mut previous = device.initial_power;
+        let grid = grid_of(device);
         (0..spans.len())
             .map(|t| {
-                let (low, high) = self.reach_from(device, spans, t, previous);
-                previous = match preference {
-                    Preference::Any => rng.from_to(low, high),
-                    Preference::Least => low,
-                    Preference::Greatest => high,
-                    Preference::Ends => rng.pick(&[low, high]),
-                };
+                let open = self.reach_from(device, spans, t, previous);
+                previous = preference.choose(rng, open, grid);
                 previous - self.commitment.trajectory(t)
             })
             .collect()

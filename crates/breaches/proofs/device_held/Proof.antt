@@ -1,10 +1,10 @@
--- The parts are those of device i: its intervals, then its windows.
+-- The parts are those of device i: its intervals, their reactive rules, then its windows.
 use native.Mathlib.Omega.{arith}
 use mathlib.Core.Path.{sym, ap, _∙_}
 use borrow.Author.Tests.{not-false}
 use Rattle.numbers.specs.Tests.{never}
 use Rattle.breaches.specs.First.{first, none-first}
-use Rattle.failing_rules.specs.Parts.{place, all-fit, none-here, few-windows, own-long, windows-are}
+use Rattle.failing_rules.specs.Parts.{place, all-fit, all-reactive-fit, none-here, few-windows, own-long, windows-are}
 use borrow.Author.Needs.{needs}
 use Rattle.breaches.proofs.device_held.Statement.{statement}
 use Rattle.breaches.proofs.device_held.Tie as tie
@@ -16,12 +16,22 @@ bounds-of-requires : tie.Need-bounds-of-requires
 bounds-of-requires c κs = search needs
 
 add-e : tie.Need-add-e
-add-e c = let a : _ = c .before .before .before .before .before .args in
-    omega (arith, place (c .before .before .before .before .before .pre .0) (a .i) (a .a) (c .before .before .before .before .before .pre .1) (c .before .before .before .before .before .pre .2))
+add-e c = let s : _ = c .before .before .before .before .before in omega (arith, place (s .pre .0) (s .args .i) (s .args .a) (s .pre .1) (s .pre .2))
+
+mul-own-cells : tie.Need-mul-own-cells
+mul-own-cells c = let s : _ = c .before .before .before .before .before in omega (arith, place (s .pre .0) (s .args .i) (s .args .a) (s .pre .1) (s .pre .2))
+
+sub-own-cells : tie.Need-sub-own-cells
+sub-own-cells c = search needs
+
+part-own-cells-start : tie.Need-part-own-cells-start
+part-own-cells-start c = search needs
+
+part-own-cells-end : tie.Need-part-own-cells-end
+part-own-cells-end c = let s : _ = c .before .before .before .before .before in omega (arith, place (s .pre .0) (s .args .i) (s .args .a) (s .pre .1) (s .pre .2))
 
 mul-own : tie.Need-mul-own
-mul-own c = let a : _ = c .before .before .before .before .before .args in
-    omega (arith, place (c .before .before .before .before .before .pre .0) (a .i) (a .a) (c .before .before .before .before .before .pre .1) (c .before .before .before .before .before .pre .2))
+mul-own c = let s : _ = c .before .before .before .before .before .before in omega (arith, place (s .pre .0) (s .args .i) (s .args .a) (s .pre .1) (s .pre .2))
 
 sub-own : tie.Need-sub-own
 sub-own c = search needs
@@ -30,16 +40,10 @@ part-own-start : tie.Need-part-own-start
 part-own-start c = search needs
 
 part-own-end : tie.Need-part-own-end
-part-own-end c = let a : _ = c .before .before .before .before .before .args in
-    omega (arith, place (c .before .before .before .before .before .pre .0) (a .i) (a .a) (c .before .before .before .before .before .pre .1) (c .before .before .before .before .before .pre .2))
+part-own-end c = let s : _ = c .before .before .before .before .before .before in omega (arith, place (s .pre .0) (s .args .i) (s .args .a) (s .pre .1) (s .pre .2))
 
 mul-own-powers : tie.Need-mul-own-powers
-mul-own-powers c = let a : _ = c .before .before .before .before .before .before .args in
-    omega (
-      arith,
-      place (c .before .before .before .before .before .before .pre .0) (a .i) (a .a) (c .before .before .before .before .before .before .pre .1)
-          (c .before .before .before .before .before .before .pre .2),
-    )
+mul-own-powers c = let s : _ = c .before .before .before .before .before .before .before in omega (arith, place (s .pre .0) (s .args .i) (s .args .a) (s .pre .1) (s .pre .2))
 
 sub-own-powers : tie.Need-sub-own-powers
 sub-own-powers c = search needs
@@ -48,67 +52,33 @@ part-own-powers-start : tie.Need-part-own-powers-start
 part-own-powers-start c = search needs
 
 part-own-powers-end : tie.Need-part-own-powers-end
-part-own-powers-end c = let a : _ = c .before .before .before .before .before .before .args in
-    omega (
-      arith,
-      place (c .before .before .before .before .before .before .pre .0) (a .i) (a .a) (c .before .before .before .before .before .before .pre .1)
-          (c .before .before .before .before .before .before .pre .2),
-    )
-
-mul-held-all : tie.Need-mul-held-all
-mul-held-all c = let a : _ = c .before .before .before .before .before .before .before .args in
-    omega (
-      arith,
-      place (c .before .before .before .before .before .before .before .pre .0) (a .i) (a .a)
-          (c .before .before .before .before .before .before .before .pre .1) (c .before .before .before .before .before .before .before .pre .2),
-    )
-
-sub-held-all : tie.Need-sub-held-all
-sub-held-all c = search needs
-
-part-held-all-start : tie.Need-part-held-all-start
-part-held-all-start c = search needs
-
-part-held-all-end : tie.Need-part-held-all-end
-part-held-all-end c = let a : _ = c .before .before .before .before .before .before .before .args in
-    omega (
-      arith,
-      place (c .before .before .before .before .before .before .before .pre .0) (a .i) (a .a)
-          (c .before .before .before .before .before .before .before .pre .1) (c .before .before .before .before .before .before .before .pre .2),
-    )
+part-own-powers-end c = let s : _ = c .before .before .before .before .before .before .before in omega (arith, place (s .pre .0) (s .args .i) (s .args .a) (s .pre .1) (s .pre .2))
 
 held-all-requires : tie.Need-held-all-requires
-held-all-requires c κs = let a : _ = c .before .before .before .before .before .before .before .before .args in
-    all-fit (c .before .before .before .before .before .before .before .before .pre .0) (a .i) (a .a)
-    (c .before .before .before .before .before .before .before .before .pre .1) (c .before .before .before .before .before .before .before .before .pre .2)
-    (c .before .before .before .before .device-at .ensures) (c .before .before .before .bounds-of .ensures)
+held-all-requires c κs = let s : _ = c .before .before .before .before .before .before .before .before in
+    all-fit (s .pre .0) (s .args .i) (s .args .a) (s .pre .1) (s .pre .2) (c .before .before .before .before .device-at .ensures) (c .before .before .before .bounds-of .ensures)
 
 returns : tie.Need-returns
 returns c = λ e. never e
 
+reactive-bounds-of-requires : tie.Need-reactive-bounds-of-requires
+reactive-bounds-of-requires c κs = search needs
+
+reactive-held-requires : tie.Need-reactive-held-requires
+reactive-held-requires c κs = let s : _ = c .before .before .before .before .before .before .before .before .before .before .before in
+    all-reactive-fit (s .pre .0) (s .args .i) (s .args .a) (s .pre .1) (s .pre .2) (c .before .before .before .before .before .before .before .device-at .ensures)
+    (c .before .before .before .before .before .before .bounds-of .ensures) (c .reactive-bounds-of .ensures)
+
+returns-2 : tie.Need-returns-2
+returns-2 c = λ e. never e
+
 device-windows-requires : tie.Need-device-windows-requires
-device-windows-requires c κs = let a : _ = c .before .before .before .before .before .before .before .before .before .before .args in
-    let r : _ = c .before .before .before .before .before .before .before .before .before .before .pre .0 in (
-      few-windows (c .before .before .before .before .before .before .before .before .before .before .pre .0) (a .i) (a .a)
-          (c .before .before .before .before .before .before .before .before .before .before .pre .1)
-          (c .before .before .before .before .before .before .before .before .before .before .pre .2)
-          (c .before .before .before .before .before .before .device-at .ensures),
-      omega (arith, r .case-rows .few-devices),
-      omega (
-        arith,
-        own-long (c .before .before .before .before .before .before .before .before .before .before .pre .0) (a .i) (a .a)
-            (c .before .before .before .before .before .before .before .before .before .before .pre .1)
-            (c .before .before .before .before .before .before .before .before .before .before .pre .2),
-        r .case-rows .few-intervals,
-      ),
-      omega (
-        arith,
-        own-long (c .before .before .before .before .before .before .before .before .before .before .pre .0) (a .i) (a .a)
-            (c .before .before .before .before .before .before .before .before .before .before .pre .1)
-            (c .before .before .before .before .before .before .before .before .before .before .pre .2),
-        r .forced-rows .starts-full,
-      ),
-    )
+device-windows-requires c κs = let there : _ = c .before .before .before .before .before .before .before .before .before in let s : _ = there .before .before .before .before in (
+  few-windows (s .pre .0) (s .args .i) (s .args .a) (s .pre .1) (s .pre .2) (there .device-at .ensures),
+  omega (arith, s .pre .0 .case-rows .few-devices),
+  omega (arith, own-long (s .pre .0) (s .args .i) (s .args .a) (s .pre .1) (s .pre .2), s .pre .0 .case-rows .few-intervals),
+  omega (arith, own-long (s .pre .0) (s .args .i) (s .args .a) (s .pre .1) (s .pre .2), s .pre .0 .forced-rows .starts-full),
+)
 
 enum-told : tie.Need-enum-told
 enum-told c = search needs
@@ -116,23 +86,21 @@ enum-told c = search needs
 enum-told-2 : tie.Need-enum-told-2
 enum-told-2 c = search needs
 
-returns-2 : tie.Need-returns-2
-returns-2 c = λ e. never e
-
 returns-3 : tie.Need-returns-3
-returns-3 c = let earlier : _ = c .before .before .before .before .before .before .before .before .before .before .before .before in
-    let at-args : _ = earlier .before in λ e. let a : _ = at-args .args in
-    record {
-      cells = none-here (at-args .pre .0) (a .i) (a .a) (at-args .pre .1) (at-args .pre .2)
-          (c .before .before .before .before .before .before .before .before .before .device-at .ensures)
-          (c .before .before .before .before .before .before .before .before .bounds-of .ensures)
-          (c .before .before .before .before .held-all .ensures (not-false _ (c .before .before .before .if1 .left)));
-      windows = none-first _ (c .before .before .device-windows .ensures ∙ ap first
-          (windows-are (at-args .pre .0) (a .i) (a .a) (at-args .pre .1) (at-args .pre .2)
-          (c .before .before .before .before .before .before .before .before .before .device-at .ensures))) (c .enum-told .given .1);
-    }
+returns-3 c = λ e. never e
+
+returns-4 : tie.Need-returns-4
+returns-4 c = λ e. let there : _ = c .before .before .before .before .before .before .before .before .before .before .before .before in let s : _ = there .before .before .before .before in record {
+  cells = none-here (s .pre .0) (s .args .i) (s .args .a) (s .pre .1) (s .pre .2) (there .device-at .ensures)
+      (c .before .before .before .before .before .before .before .before .before .before .before .bounds-of .ensures)
+      (c .before .before .before .before .before .reactive-bounds-of .ensures)
+      (c .before .before .before .before .before .before .before .held-all .ensures (not-false _ (c .before .before .before .before .before .before .if1 .left)))
+      (c .before .before .before .before .reactive-held .ensures (not-false _ (c .before .before .before .if2 .left)));
+  windows = none-first _ (c .before .before .device-windows .ensures ∙ ap first (windows-are (s .pre .0) (s .args .i) (s .args .a) (s .pre .1) (s .pre .2)
+      (there .device-at .ensures))) (c .enum-told .given .1);
+}
 
 pub device-held-spec : {M : Type 1} → statement M
-device-held-spec = tie.close (tie.spec device-at-requires bounds-of-requires add-e mul-own sub-own part-own-start part-own-end mul-own-powers sub-own-powers
-    part-own-powers-start part-own-powers-end mul-held-all sub-held-all part-held-all-start part-held-all-end held-all-requires returns device-windows-requires
-    enum-told enum-told-2 returns-2 returns-3)
+device-held-spec = tie.close (tie.spec device-at-requires bounds-of-requires add-e mul-own-cells sub-own-cells part-own-cells-start part-own-cells-end mul-own sub-own
+    part-own-start part-own-end mul-own-powers sub-own-powers part-own-powers-start part-own-powers-end held-all-requires returns reactive-bounds-of-requires
+    reactive-held-requires returns-2 device-windows-requires enum-told enum-told-2 returns-3 returns-4)

@@ -8,7 +8,7 @@ use mir.ValLaws.{toZ-ofZ}
 use Rattle.records.specs.Views.{mostDevices, mostIntervals}
 use Rattle.money.specs.Bounds.{intervalMost, windowsCostMost, dayMost, day-fits}
 use Rattle.money.specs.Entries.{spare-none, spare-after, spare-less, balance-of}
-use Rattle.slack_money.specs.Here.{day-whole}
+use Rattle.reactive_money.specs.Here.{day-whole}
 use Rattle.completions.specs.Whole.{countable, front-room, intervals-room, overruns-room, surplus-room, whole-done}
 use borrow.Author.Needs.{needs}
 use Rattle.completions.proofs.complete.Statement.{statement}

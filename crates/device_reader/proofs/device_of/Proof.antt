@@ -1,4 +1,4 @@
--- `device_reader::device_of`: figures and lists in their places. Assumes nothing.
+-- `device_reader::device_of`: figures, lists and link in their places. Assumes nothing.
 use Rattle.device_reader.proofs.HeadSteps.{device-made}
 use borrow.Author.Needs.{needs}
 use Rattle.device_reader.proofs.device_of.Statement.{statement}
@@ -16,35 +16,35 @@ starts-of-requires c κs = search needs
 energies-of-requires : tie.Need-energies-of-requires
 energies-of-requires c κs = search needs
 
-array-read-t15 : tie.Need-array-read-t15
-array-read-t15 c = search needs
+array-read-t16 : tie.Need-array-read-t16
+array-read-t16 c = search needs
 
-array-read-t18 : tie.Need-array-read-t18
-array-read-t18 c = search needs
+array-read-t19 : tie.Need-array-read-t19
+array-read-t19 c = search needs
 
-array-read-t22 : tie.Need-array-read-t22
-array-read-t22 c = search needs
+array-read-t23 : tie.Need-array-read-t23
+array-read-t23 c = search needs
 
-array-read-t25 : tie.Need-array-read-t25
-array-read-t25 c = search needs
+array-read-t26 : tie.Need-array-read-t26
+array-read-t26 c = search needs
 
-array-read-t28 : tie.Need-array-read-t28
-array-read-t28 c = search needs
+array-read-t29 : tie.Need-array-read-t29
+array-read-t29 c = search needs
 
-array-read-t31 : tie.Need-array-read-t31
-array-read-t31 c = search needs
+array-read-t32 : tie.Need-array-read-t32
+array-read-t32 c = search needs
 
-array-read-t34 : tie.Need-array-read-t34
-array-read-t34 c = search needs
+array-read-t35 : tie.Need-array-read-t35
+array-read-t35 c = search needs
 
-array-read-t37 : tie.Need-array-read-t37
-array-read-t37 c = search needs
+array-read-t38 : tie.Need-array-read-t38
+array-read-t38 c = search needs
 
-array-read-t40 : tie.Need-array-read-t40
-array-read-t40 c = search needs
+array-read-t41 : tie.Need-array-read-t41
+array-read-t41 c = search needs
 
-array-read-t44 : tie.Need-array-read-t44
-array-read-t44 c = search needs
+array-read-t45 : tie.Need-array-read-t45
+array-read-t45 c = search needs
 
 array-read-money-of : tie.Need-array-read-money-of
 array-read-money-of c = search needs
@@ -66,7 +66,7 @@ returns c =
     let starts-of : _ = c .before .before .before .starts-of in
     let energies-of : _ = c .before .before .energies-of in
     let a : _ = begin .args in
-    device-made (a .sides) (a .figures) (a .states) (a .starts) (a .energies)
+    device-made (a .sides) (a .figures) (a .states) (a .starts) (a .energies) (a .link)
     (c .before .money-of .ensures) (c .money-of2 .ensures) (limits-of .ensures) (states-of .ensures) (starts-of .ensures) (energies-of .ensures)
 
 pub device-of-spec : {M : Type 1} → statement M
@@ -77,16 +77,16 @@ device-of-spec =
     states-of-requires
     starts-of-requires
     energies-of-requires
-    array-read-t15
-    array-read-t18
-    array-read-t22
-    array-read-t25
-    array-read-t28
-    array-read-t31
-    array-read-t34
-    array-read-t37
-    array-read-t40
-    array-read-t44
+    array-read-t16
+    array-read-t19
+    array-read-t23
+    array-read-t26
+    array-read-t29
+    array-read-t32
+    array-read-t35
+    array-read-t38
+    array-read-t41
+    array-read-t45
     array-read-money-of
     money-of-requires
     array-read-money-of-2

@@ -1,8 +1,10 @@
 -- `device_reader::read_head`, part by part. Assumes nothing.
 use Rattle.fields.specs.Got.{went-good, went-bad}
 use Rattle.item_reader.specs.declared.Listed.the-variants.{States, Starts, Energies}
-use Rattle.device_reader.proofs.HeadSteps.{sides-natural, figures-natural, items-natural, windows-natural, lists-natural, rest-natural, partsIn, head-none, head-done}
+use Rattle.device_reader.proofs.HeadSteps.{sides-natural, figures-natural, items-natural, energies-natural, windows-natural, lists-natural, rest-natural, partsIn, head-none, head-done}
 use Rattle.fields.proofs.Chains.{then-off, then-late, then-told}
+use Rattle.records.specs.Views.{linkIn}
+use Rattle.link_reader.proofs.Links.{link-natural}
 use borrow.Author.Needs.{needs}
 use Rattle.device_reader.proofs.read_head.Statement.{statement}
 use Rattle.device_reader.proofs.read_head.Tie as tie
@@ -106,34 +108,62 @@ returns-4 c =
 read-items-requires-3 : tie.Need-read-items-requires-3
 read-items-requires-3 c κs = search needs
 
-device-of-requires : tie.Need-device-of-requires
-device-of-requires c κs = search needs
+enum-known-went-5 : tie.Need-enum-known-went-5
+enum-known-went-5 c = search needs
+
+enum-told-5 : tie.Need-enum-told-5
+enum-told-5 c = search needs
+
+stopped-requires-5 : tie.Need-stopped-requires-5
+stopped-requires-5 c κs = search needs
 
 returns-5 : tie.Need-returns-5
 returns-5 c =
-    let near : _ = c .before .before .before .before .before .before .before .before .before .before in
-    let begin : _ = near .before .before .before .before .before .before .before .before .before in
-    let read-sides : _ = near .before .before .before .before .before .before .before .read-sides in
-    let went : _ = near .before .before .before .before .before .went in
-    let read-figures : _ = near .before .before .before .read-figures in
-    let went2 : _ = near .before .went2 in
-    let read-items : _ = c .before .before .before .before .before .before .before .before .before .read-items in
-    let went3 : _ = c .before .before .before .before .before .before .before .went3 in
-    let read-items2 : _ = c .before .before .before .before .before .read-items2 in
-    let went4 : _ = c .before .before .before .went4 in
-    let a : _ = begin .args in
-    let x : _ = read-sides .result in
-    let f : _ = read-figures .result in
-    let states : _ = read-items .result in
-    let starts : _ = read-items2 .result in
-    let energies : _ = c .before .read-items3 .result in
-    let v : _ = partsIn x f states starts energies in
-    head-done _ _ _ _ _ x f states starts energies (read-items .ensures) (read-items2 .ensures) (c .before .read-items3 .ensures)
-    (then-told (sides-natural _) _ _ _ (energies .went) (v .1) (rest-natural _ _) (went-good _ (read-sides .ensures) (went .given .1))
-    (then-told figures-natural _ _ _ (energies .went) (v .1 .1) (lists-natural _ _) (went-good _ (read-figures .ensures) (went2 .given .1))
-    (then-told (items-natural (a .edition) (a .last) States) _ _ _ (energies .went) (v .1 .1 .1) (windows-natural _ _) (went-good _ (read-items .ensures .is) (went3 .given .1))
-    (then-told (items-natural _ _ Starts) _ _ _ (energies .went) (v .1 .1 .1 .1) (items-natural (a .edition) (a .last) Energies)
-    (went-good _ (read-items2 .ensures .is) (went4 .given .1)) (c .before .read-items3 .ensures .is)))))
+    let at-energies : _ = c .before .before .before in
+    let at-starts : _ = at-energies .before .before .before .before in
+    let at-states : _ = at-starts .before .before .before .before in
+    let at-figures : _ = at-states .before .before .before .before in
+    let at-sides : _ = at-figures .before .before .before .before in
+    let a : _ = at-sides .before .before .args in
+    head-none _ _ _ _ _ _ (c .before .enum-told5 .given .1) (c .stopped5 .ensures)
+    (then-late (sides-natural _) _ _ _ (rest-natural _ _) (went-good _ (at-sides .read-sides .ensures) (at-figures .before .before .went .given .1))
+    (then-late figures-natural _ _ _ (lists-natural _ _) (went-good _ (at-figures .read-figures .ensures) (at-states .before .before .went2 .given .1))
+    (then-late (items-natural (a .edition) (a .last) States) _ _ _ (windows-natural _ _) (went-good _ (at-states .read-items .ensures .is) (at-starts .before .before .went3 .given .1))
+    (then-late (items-natural _ _ Starts) _ _ _ (energies-natural (a .edition) (a .last)) (went-good _ (at-starts .read-items2 .ensures .is) (at-energies .before .before .went4 .given .1))
+    (then-off (items-natural (a .edition) (a .last) Energies) _ _ _ (went-bad _ (at-energies .read-items3 .ensures .is) (c .before .enum-told5 .given .1)))))))
+
+read-link-requires : tie.Need-read-link-requires
+read-link-requires c κs = search needs
+
+device-of-requires : tie.Need-device-of-requires
+device-of-requires c κs = search needs
+
+returns-6 : tie.Need-returns-6
+returns-6 c =
+    let at-link : _ = c .before .before in
+    let at-energies : _ = at-link .before .before .before .before in
+    let at-starts : _ = at-energies .before .before .before .before in
+    let at-states : _ = at-starts .before .before .before .before in
+    let at-figures : _ = at-states .before .before .before .before in
+    let at-sides : _ = at-figures .before .before .before .before in
+    let a : _ = at-sides .before .before .args in
+    let x : _ = at-sides .read-sides .result in
+    let f : _ = at-figures .read-figures .result in
+    let states : _ = at-states .read-items .result in
+    let starts : _ = at-starts .read-items2 .result in
+    let energies : _ = at-energies .read-items3 .result in
+    let w : _ = at-link .read-link .result .went in
+    let l : _ = at-link .read-link .result .link in
+    let v : _ = partsIn x f states starts energies l in
+    head-done _ _ _ _ _ x f states starts energies (at-states .read-items .ensures) (at-starts .read-items2 .ensures) (at-energies .read-items3 .ensures) w l
+    (then-told (sides-natural _) _ _ _ w (v .1) (rest-natural _ _) (went-good _ (at-sides .read-sides .ensures) (at-figures .before .before .went .given .1))
+    (then-told figures-natural _ _ _ w (v .1 .1) (lists-natural _ _) (went-good _ (at-figures .read-figures .ensures) (at-states .before .before .went2 .given .1))
+    (then-told (items-natural (a .edition) (a .last) States) _ _ _ w (v .1 .1 .1) (windows-natural _ _)
+    (went-good _ (at-states .read-items .ensures .is) (at-starts .before .before .went3 .given .1))
+    (then-told (items-natural _ _ Starts) _ _ _ w (v .1 .1 .1 .1) (energies-natural (a .edition) (a .last))
+    (went-good _ (at-starts .read-items2 .ensures .is) (at-energies .before .before .went4 .given .1))
+    (then-told (items-natural (a .edition) (a .last) Energies) _ _ _ w (linkIn l) (link-natural (a .edition))
+    (went-good _ (at-energies .read-items3 .ensures .is) (at-link .before .before .went5 .given .1)) (at-link .read-link .ensures))))))
     (c .device-of .ensures)
 
 pub read-head-spec : {M : Type 1} → statement M
@@ -161,5 +191,10 @@ read-head-spec =
     stopped-requires-4
     returns-4
     read-items-requires-3
+    enum-known-went-5
+    enum-told-5
+    stopped-requires-5
+    returns-5
+    read-link-requires
     device-of-requires
-    returns-5)
+    returns-6)

@@ -1,6 +1,6 @@
--- The parts are those of device i.
+-- The parts are those of device i, and the words of both kinds of rules have bits of their own.
 use native.Mathlib.Omega.{arith}
-use Rattle.failing_rules.specs.Parts.{place, fits-cut, word-numbers}
+use Rattle.failing_rules.specs.Parts.{place, fits-cut, reactive-fits-cut, words-small, word-numbers}
 use borrow.Author.Needs.{needs}
 use Rattle.failing_rules.proofs.failing_in.Statement.{statement}
 use Rattle.failing_rules.proofs.failing_in.Tie as tie
@@ -11,83 +11,74 @@ device-at-requires c κs = search needs
 bounds-of-requires : tie.Need-bounds-of-requires
 bounds-of-requires c κs = search needs
 
+reactive-bounds-of-requires : tie.Need-reactive-bounds-of-requires
+reactive-bounds-of-requires c κs = search needs
+
 add-e : tie.Need-add-e
-add-e c = let a : _ = c .before .before .before .before .before .args in
-    omega (arith, place (c .before .before .before .before .before .pre .0) (a .i) (a .a) (c .before .before .before .before .before .pre .1) (c .before .before .before .before .before .pre .2))
+add-e c = let s : _ = c .before .before .before .before .before .before in omega (arith, place (s .pre .0) (s .args .i) (s .args .a) (s .pre .1) (s .pre .2))
 
-mul-failing-at : tie.Need-mul-failing-at
-mul-failing-at c = let a : _ = c .before .before .before .before .before .args in
-    omega (arith, place (c .before .before .before .before .before .pre .0) (a .i) (a .a) (c .before .before .before .before .before .pre .1) (c .before .before .before .before .before .pre .2))
+mul-own-cells : tie.Need-mul-own-cells
+mul-own-cells c = let s : _ = c .before .before .before .before .before .before in omega (arith, place (s .pre .0) (s .args .i) (s .args .a) (s .pre .1) (s .pre .2))
 
-sub-failing-at : tie.Need-sub-failing-at
-sub-failing-at c = search needs
+sub-own-cells : tie.Need-sub-own-cells
+sub-own-cells c = search needs
 
-part-failing-at-start : tie.Need-part-failing-at-start
-part-failing-at-start c = search needs
+part-own-cells-start : tie.Need-part-own-cells-start
+part-own-cells-start c = search needs
 
-part-failing-at-end : tie.Need-part-failing-at-end
-part-failing-at-end c = let a : _ = c .before .before .before .before .before .args in
-    omega (arith, place (c .before .before .before .before .before .pre .0) (a .i) (a .a) (c .before .before .before .before .before .pre .1) (c .before .before .before .before .before .pre .2))
+part-own-cells-end : tie.Need-part-own-cells-end
+part-own-cells-end c = let s : _ = c .before .before .before .before .before .before in omega (arith, place (s .pre .0) (s .args .i) (s .args .a) (s .pre .1) (s .pre .2))
 
-mul-failing-at-2 : tie.Need-mul-failing-at-2
-mul-failing-at-2 c = let a : _ = c .before .before .before .before .before .before .args in
-    omega (
-      arith,
-      place (c .before .before .before .before .before .before .pre .0) (a .i) (a .a) (c .before .before .before .before .before .before .pre .1)
-          (c .before .before .before .before .before .before .pre .2),
-    )
+mul-own : tie.Need-mul-own
+mul-own c = let s : _ = c .before .before .before .before .before .before .before in omega (arith, place (s .pre .0) (s .args .i) (s .args .a) (s .pre .1) (s .pre .2))
 
-sub-failing-at-2 : tie.Need-sub-failing-at-2
-sub-failing-at-2 c = search needs
+sub-own : tie.Need-sub-own
+sub-own c = search needs
 
-part-failing-at-start-2 : tie.Need-part-failing-at-start-2
-part-failing-at-start-2 c = search needs
+part-own-start : tie.Need-part-own-start
+part-own-start c = search needs
 
-part-failing-at-end-2 : tie.Need-part-failing-at-end-2
-part-failing-at-end-2 c = let a : _ = c .before .before .before .before .before .before .args in
-    omega (
-      arith,
-      place (c .before .before .before .before .before .before .pre .0) (a .i) (a .a) (c .before .before .before .before .before .before .pre .1)
-          (c .before .before .before .before .before .before .pre .2),
-    )
+part-own-end : tie.Need-part-own-end
+part-own-end c = let s : _ = c .before .before .before .before .before .before .before in omega (arith, place (s .pre .0) (s .args .i) (s .args .a) (s .pre .1) (s .pre .2))
 
-mul-failing-at-3 : tie.Need-mul-failing-at-3
-mul-failing-at-3 c = let a : _ = c .before .before .before .before .before .before .before .args in
-    omega (
-      arith,
-      place (c .before .before .before .before .before .before .before .pre .0) (a .i) (a .a)
-          (c .before .before .before .before .before .before .before .pre .1) (c .before .before .before .before .before .before .before .pre .2),
-    )
+mul-own-powers : tie.Need-mul-own-powers
+mul-own-powers c = let s : _ = c .before .before .before .before .before .before .before .before in omega (arith, place (s .pre .0) (s .args .i) (s .args .a) (s .pre .1) (s .pre .2))
 
-sub-failing-at-3 : tie.Need-sub-failing-at-3
-sub-failing-at-3 c = search needs
+sub-own-powers : tie.Need-sub-own-powers
+sub-own-powers c = search needs
 
-part-failing-at-start-3 : tie.Need-part-failing-at-start-3
-part-failing-at-start-3 c = search needs
+part-own-powers-start : tie.Need-part-own-powers-start
+part-own-powers-start c = search needs
 
-part-failing-at-end-3 : tie.Need-part-failing-at-end-3
-part-failing-at-end-3 c = let a : _ = c .before .before .before .before .before .before .before .args in
-    omega (
-      arith,
-      place (c .before .before .before .before .before .before .before .pre .0) (a .i) (a .a)
-          (c .before .before .before .before .before .before .before .pre .1) (c .before .before .before .before .before .before .before .pre .2),
-    )
+part-own-powers-end : tie.Need-part-own-powers-end
+part-own-powers-end c = let s : _ = c .before .before .before .before .before .before .before .before in omega (arith, place (s .pre .0) (s .args .i) (s .args .a) (s .pre .1) (s .pre .2))
 
 failing-at-requires : tie.Need-failing-at-requires
-failing-at-requires c κs = let a : _ = c .before .before .before .before .before .before .before .before .args in
-    fits-cut (c .before .before .before .before .before .before .before .before .pre .0) (a .i) (a .a)
-    (c .before .before .before .before .before .before .before .before .pre .1) (c .before .before .before .before .before .before .before .before .pre .2)
-    (c .before .before .before .before .device-at .ensures) (c .before .before .before .bounds-of .ensures) (a .t) (c .before .before .before .before .before .before .before .before .pre .3)
+failing-at-requires c κs = let s : _ = c .before .before .before .before .before .before .before .before .before in
+    fits-cut (s .pre .0) (s .args .i) (s .args .a) (s .pre .1) (s .pre .2) (c .before .before .before .before .before .device-at .ensures)
+    (c .before .before .before .before .bounds-of .ensures) (s .args .t) (s .pre .3)
+
+failing-reactive-requires : tie.Need-failing-reactive-requires
+failing-reactive-requires c κs = let s : _ = c .before .before .before .before .before .before .before .before .before .before in
+    reactive-fits-cut (s .pre .0) (s .args .i) (s .args .a) (s .pre .1) (s .pre .2) (c .before .before .before .before .before .before .device-at .ensures)
+    (c .before .before .before .before .before .bounds-of .ensures)
+    (c .before .before .before .before .reactive-bounds-of .ensures) (s .args .t) (s .pre .3)
+
+add-result : tie.Need-add-result
+add-result c = let s : _ = c .before .before .before .before .before .before .before .before .before .before .before in omega (
+  arith,
+  words-small (s .pre .0) (s .args .i) (s .args .a) (s .pre .1) (s .pre .2) (c .before .before .before .before .before .before .before .device-at .ensures)
+      (c .before .before .before .before .before .before .bounds-of .ensures)
+      (c .before .before .before .before .before .reactive-bounds-of .ensures) (s .args .t) (s .pre .3) (c .before .failing-at .ensures) (c .failing-reactive .ensures),
+)
 
 returns : tie.Need-returns
-returns c = let a : _ = c .before .before .before .before .before .before .before .before .before .args in
-    word-numbers (c .before .before .before .before .before .before .before .before .before .pre .0) (a .i) (a .a)
-    (c .before .before .before .before .before .before .before .before .before .pre .1)
-    (c .before .before .before .before .before .before .before .before .before .pre .2)
-    (c .before .before .before .before .before .device-at .ensures) (c .before .before .before .before .bounds-of .ensures) (a .t)
-    (c .before .before .before .before .before .before .before .before .before .pre .3) (c .failing-at .ensures)
+returns c = let s : _ = c .before .before .before .before .before .before .before .before .before .before .before in
+    word-numbers (s .pre .0) (s .args .i) (s .args .a) (s .pre .1) (s .pre .2) (c .before .before .before .before .before .before .before .device-at .ensures)
+    (c .before .before .before .before .before .before .bounds-of .ensures)
+    (c .before .before .before .before .before .reactive-bounds-of .ensures) (s .args .t) (s .pre .3) (c .before .failing-at .ensures) (c .failing-reactive .ensures)
 
 pub failing-in-spec : {M : Type 1} → statement M
-failing-in-spec = tie.close (tie.spec device-at-requires bounds-of-requires add-e mul-failing-at sub-failing-at part-failing-at-start part-failing-at-end
-    mul-failing-at-2 sub-failing-at-2 part-failing-at-start-2 part-failing-at-end-2 mul-failing-at-3 sub-failing-at-3 part-failing-at-start-3
-    part-failing-at-end-3 failing-at-requires returns)
+failing-in-spec = tie.close (tie.spec device-at-requires bounds-of-requires reactive-bounds-of-requires add-e mul-own-cells sub-own-cells part-own-cells-start part-own-cells-end
+    mul-own sub-own part-own-start part-own-end mul-own-powers sub-own-powers part-own-powers-start part-own-powers-end failing-at-requires failing-reactive-requires add-result
+    returns)

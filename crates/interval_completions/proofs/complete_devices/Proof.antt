@@ -5,14 +5,14 @@ use native.Mathlib.Omega.{arith}
 use lib.ListN.{length}
 use Rattle.pen.specs.Runs.{room-at}
 use Rattle.row_places.specs.declared.Front.{Front}
-use Rattle.money.specs.Bounds.{cellMost}
+use Rattle.money.specs.Bounds.{cellMost, deviceMost}
 use Rattle.records.specs.Views.{mostDevices}
 use Rattle.money.specs.Entries.{spare-after, spare-room}
 use Rattle.money.specs.Unbroken.{Unbroken, part-of}
 use Rattle.completion_size.specs.Size.{deviceWidth}
 use Rattle.progress.specs.Advances.{advances-none, advances-next, advances-done}
 use Rattle.interval_completions.specs.Advances.{DevicesAdvance}
-use Rattle.interval_completions.specs.Steps.{place-of, cell-of, device-fits, ruled, device-done}
+use Rattle.interval_completions.specs.Steps.{place-of, cell-of, device-fits, ruled, cell-paid, held-of, device-done}
 use borrow.Author.Needs.{needs}
 use Rattle.interval_completions.proofs.complete_devices.Statement.{statement}
 use Rattle.interval_completions.proofs.complete_devices.Tie as tie
@@ -29,7 +29,7 @@ abbrev μ-loop : tie.MeasureT-loop
 loop-holds : tie.Need-loop-holds Inv-loop μ-loop
 loop-holds c =
     let start : _ = c .before .before .before .before .before .before in
-    (omega arith, omega arith, λ front u. advances-none _ _ deviceWidth cellMost _ _ (start .pre .1 .0))
+    (omega arith, omega arith, λ front u. advances-none _ _ deviceWidth deviceMost _ _ (start .pre .1 .0))
 
 add-e : tie.Need-add-e Inv-loop μ-loop
 add-e c =
@@ -113,15 +113,34 @@ cell-money-requires c κs =
     let sofar : _ = turn .loop .inv .2 (start .args .front) (start .pre .0 .0) in
     let known : _ = start .pre .0 .0 .ready .case-rows .few-devices in (
       at-loop-test .loop-test .taken,
-      spare-room 0 (spare-after (mostDevices * cellMost) (turn .loop .i * cellMost) 0 (start .pre .1 .2) (sofar .entered)
+      spare-room 0 (spare-after (mostDevices * deviceMost) (turn .loop .i * deviceMost) 0 (start .pre .1 .2) (sofar .entered)
           (omega (arith, known, at-loop-test .loop-test .taken))),
       ruled (start .pre .0 .0) (start .args .t) (turn .loop .i) (turn .loop .a) (start .pre .0 .1) (at-loop-test .loop-test .taken)
           (turn .loop .inv .1) (at-cell-at .cell-at .ensures) (at-choose .choose .ensures) (at-cell-at2 .cell-at2 .ensures) (at-setting-at .setting-at .ensures) (start .pre .0 .2),
     )
 
+reactive-reserves-money-requires : tie.Need-reactive-reserves-money-requires Inv-loop μ-loop
+reactive-reserves-money-requires c κs =
+    let at-setting-at : _ = c .before in
+    let at-cell-at2 : _ = at-setting-at .before in
+    let at-choose : _ = at-cell-at2 .before in
+    let at-cell-at : _ = at-choose .before .before in
+    let at-loop-test : _ = at-cell-at .before .before in
+    let turn : _ = at-loop-test .before in
+    let start : _ = turn .before .before .before .before .before .before .before in
+    let sofar : _ = turn .loop .inv .2 (start .args .front) (start .pre .0 .0) in
+    let known : _ = start .pre .0 .0 .ready .case-rows .few-devices in
+    let left : _ = spare-after (mostDevices * deviceMost) (turn .loop .i * deviceMost) deviceMost (start .pre .1 .2) (sofar .entered) (omega (arith, known, at-loop-test .loop-test .taken)) in (
+      spare-room 0 (spare-after deviceMost cellMost 0 left (cell-paid (start .pre .0 .0) (start .args .t) (turn .loop .i) (turn .loop .a) (start .pre .0 .1) (at-loop-test .loop-test .taken)
+          (turn .loop .inv .1) (at-cell-at .cell-at .ensures) (at-choose .choose .ensures) (at-cell-at2 .cell-at2 .ensures) (at-setting-at .setting-at .ensures) (start .pre .0 .2)
+          (c .cell-money .ensures)) (omega arith)),
+      held-of (start .pre .0 .0) (start .args .t) (turn .loop .i) (turn .loop .a) (start .pre .0 .1) (at-loop-test .loop-test .taken)
+          (turn .loop .inv .1) (at-cell-at .cell-at .ensures) (at-choose .choose .ensures) (at-cell-at2 .cell-at2 .ensures) (at-setting-at .setting-at .ensures) (start .pre .0 .2),
+    )
+
 put-choice-requires : tie.Need-put-choice-requires Inv-loop μ-loop
 put-choice-requires c κs =
-    let at-choose : _ = c .before .before .before .before .before in
+    let at-choose : _ = c .before .before .before .before .before .before in
     let at-cell-at : _ = at-choose .before .before in
     let at-loop-test : _ = at-cell-at .before .before in
     let turn : _ = at-loop-test .before in
@@ -135,19 +154,22 @@ put-choice-requires c κs =
 
 add-i : tie.Need-add-i Inv-loop μ-loop
 add-i c =
-    let at-loop-test : _ = c .before .before .before .before .before .before .before .before .before .before .before .before in
+    let at-choose : _ = c .before .before .before .before .before .before .before .before .before in
+    let at-loop-test : _ = at-choose .before .before .before .before in
     let start : _ = at-loop-test .before .before .before .before .before .before .before .before in
     omega (arith, at-loop-test .loop-test .taken, start .pre .0 .0 .ready .case-rows .few-devices)
 
 loop-less : tie.Need-loop-less Inv-loop μ-loop
 loop-less c =
-    let at-loop-test : _ = c .before .before .before .before .before .before .before .before .before .before .before .before in
+    let at-choose : _ = c .before .before .before .before .before .before .before .before .before in
+    let at-loop-test : _ = at-choose .before .before .before .before in
     omega (arith, at-loop-test .loop-test .taken)
 
 loop-again : tie.Need-loop-again Inv-loop μ-loop
 loop-again c =
     let at-put-choice : _ = c .before .before in
-    let at-cell-money : _ = at-put-choice .before .before .before in
+    let at-reactive : _ = at-put-choice .before .before .before in
+    let at-cell-money : _ = at-reactive .before in
     let at-setting-at : _ = at-cell-money .before in
     let at-cell-at2 : _ = at-setting-at .before in
     let at-choose : _ = at-cell-at2 .before in
@@ -158,10 +180,10 @@ loop-again c =
       omega (arith, at-loop-test .loop-test .taken),
       omega (arith, turn .loop .inv .1),
       λ front u.
-          advances-next _ _ deviceWidth cellMost (turn .loop .i) (turn .loop .inv .2 front u)
+          advances-next _ _ deviceWidth deviceMost (turn .loop .i) (turn .loop .inv .2 front u)
           (device-done u (start .args .t) (turn .loop .i) (turn .loop .a) (start .pre .0 .1) (at-loop-test .loop-test .taken) (turn .loop .inv .1) (at-cell-at .cell-at .ensures)
           (at-choose .choose .ensures) (at-cell-at2 .cell-at2 .ensures) (at-setting-at .setting-at .ensures) (start .pre .0 .2) (at-cell-money .cell-money .ensures)
-          (at-put-choice .put-choice .ensures)),
+          (at-reactive .reactive-reserves-money .ensures) (at-put-choice .put-choice .ensures)),
     )
 
 same-length : tie.Need-same-length Inv-loop μ-loop
@@ -172,8 +194,8 @@ same-length c =
 returns : tie.Need-returns Inv-loop μ-loop
 returns c =
     let start : _ = c .before .before .before .before .before .before .before .before in
-    advances-done _ _ deviceWidth cellMost (c .before .loop .i) _ (c .before .loop .inv .0) (c .loop-test .left) (c .before .loop .inv .2 (start .args .front) (start .pre .0 .0))
+    advances-done _ _ deviceWidth deviceMost (c .before .loop .i) _ (c .before .loop .inv .0) (c .loop-test .left) (c .before .loop .inv .2 (start .args .front) (start .pre .0 .0))
 
 pub complete-devices-spec : {M : Type 1} → statement M
 complete-devices-spec = tie.close (tie.spec Inv-loop μ-loop loop-holds add-e add-k mul-kw shared-slice-read-kw cell-at-requires mul-choose sub-choose part-choose-start part-choose-end
-    choose-requires cell-at-requires-2 setting-at-requires cell-money-requires put-choice-requires add-i loop-less loop-again same-length returns)
+    choose-requires cell-at-requires-2 setting-at-requires cell-money-requires reactive-reserves-money-requires put-choice-requires add-i loop-less loop-again same-length returns)

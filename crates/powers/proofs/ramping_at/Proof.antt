@@ -1,6 +1,5 @@
--- Four of the device's figures.
-use mathlib.Core.Path.{ap}
-use Rattle.row_places.specs.declared.Device.{Device}
+-- Those of the device in row i.
+use mathlib.Core.Path.{ap, _∙_}
 use Rattle.ramped_powers.specs.Changes.{rampingOf}
 use borrow.Author.Needs.{needs}
 use Rattle.powers.proofs.ramping_at.Statement.{statement}
@@ -9,14 +8,11 @@ use Rattle.powers.proofs.ramping_at.Tie as tie
 device-at-requires : tie.Need-device-at-requires
 device-at-requires c κs = search needs
 
-element-copy-out-t9 : tie.Need-element-copy-out-t9
-element-copy-out-t9 c = search needs
-
-element-copy-out-t12 : tie.Need-element-copy-out-t12
-element-copy-out-t12 c = search needs
+ramping-of-requires : tie.Need-ramping-of-requires
+ramping-of-requires c κs = search needs
 
 returns : tie.Need-returns
-returns c = ap rampingOf (c .before .before .before .device-at .ensures)
+returns c = c .ramping-of .ensures ∙ ap rampingOf (c .before .device-at .ensures)
 
 pub ramping-at-spec : {M : Type 1} → statement M
-ramping-at-spec = tie.close (tie.spec device-at-requires element-copy-out-t9 element-copy-out-t12 returns)
+ramping-at-spec = tie.close (tie.spec device-at-requires ramping-of-requires returns)

@@ -7,16 +7,16 @@ use Rattle.zone_reader.proofs.read_minima.Statement.{statement}
 use Rattle.zone_reader.proofs.read_minima.Tie as tie
 
 abbrev Inv-loop : tie.InvT-loop
-Inv-loop s minima₀ q₀ k₀ minima q k = Minding s (length minima₀) q₀ k minima q
+Inv-loop s edition minima₀ q₀ k₀ minima q k = Minding edition s (length minima₀) q₀ k minima q
 
 abbrev μ-loop : tie.MeasureT-loop
-μ-loop s minima₀ q₀ k₀ minima q k = length minima₀ - k
+μ-loop s edition minima₀ q₀ k₀ minima q k = length minima₀ - k
 
 loop-holds : tie.Need-loop-holds Inv-loop μ-loop
-loop-holds c = minding-none _ _ _
+loop-holds c = minding-none _ _ _ _
 
-read-pair-requires : tie.Need-read-pair-requires Inv-loop μ-loop
-read-pair-requires c κs = search needs
+read-interval-requires : tie.Need-read-interval-requires Inv-loop μ-loop
+read-interval-requires c κs = search needs
 
 enum-known-went : tie.Need-enum-known-went Inv-loop μ-loop
 enum-known-went c = search needs
@@ -30,10 +30,10 @@ same-length c = search needs
 returns : tie.Need-returns Inv-loop μ-loop
 returns c =
     let enum-told : _ = c .enum-told in
-    let read-pair : _ = c .before .before .before .read-pair in
+    let read-interval : _ = c .before .before .before .read-interval in
     let loop-test : _ = c .before .before .before .before .loop-test in
     let loop : _ = c .before .before .before .before .before .loop in
-    minding-off (loop .inv) (loop-test .taken) (read-pair .result .minima) (read-pair .ensures) (enum-told .given .1)
+    minding-off (loop .inv) (loop-test .taken) (read-interval .result .minima) (read-interval .ensures) (enum-told .given .1)
 
 put-minima-requires : tie.Need-put-minima-requires Inv-loop μ-loop
 put-minima-requires c κs = search needs
@@ -48,10 +48,10 @@ loop-again : tie.Need-loop-again Inv-loop μ-loop
 loop-again c =
     let put-minima : _ = c .before .put-minima in
     let went : _ = c .before .before .before .before .went in
-    let read-pair : _ = c .before .before .before .before .before .before .before .read-pair in
+    let read-interval : _ = c .before .before .before .before .before .before .before .read-interval in
     let loop-test : _ = c .before .before .before .before .before .before .before .before .loop-test in
     let loop : _ = c .before .before .before .before .before .before .before .before .before .loop in
-    minding-more (loop .inv) (loop-test .taken) (read-pair .result .minima) (read-pair .ensures) (went .given .1) (put-minima .ensures)
+    minding-more (loop .inv) (loop-test .taken) (read-interval .result .minima) (read-interval .ensures) (went .given .1) (put-minima .ensures)
 
 same-length-2 : tie.Need-same-length-2 Inv-loop μ-loop
 same-length-2 c = search needs
@@ -69,7 +69,7 @@ read-minima-spec =
     Inv-loop
     μ-loop
     loop-holds
-    read-pair-requires
+    read-interval-requires
     enum-known-went
     enum-told
     same-length

@@ -1,0 +1,127 @@
+// Rules 21 to 26 of a device in one interval, out of its parts of the tables, which t alone indexes.
+ghost use mathlib.Core.Path.{_≡_};
+ghost use mathlib.Core.Bool.{true};
+ghost use Prim.Native.Nat.{_<_};
+ghost use lib.ListN.{length};
+ghost use Rattle.row_places.specs.Figures.{reactiveAt, reactiveCellAt};
+ghost use Rattle.cell_bounds.specs.Word.{failingWord};
+ghost use Rattle.reactive_rules.specs.Rules.{reactiveBoundsOf, reactiveTestsAt, ReactiveFits, Idle, AllReactiveFit, ReactiveHeldTo};
+use brackets::bracket_at;
+use cell_rows::reactive_cell_at;
+use kilowatts::Kw;
+use ramped_powers::Ramping;
+use ramped_powers::ramping_of;
+use reactive_tests::KVAR_OFFSET;
+use reactive_tests::failing_figures;
+use row_places::CellRow;
+use row_places::Device;
+use row_places::Link;
+use row_places::Reactive;
+use row_places::ReactiveCell;
+use row_places::SettingRow;
+use setting_rows::reactive_at;
+
+// Link kind: none.
+const NO_LINK: u32 = 0;
+
+// What the reactive rules of a device's intervals read of it.
+pub struct ReactiveBounds {
+    pub side: u32,
+    pub link: Link,
+    pub ramping: Ramping,
+}
+
+pub fn reactive_bounds_of(d: Device) -> ReactiveBounds
+    ensures { λ r. ⌜ r ≡ reactiveBoundsOf d ⌝ }
+{
+    let link = d.link;
+    let ramping = ramping_of(d);
+    ReactiveBounds {
+        side: d.side,
+        link,
+        ramping,
+    }
+}
+
+// Whether nothing is reactive: no link, no reactive power, no reserve, and limits on either side of 0. Each rule holds then, whatever n is.
+fn idle(kind: u32, c: ReactiveCell, x: Reactive) -> bool
+    ensures { λ r. ⌜ (r ≡ true → Idle kind c x) ⌝ }
+{
+    if kind != NO_LINK {
+        return false;
+    }
+    if x.q.0 != KVAR_OFFSET {
+        return false;
+    }
+    if x.qru.0 != 0 {
+        return false;
+    }
+    if x.qrd.0 != 0 {
+        return false;
+    }
+    if KVAR_OFFSET < c.qmin.0 {
+        return false;
+    }
+    if c.qmax.0 < KVAR_OFFSET {
+        return false;
+    }
+    true
+}
+
+// Whether nothing of interval t is reactive.
+fn idle_at(kind: u32, cells: &[CellRow], settings: &[SettingRow], t: usize) -> bool
+    requires { ⌜ (t < length (now cells)) × (t < length (now settings)) ⌝ }
+    ensures { λ r. ⌜ (r ≡ true → Idle kind (reactiveCellAt (now (cells .entry)) t) (reactiveAt (now (settings .entry)) t)) ⌝ }
+{
+    let c = reactive_cell_at(cells, t);
+    let x = reactive_at(settings, t);
+    idle(kind, c, x)
+}
+
+// The reactive rules of interval t that fail: bit k for rule k.
+pub fn failing_reactive(
+    d: ReactiveBounds,
+    cells: &[CellRow],
+    settings: &[SettingRow],
+    starts: &[u32],
+    powers: &[u32],
+    t: usize,
+) -> u32
+    requires { ⌜ ReactiveFits d (now cells) (now settings) (now starts) (now powers) t ⌝ }
+    ensures { λ r. ⌜ r ≡ failingWord (reactiveTestsAt d (now (cells .entry)) (now (settings .entry)) (now (starts .entry)) (now (powers .entry)) t) ⌝ }
+{
+    let link = d.link;
+    if idle_at(link.kind, cells, settings, t) {
+        return 0;
+    }
+    let ramping = d.ramping;
+    let n = bracket_at(ramping, cells, settings, starts, t);
+    let power = Kw(powers[t]);
+    let c = reactive_cell_at(cells, t);
+    let x = reactive_at(settings, t);
+    failing_figures(d.side, n, power, link, c, x)
+}
+
+// Whether no reactive rule of a device's intervals fails: true only where each holds.
+pub fn reactive_held(
+    d: ReactiveBounds,
+    cells: &[CellRow],
+    settings: &[SettingRow],
+    starts: &[u32],
+    powers: &[u32],
+) -> bool
+    requires { ⌜ AllReactiveFit d (now cells) (now settings) (now starts) (now powers) ⌝ }
+    ensures { λ r. ⌜ (r ≡ true → ReactiveHeldTo d (now (cells .entry)) (now (settings .entry)) (now (starts .entry)) (now (powers .entry)) (length (now (cells .entry)))) ⌝ }
+{
+    let kind = d.link.kind;
+    let mut t = 0;
+    while t < cells.len() {
+        if !idle_at(kind, cells, settings, t) {
+            if failing_reactive(d, cells, settings, starts, powers, t) != 0 {
+                return false;
+            }
+        }
+        t += 1;
+    }
+    true
+}

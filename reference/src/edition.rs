@@ -1,0 +1,129 @@
+//! Editions: which fields a message has, and how wide its counts are.
+//!
+//! The edition stands beside the content of a message, never in it: figures that an edition's
+//! messages lack have their neutral values in the content, and "nothing may depend on which of the
+//! two is the case" but reading and writing.
+
+use crate::bits::FieldReader;
+use crate::case::{MOST_DEVICES, MOST_INTERVALS, MOST_ZONES};
+use crate::fault::Fault;
+
+/// An edition of the messages.
+#[derive(Clone, Copy, PartialEq, Eq, PartialOrd, Ord, Debug)]
+pub enum Edition {
+    /// Paper 01.
+    One,
+    /// "Edition 2 adds the rules of document 000, section 4.6.7, equations 114 to 118, and all
+    /// reactive ones of 4.6.8, with the plain limits for producing sets symmetrical to 122 and
+    /// 123." (A.1)
+    Two,
+}
+
+/// A count's width in bits, and the most that it may say.
+#[derive(Clone, Copy, PartialEq, Eq, Debug)]
+pub struct CountField {
+    pub width: usize,
+    pub most: usize,
+}
+
+impl Edition {
+    /// Every edition, oldest first.
+    pub const ALL: [Edition; 2] = [Edition::One, Edition::Two];
+    pub const NEWEST: Edition = Edition::Two;
+
+    /// The number that stands in a message.
+    pub fn figure(self) -> i128 {
+        match self {
+            Edition::One => 1,
+            Edition::Two => 2,
+        }
+    }
+
+    /// The edition of a number, if there is one.
+    pub fn numbered(figure: i128) -> Option<Edition> {
+        let mut all = Edition::ALL.into_iter();
+        all.find(|edition| edition.figure() == figure)
+    }
+
+    /// Whether messages have the fields of A.1.
+    pub fn has_reactive_power(self) -> bool {
+        self >= Edition::Two
+    }
+
+    /// "devices 5 (1..16)".
+    pub fn devices(self) -> CountField {
+        CountField {
+            width: 5,
+            most: MOST_DEVICES,
+        }
+    }
+
+    /// "intervals 6 (1..48)".
+    pub fn intervals(self) -> CountField {
+        CountField {
+            width: 6,
+            most: MOST_INTERVALS,
+        }
+    }
+
+    /// "zones 3 (0..4)".
+    pub fn zones(self) -> CountField {
+        CountField {
+            width: 3,
+            most: MOST_ZONES,
+        }
+    }
+
+    /// "most starts 6 (0..48)": a figure, bounded like a count.
+    pub fn most_starts(self) -> CountField {
+        CountField {
+            width: 6,
+            most: MOST_INTERVALS,
+        }
+    }
+
+    /// How many shortfalls a zone has, and prices for them: "rgu, rgd, scr, nsc, rru, rrd", and the
+    /// two of A.1.
+    pub fn shortfalls(self) -> usize {
+        if self.has_reactive_power() {
+            8
+        } else {
+            6
+        }
+    }
+
+    /// How many minima a zone has in an interval: "rru and rrd minima", and the two of A.1.
+    pub fn minima(self) -> usize {
+        if self.has_reactive_power() {
+            4
+        } else {
+            2
+        }
+    }
+
+    /// How many mismatches an interval has: the real one, and "A reactive mismatch is priced like
+    /// the real one."
+    pub fn mismatches(self) -> usize {
+        if self.has_reactive_power() {
+            2
+        } else {
+            1
+        }
+    }
+
+    /// The greatest number of a rule: "Rules 21 to 26 [...] come after 19 and before 20."
+    pub fn last_rule(self) -> u8 {
+        if self.has_reactive_power() {
+            26
+        } else {
+            20
+        }
+    }
+}
+
+/// Reads a case's edition: one that exists, "else 2 at bit 4".
+pub fn read_edition(fields: &mut FieldReader) -> Result<Edition, Fault> {
+    let oldest = Edition::ALL[0].figure();
+    let figure = fields.one_of(4, oldest, Edition::NEWEST.figure())?;
+    Ok(Edition::numbered(figure).expect("editions are numbered without gaps"))
+}
