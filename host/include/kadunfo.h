@@ -1,5 +1,5 @@
 /* The plan unit for hosts in C. A slice is a pointer and then a length; no two slices of a call overlap.
-   Cases of editions 1 and 2 are judged, with plans of their own edition; a completion has its case's. */
+   Cases of editions 1 to 3 are judged, with plans of their own edition; a completion has its case's. */
 #ifndef KADUNFO_H
 #define KADUNFO_H
 
@@ -20,8 +20,8 @@ enum kadunfo_word {
    of each device. */
 #define KADUNFO_LONGEST_LIST 77056 /* 4 * (16 * 48 * 25 + 16 * 4) */
 
-/* Bytes that hold every completion: that of edition 2 with 16 devices, 48 intervals, 4 zones and 4 energy windows
-   of each device. */
+/* Bytes that hold every completion: that of edition 2 or 3 with 16 devices, 48 intervals, 4 zones and 4 energy
+   windows of each device. */
 #define KADUNFO_LONGEST_COMPLETION 13887
 
 /* Judges one plan against one case. Only acceptance writes to result: the completion's bytes, the rest

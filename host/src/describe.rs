@@ -3,8 +3,29 @@
 use crate::message::{Case, Device, Interval, Line, Link, Zone};
 
 /// The lines of a case, each with its end: the batch program's words and counts, the day, each
-/// zone's reactive needs where the edition has them, each device.
+/// zone's reactive needs where the edition has them, each device with its floors where it has them.
 pub fn describe(case: &Case) -> String {
+    let mut lines = day_lines(case);
+    if case.has_reactive_power() {
+        for (number, zone) in (1..).zip(&case.zones) {
+            lines.push(format!("zone {number}: {}", zone_words(zone)));
+        }
+    }
+    for (number, device) in (1..).zip(&case.devices) {
+        let mut words = device_words(device);
+        if case.has_reactive_power() {
+            words.extend([reactive_words(device), link_words(&device.link)]);
+        }
+        if case.has_floors() {
+            words.push(floor_words(device));
+        }
+        lines.push(format!("device {number}: {}", words.join("; ")));
+    }
+    lines.join("\n") + "\n"
+}
+
+/// Counts, durations and prices of the day.
+fn day_lines(case: &Case) -> Vec<String> {
     let (devices, intervals) = (case.devices.len(), case.intervals.len());
     let zones = case.zones.len();
     let mismatched = if case.has_reactive_power() {
@@ -13,7 +34,7 @@ pub fn describe(case: &Case) -> String {
         "kW min"
     };
     let minutes = case.intervals.last().map_or(0, |last| last.end);
-    let mut lines = vec![
+    vec![
         format!("case {devices} {intervals} {zones}"),
         format!("edition {}", case.edition),
         format!("devices {devices}"),
@@ -27,20 +48,7 @@ pub fn describe(case: &Case) -> String {
             case.mismatch_price
         ),
         format!("overrun price {} grains per kW min", case.overrun_price),
-    ];
-    if case.has_reactive_power() {
-        for (number, zone) in (1..).zip(&case.zones) {
-            lines.push(format!("zone {number}: {}", zone_words(zone)));
-        }
-    }
-    for (number, device) in (1..).zip(&case.devices) {
-        let mut words = device_words(device);
-        if case.has_reactive_power() {
-            words.extend([reactive_words(device), link_words(&device.link)]);
-        }
-        lines.push(format!("device {number}: {}", words.join("; ")));
-    }
-    lines.join("\n") + "\n"
+    ]
 }
 
 /// The greatest minima of the day, and what a shortfall costs.
@@ -124,6 +132,13 @@ fn power_words(device: &Device) -> String {
         lowest.unwrap_or(0),
         highest.unwrap_or(0)
     )
+}
+
+/// The most that the floors of an interval come to.
+fn floor_words(device: &Device) -> String {
+    let sums = device.cells.iter().map(|cell| cell.floors().iter().sum());
+    let greatest: i64 = sums.max().unwrap_or(0);
+    format!("block floors to {greatest} kW in an interval")
 }
 
 /// From the least qmin to the greatest qmax of the day.

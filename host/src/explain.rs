@@ -87,12 +87,20 @@ const RULES: [&str; 26] = [
 ///
 /// `None` where the breach is not in the day or its figures do not break the rule.
 pub fn explain(day: &Day, breach: Breach) -> Option<String> {
-    let rule = RULES.get(usize::from(breach.rule).checked_sub(1)?)?;
     let comparison = compare(day, breach)?;
+    let rule = name_of(breach.rule, &comparison)?;
     let place = breach.place();
     let number = breach.rule;
     (!comparison.holds())
         .then(|| format!("{breach} rule {number} ({rule}) at {place}: {comparison}"))
+}
+
+/// What a rule is about; rule 19 by the bound that is told.
+fn name_of(rule: u8, comparison: &Comparison) -> Option<&'static str> {
+    match (rule, &comparison.relation) {
+        (19, Relation::AtLeast) => Some("block floors"),
+        _ => RULES.get(usize::from(rule).checked_sub(1)?).copied(),
+    }
 }
 
 /// Both sides of a rule at a place; `None` where it asks nothing there.
@@ -121,7 +129,7 @@ fn compare_at(point: Point, rule: u8) -> Option<Comparison> {
         16 => Some(highest_online(point)),
         17 => Some(lowest_online(point)),
         18 => Some(highest_offline(point)),
-        19 => Some(block_caps(point)),
+        19 => Some(block_bounds(point)),
         21..=26 => reactive::compare(point, rule),
         _ => None,
     }
@@ -347,21 +355,35 @@ fn highest_offline(point: Point) -> Comparison {
     Comparison::kilowatts(subject, Figure::sum(&terms), Relation::AtMost, pmax)
 }
 
-/// Rule 19.
-fn block_caps(point: Point) -> Comparison {
+/// Rule 19, by its upper bound where the power is above it, else by its lower one: floors are never
+/// above caps, so both cannot be broken.
+fn block_bounds(point: Point) -> Comparison {
     let power = Figure::sum(&[
         ("online", point.setting().online),
         ("startup", point.startup_power()),
         ("shutdown", point.shutdown_power()),
     ]);
-    let caps = &point.cell().block_caps;
-    let told: Vec<String> = caps.iter().map(i64::to_string).collect();
-    let origin = match told.as_slice() {
-        [] => "no blocks".to_string(),
-        told => format!("blocks {}", told.join(" + ")),
+    let caps = point.cell().caps();
+    let most: i64 = caps.iter().sum();
+    let (relation, right) = if point.power() > most {
+        let right = Figure::new(most, block_words("blocks", &caps));
+        (Relation::AtMost, right)
+    } else {
+        let floors = point.cell().floors();
+        let origin = block_words("block floors", &floors);
+        let right = while_state(point, true, floors.iter().sum(), &origin);
+        (Relation::AtLeast, right)
     };
-    let right = Figure::new(caps.iter().sum(), origin);
-    Comparison::kilowatts("power is #", power, Relation::AtMost, right)
+    Comparison::kilowatts("power is #", power, relation, right)
+}
+
+/// A figure of each block, as they are added.
+fn block_words(name: &str, figures: &[i64]) -> String {
+    let told: Vec<String> = figures.iter().map(i64::to_string).collect();
+    match told.as_slice() {
+        [] => "no blocks".to_string(),
+        told => format!("{name} {}", told.join(" + ")),
+    }
 }
 
 /// Rule 20.

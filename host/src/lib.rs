@@ -55,8 +55,8 @@ pub mod word {
 /// and of 4 windows of each device.
 pub const LONGEST_LIST: usize = 4 * (16 * 48 * 25 + 16 * 4);
 
-/// Bytes that hold every completion: that of edition 2 with 16 devices, 48 intervals, 4 zones and 4
-/// energy windows of each device.
+/// Bytes that hold every completion: that of edition 2 or 3 with 16 devices, 48 intervals, 4 zones
+/// and 4 energy windows of each device.
 pub const LONGEST_COMPLETION: usize = 13_887;
 
 /// A word and four numbers, as the header lists them.

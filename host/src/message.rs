@@ -7,9 +7,11 @@
 const CASE: i64 = 1;
 const PLAN: i64 = 2;
 /// The newest edition whose fields stand here.
-const NEWEST_EDITION: i64 = 2;
+const NEWEST_EDITION: i64 = 3;
 /// The edition that brought reactive power.
 const REACTIVE: i64 = 2;
+/// The edition that brought floors.
+const FLOORS: i64 = 3;
 
 const COUNT: usize = 3;
 const POWER: usize = 17;
@@ -27,7 +29,7 @@ const ZONE_MINIMA: usize = 2 * 23;
 /// A day to be planned. Power kW, reactive power kvar, time minutes, money grains.
 ///
 /// What an edition's messages lack is neutral: reactive figures 0, prices of a reactive shortfall 1,
-/// no link.
+/// no link, floors 0.
 #[derive(Clone, PartialEq, Eq, Debug)]
 pub struct Case {
     pub edition: i64,
@@ -42,6 +44,11 @@ impl Case {
     /// Whether the messages of its edition have reactive figures.
     pub fn has_reactive_power(&self) -> bool {
         self.edition >= REACTIVE
+    }
+
+    /// Whether the blocks of its edition have floors.
+    pub fn has_floors(&self) -> bool {
+        self.edition >= FLOORS
     }
 }
 
@@ -141,9 +148,27 @@ pub struct Cell {
     pub fixed: Option<bool>,
     pub pmin: i64,
     pub pmax: i64,
-    pub block_caps: Vec<i64>,
+    pub blocks: Vec<Block>,
     pub qmin: i64,
     pub qmax: i64,
+}
+
+impl Cell {
+    pub fn caps(&self) -> Vec<i64> {
+        self.blocks.iter().map(|block| block.cap).collect()
+    }
+
+    pub fn floors(&self) -> Vec<i64> {
+        self.blocks.iter().map(|block| block.floor).collect()
+    }
+}
+
+/// The powers of a block; of its price no word is made.
+#[derive(Clone, Copy, PartialEq, Eq, Debug)]
+pub struct Block {
+    pub cap: i64,
+    /// Binds while the device is on.
+    pub floor: i64,
 }
 
 /// What a plan sets: by interval, then device.
@@ -212,12 +237,22 @@ impl<'a> Fields<'a> {
         self.signed(18)
     }
 
-    /// What came with reactive power; neutral in the messages of an older edition.
-    fn reactive<T>(&mut self, neutral: T, read: impl FnOnce(&mut Self) -> Option<T>) -> Option<T> {
-        if self.edition < REACTIVE {
+    /// What came with an edition; neutral in the messages of an older one.
+    fn since<T>(
+        &mut self,
+        edition: i64,
+        neutral: T,
+        read: impl FnOnce(&mut Self) -> Option<T>,
+    ) -> Option<T> {
+        if self.edition < edition {
             return Some(neutral);
         }
         read(self)
+    }
+
+    /// What came with reactive power.
+    fn reactive<T>(&mut self, neutral: T, read: impl FnOnce(&mut Self) -> Option<T>) -> Option<T> {
+        self.since(REACTIVE, neutral, read)
     }
 
     fn flag(&mut self) -> Option<bool> {
@@ -367,7 +402,7 @@ fn read_cell(fields: &mut Fields) -> Option<Cell> {
         },
         pmin: fields.take(POWER)?,
         pmax: fields.take(POWER)?,
-        block_caps: read_block_caps(fields)?,
+        blocks: read_blocks(fields)?,
         qmin: 0,
         qmax: 0,
     };
@@ -383,12 +418,14 @@ fn read_limits(fields: &mut Fields) -> Option<(i64, i64)> {
     Some(limits)
 }
 
-fn read_block_caps(fields: &mut Fields) -> Option<Vec<i64>> {
+/// Each block's cap and floor, ahead of its price.
+fn read_blocks(fields: &mut Fields) -> Option<Vec<Block>> {
     let count = fields.count(COUNT)?;
     fields.list(count, |fields| {
         let cap = fields.take(POWER)?;
+        let floor = fields.since(FLOORS, 0, |fields| fields.take(POWER))?;
         fields.pass(BLOCK_PRICE);
-        Some(cap)
+        Some(Block { cap, floor })
     })
 }
 

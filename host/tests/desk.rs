@@ -15,7 +15,7 @@ use reference::case::{
 use reference::edition::Edition;
 use reference::judge::judge;
 use reference::plan::{read_plan, Setting};
-use reference::worked_day::{lettered_days, reactive_days, two_set_day, Day};
+use reference::worked_day::{floor_days, lettered_days, reactive_days, two_set_day, Day};
 
 /// What a run left: text of both outputs, exit status.
 #[derive(Debug)]
@@ -136,6 +136,20 @@ fn judge_prints_the_verdict_in_edition_2() {
     }
 }
 
+/// The days of edition 3 that were worked by hand, in their order.
+#[test]
+fn judge_prints_the_verdict_in_edition_3() {
+    let scratch = Scratch::new("judge-3");
+    let verdicts = ["accepted 164260\n", "broken 19 2 1 0\n"];
+    let days = floor_days();
+    assert_eq!(days.len(), verdicts.len());
+    for ((about, day), line) in days.iter().zip(verdicts) {
+        let [case, plan] = scratch.day(day);
+        let status = i32::from(line.starts_with("broken"));
+        assert_eq!(answer(&["judge", &case, &plan], status), line, "{about}");
+    }
+}
+
 /// The completion that `judge` writes to a file is the reference's, of so many bytes.
 fn hold_completion(scratch: &Scratch, day: &Day, bytes: usize) {
     let [case, plan] = scratch.day(day);
@@ -147,8 +161,8 @@ fn hold_completion(scratch: &Scratch, day: &Day, bytes: usize) {
     assert_eq!(fs::read(&result).expect("a completion"), expected);
 }
 
-/// A header of 22 bits; in each interval 73 for a device, 198 for a zone and 23, in edition 2 66 for
-/// a zone and 23 more; 64 of surplus.
+/// A header of 22 bits; in each interval 73 for a device, 198 for a zone and 23, from edition 2 on 66
+/// for a zone and 23 more; 64 of surplus.
 #[test]
 fn judge_writes_the_completion_of_an_accepted_plan_alone() {
     let scratch = Scratch::new("result");
@@ -156,6 +170,7 @@ fn judge_writes_the_completion_of_an_accepted_plan_alone() {
     hold_completion(&scratch, &day, 53);
     hold_completion(&scratch, &reactive_days()[0].1, 59);
     hold_completion(&scratch, &reactive_days()[4].1, 125);
+    hold_completion(&scratch, &floor_days()[0].1, 59);
     let [case, plan] = scratch.day(&lettered('b'));
     let other = scratch.path("other");
     answer(&["judge", "--result", &other, &case, &plan], 1);
@@ -182,7 +197,8 @@ fn lines_after(test: &str, change: impl Fn(&mut Day)) -> Vec<String> {
 
 #[test]
 fn no_breaches_of_an_accepted_plan() {
-    for day in [two_set_day(), reactive_days()[4].1.clone()] {
+    let later = [reactive_days()[4].1.clone(), floor_days()[0].1.clone()];
+    for day in [two_set_day()].into_iter().chain(later) {
         let [case, plan] = Scratch::new("none").day(&day);
         assert_eq!(answer(&["breaches", &case, &plan], 0), "no breaches\n");
     }
@@ -353,6 +369,57 @@ fn a_startup_in_words() {
         "19 1 1 0 rule 19 (block caps) at interval 1, device 1: power is 30 kW (online 0 + startup 30), at most 0 kW (no blocks)",
     ];
     assert_eq!(lines, expected);
+}
+
+/// The worked day in edition 3.
+fn floored_day() -> Day {
+    Day {
+        edition: Edition::Three,
+        ..two_set_day()
+    }
+}
+
+/// 150 kW of device 1 below floors of 71 and 80; 30 kW of device 2 below one of 31, then 150 kW
+/// above a cap, and a floor, of 149.
+#[test]
+fn both_bounds_of_blocks_in_words() {
+    let lines = lines_of("floors", &floor_days()[1].1);
+    let expected = "19 2 1 0 rule 19 (block floors) at interval 2, device 1: power is 150 kW (online 150), at least 151 kW (block floors 71 + 80)";
+    assert_eq!(lines, [expected]);
+    let mut day = floored_day();
+    day.case.devices[1].terms[0].blocks[0].floor = 31;
+    let block = &mut day.case.devices[1].terms[1].blocks[0];
+    (block.cap, block.floor) = (149, 149);
+    let expected = [
+        "19 1 2 0 rule 19 (block floors) at interval 1, device 2: power is 30 kW (online 30), at least 31 kW (block floors 31)",
+        "19 2 2 0 rule 19 (block caps) at interval 2, device 2: power is 150 kW (online 150), at most 149 kW (blocks 149)",
+    ];
+    assert_eq!(lines_of("bounds", &day), expected);
+}
+
+/// Device 1 is on in interval 1 and starts again in interval 3, with 150 − 1·120 = 30 kW of it in
+/// interval 1: its whole power is held to floors of 181. While off it has no floors.
+#[test]
+fn floors_and_trajectories_in_words() {
+    let mut day = floored_day();
+    day.case.durations = vec![60; 3];
+    for device in &mut day.case.devices {
+        device.terms = vec![device.terms[0].clone(); 3];
+    }
+    day.case.devices[0].ramps.starting = 1;
+    for (terms, floors) in day.case.devices[0].terms.iter_mut().zip([81, 100, 0]) {
+        (terms.blocks[0].floor, terms.blocks[1].floor) = (100, floors);
+    }
+    let (idle, on) = (day.plan.intervals[0][0], day.plan.intervals[1][0]);
+    let load = day.plan.intervals[1][1];
+    day.plan.intervals = vec![vec![on, load], vec![idle, load], vec![on, load]];
+    let lines = lines_of("floors-on", &day);
+    let of_19: Vec<&String> = lines
+        .iter()
+        .filter(|line| line.starts_with("19 "))
+        .collect();
+    let expected = "19 1 1 0 rule 19 (block floors) at interval 1, device 1: power is 180 kW (online 150 + startup 30), at least 181 kW (block floors 100 + 81)";
+    assert_eq!(of_19, [expected]);
 }
 
 /// The worked day in edition 2, with limits of −9 and 11 kvar on both devices.
@@ -564,6 +631,24 @@ device 2: consuming; in zone 2; initially on for 600 min at 30 kW; minimum up 0 
     assert!(answer(&["inspect", &unlinked[0]], 0).ends_with("qmax to 11 kvar; no link\n"));
 }
 
+/// Device 1 with floors of 0 and 80, device 2 with none.
+#[test]
+fn inspect_prints_what_a_case_of_edition_3_holds() {
+    let [case, _] = Scratch::new("inspect-3").day(&floor_days()[0].1);
+    let expected = "\
+case 2 2 0
+edition 3
+devices 2
+intervals 2: 2 x 60 min; 120 min in all
+zones 0
+mismatch price 1000 grains per kW min and kvar min
+overrun price 1 grains per kW min
+device 1: producing; in no zone; initially off for 600 min at 0 kW; minimum up 60 min, down 60 min; ramps up 10, down 10, starting 2, stopping 2 kW/min; pmin from 150 kW, pmax to 200 kW; costs in grains: on 4 per min, start 10000, stop 0; startup states 2, start windows 0, energy windows 0; qmin from 0 kvar, qmax to 0 kvar; no link; block floors to 80 kW in an interval
+device 2: consuming; in no zone; initially on for 600 min at 30 kW; minimum up 0 min, down 0 min; ramps up 100, down 100, starting 100, stopping 100 kW/min; pmin from 0 kW, pmax to 200 kW; costs in grains: on 0 per min, start 0, stop 0; startup states 0, start windows 0, energy windows 0; qmin from 0 kvar, qmax to 0 kvar; no link; block floors to 0 kW in an interval
+";
+    assert_eq!(answer(&["inspect", &case], 0), expected);
+}
+
 /// Plans of the worked day that are damaged, and how each is refused behind `refused`; `{}` is the
 /// file.
 fn refused_plans(whole: &[u8]) -> [(Vec<u8>, &'static str); 5] {
@@ -622,12 +707,12 @@ fn a_refused_case_comes_first() {
     assert_eq!(complaint(&["inspect", &plan], 2), expected);
 }
 
-/// A plan of either edition for a case of the other; a case of an edition that is not there.
+/// A plan of each edition for a case of another; a case of an edition that is not there.
 #[test]
 fn another_edition_is_told() {
     let scratch = Scratch::new("editions");
     let meaning = "wrong kind, or an edition that is unknown or unlike the case's";
-    let [first, second] = Edition::ALL.map(|edition| {
+    let messages = Edition::ALL.map(|edition| {
         let day = Day {
             edition,
             ..two_set_day()
@@ -639,13 +724,15 @@ fn another_edition_is_told() {
             scratch.file(&name("plan"), &plan),
         ]
     });
-    for ([case, _], [_, plan]) in [(&first, &second), (&second, &first)] {
+    let pairs = (0..9).map(|pair| (pair / 3, pair % 3));
+    for (k, other) in pairs.filter(|(k, other)| k != other) {
+        let (case, plan) = (&messages[k][0], &messages[other][1]);
         let expected = format!("refused 2 4: plan {plan}: {meaning}");
         assert_eq!(complaint(&["judge", case, plan], 2), expected);
         assert_eq!(complaint(&["breaches", case, plan], 2), expected);
     }
-    let mut case = fs::read(&second[0]).expect("a case");
-    case[0] = 0x13;
+    let mut case = fs::read(&messages[2][0]).expect("a case");
+    case[0] = 0x14;
     let unknown = scratch.file("unknown", &case);
     let expected = format!("refused 2 4: case {unknown}: {meaning}");
     assert_eq!(complaint(&["inspect", &unknown], 2), expected);
@@ -653,7 +740,8 @@ fn another_edition_is_told() {
 
 /// Behind pmin 201 and pmax 200 of device 2 in interval 2 of edition 1: 50 + 16 of the front, 455 and
 /// 430 of device 1, 361 and 183 of device 2, and 19. qmin 12 and qmax 11 of device 1 in interval 1
-/// of edition 2: 66, 457 and 215, and 18.
+/// of edition 2: 66, 457 and 215, and 18. The floor of its first block in edition 3: 66, 457, 39 and
+/// 17.
 #[test]
 fn a_contradiction_in_a_case_is_told() {
     let scratch = Scratch::new("contradiction");
@@ -661,11 +749,13 @@ fn a_contradiction_in_a_case_is_told() {
     real.case.devices[1].terms[1].pmin = 201;
     let mut reactive = reactive_day();
     reactive.case.devices[0].terms[0].qmin = 12;
-    for (day, bit) in [(real, 1_514), (reactive, 756)] {
+    let mut floored = floored_day();
+    floored.case.devices[0].terms[0].blocks[0].floor = 101;
+    for (day, bit) in [(real, 1_514), (reactive, 756), (floored, 579)] {
         let [case, plan] = scratch.day(&day);
         let expected = format!(
-            "refused 5 {bit}: case {case}: pmin above pmax, qmin above qmax, a window's start after \
-             its end, its end after the day's, or a zone bit above the zone count"
+            "refused 5 {bit}: case {case}: pmin above pmax, a floor above its cap, qmin above qmax, a \
+             window's start after its end, its end after the day's, or a zone bit above the zone count"
         );
         for words in [
             vec!["inspect", &case],

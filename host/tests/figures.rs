@@ -7,7 +7,7 @@ use common::{each_batch, each_pair};
 use host::day::Day;
 use host::explain::{explain, Breach};
 use host::message::{
-    read_case, read_plan, Case, Cell, Device, Interval, Line, Link, Plan, Reactive, Setting,
+    read_case, read_plan, Block, Case, Cell, Device, Interval, Line, Link, Plan, Reactive, Setting,
     StartWindow, Zone,
 };
 use reference::breaches::breaches_of;
@@ -109,9 +109,16 @@ fn cell_of(terms: &case::Terms) -> Cell {
         },
         pmin: small(terms.pmin),
         pmax: small(terms.pmax),
-        block_caps: terms.blocks.iter().map(|block| small(block.cap)).collect(),
+        blocks: terms.blocks.iter().map(block_of).collect(),
         qmin: small(terms.qmin),
         qmax: small(terms.qmax),
+    }
+}
+
+fn block_of(block: &case::Block) -> Block {
+    Block {
+        cap: small(block.cap),
+        floor: small(block.floor),
     }
 }
 
@@ -135,7 +142,7 @@ fn plan_of(plan: &plan::Plan) -> Plan {
 #[test]
 fn messages_hold_the_references_figures() {
     // Of each edition.
-    let (mut cases, mut plans) = ([0; 2], [0; 2]);
+    let (mut cases, mut plans) = ([0; 3], [0; 3]);
     each_batch(|message, messages| {
         let Ok((edition, case)) = case::read_case(message) else {
             return;
@@ -151,7 +158,7 @@ fn messages_hold_the_references_figures() {
             }
         }
     });
-    assert!(cases.iter().all(|&count| count > 200), "{cases:?}");
+    assert!(cases.iter().all(|&count| count > 150), "{cases:?}");
     assert!(plans.iter().all(|&count| count > 1_000), "{plans:?}");
 }
 
@@ -251,7 +258,7 @@ fn what_does_not_pass_reading_has_no_figures() {
         cut += 1;
         assert_eq!(read_case(&[message, &[0]].concat()), None);
         longer += 1;
-        for first in [0x10, 0x13, 0x1f, 0x21, 0x01] {
+        for first in [0x10, 0x14, 0x1f, 0x21, 0x01] {
             assert_eq!(read_case(&[&[first], &message[1..]].concat()), None);
         }
     });

@@ -11,7 +11,7 @@ use reference::busiest::busiest_batch;
 use reference::case::read_case;
 use reference::completion::completion_bits;
 use reference::edition::Edition;
-use reference::worked_day::{lettered_days, reactive_days};
+use reference::worked_day::{floor_days, lettered_days, reactive_days};
 
 const HOST: &str = env!("CARGO_MANIFEST_DIR");
 const SCRATCH: &str = env!("CARGO_TARGET_TMPDIR");
@@ -93,6 +93,18 @@ fn header_serves_a_program_in_c() {
         run(&program, &case, &plan_a),
         "inspect 0 2 2 0 0\njudge 3 2 4 0 0\nshort 3 2 4 0 0\nbreaches 3 2 4 0 0\n"
     );
+    // Edition 3: floors 0 and 80 of device 1, then 71 and 80.
+    let days = floor_days();
+    let (case, plan) = days[0].1.messages();
+    assert_eq!(
+        run(&program, &case, &plan),
+        "inspect 0 2 2 0 0\njudge 0 164260 0 0 0\nshort 0 0 0 0 0\nbreaches 0 0 0 0 0\n"
+    );
+    let (case, plan) = days[1].1.messages();
+    assert_eq!(
+        run(&program, &case, &plan),
+        "inspect 0 2 2 0 0\njudge 1 19 2 1 0\nshort 4 7 4 0 0\nbreaches 0 1 0 0 0\n19 2 1 0\n"
+    );
 }
 
 /// The header and the wrappers name one length, that of the largest case of the newest edition.
@@ -106,7 +118,7 @@ fn longest_completion_is_the_headers() {
         let (_, case) = read_case(batch::messages(&largest)[0]).expect("it passes reading");
         completion_bits(edition, &case).div_ceil(8)
     });
-    assert_eq!(longest, [12_165, LONGEST_COMPLETION]);
+    assert_eq!(longest, [12_165, LONGEST_COMPLETION, LONGEST_COMPLETION]);
 }
 
 /// The header and the wrappers name one length.

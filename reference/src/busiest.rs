@@ -1,6 +1,7 @@
 //! The busiest day that a plan unit can be given: every count at its largest, each device a member
-//! of every zone, and a plan that starts or stops every device in every interval. In edition 2 each
-//! device has two link lines and every reactive price, and reactive reserves while on.
+//! of every zone, and a plan that starts or stops every device in every interval. From edition 2 on
+//! each device has two link lines and every reactive price, and reactive reserves while on; in
+//! edition 3 each block has a floor.
 
 use crate::batch::join;
 use crate::case::{
@@ -31,7 +32,18 @@ fn busiest_day(edition: Edition, devices: usize, intervals: usize) -> Day {
     if edition.has_reactive_power() {
         add_reactive_power(&mut day);
     }
+    if edition.has_floors() {
+        add_floors(&mut day.case);
+    }
     day
+}
+
+/// 10 kW of each of four blocks: of 50 kW, 10 are left to the best price.
+fn add_floors(case: &mut Case) {
+    let terms = case.devices.iter_mut().flat_map(|device| &mut device.terms);
+    for block in terms.flat_map(|terms| &mut terms.blocks) {
+        block.floor = 10;
+    }
 }
 
 /// Prices, minima and lines everywhere; 20 kvar while on, with reserves below a line that cuts a
@@ -87,7 +99,7 @@ fn device(number: usize, intervals: usize) -> Device {
     let terms = Terms {
         pmax: 200,
         blocks: (0..MOST_ITEMS as i128)
-            .map(|price| Block { cap: 100, price })
+            .map(|price| Block::plain(100, price))
             .collect(),
         reserve_prices: Reserves::from_order([1; 8]),
         ..Terms::default()

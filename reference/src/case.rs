@@ -1,4 +1,4 @@
-//! The case: its figures and its reading ("Messages", paragraph **Case**, and A.1).
+//! The case: its figures and its reading ("Messages", paragraph **Case**, A.1 and A.6).
 
 use crate::bits::FieldReader;
 use crate::edition::{read_edition, CountField, Edition};
@@ -22,7 +22,7 @@ const NEUTRAL_PRICE: i128 = 1;
 /// A day to be planned. Power kW, reactive power kvar, time minutes, energy kW·min, money grains.
 ///
 /// Where an edition's messages lack a figure, it has its neutral value: reactive limits, prices and
-/// minima 0, prices of reactive shortfalls 1, no link.
+/// minima 0, prices of reactive shortfalls 1, no link, "floors of 0".
 #[derive(Clone, PartialEq, Eq, Debug)]
 pub struct Case {
     pub mismatch_price: i128,
@@ -197,7 +197,20 @@ pub enum Status {
 #[derive(Clone, Copy, PartialEq, Eq, Debug)]
 pub struct Block {
     pub cap: i128,
+    /// "While u = 1 each block power is at least its floor; while u = 0 floors don't bind."
+    pub floor: i128,
     pub price: i128,
+}
+
+impl Block {
+    /// A block with a floor of 0.
+    pub fn plain(cap: i128, price: i128) -> Block {
+        Block {
+            cap,
+            floor: 0,
+            price,
+        }
+    }
 }
 
 /// What the case says of one device in one interval.
@@ -216,6 +229,10 @@ pub struct Terms {
 impl Terms {
     pub fn sum_of_caps(&self) -> i128 {
         self.blocks.iter().map(|block| block.cap).sum()
+    }
+
+    pub fn sum_of_floors(&self) -> i128 {
+        self.blocks.iter().map(|block| block.floor).sum()
     }
 }
 
@@ -283,6 +300,12 @@ impl Device {
 impl Case {
     pub fn intervals(&self) -> usize {
         self.durations.len()
+    }
+
+    /// Whether any block has a floor above 0.
+    pub fn has_floors(&self) -> bool {
+        let terms = self.devices.iter().flat_map(|device| &device.terms);
+        terms.map(Terms::sum_of_floors).any(|floors| floors > 0)
     }
 
     /// Whether any figure of A.1 has another than its neutral value.
@@ -516,10 +539,7 @@ fn read_terms(fields: &mut FieldReader, edition: Edition) -> Result<Terms, Fault
         pmin,
         pmax,
         blocks: list(fields.count(3, 0, MOST_ITEMS)?, || {
-            Ok(Block {
-                cap: fields.power()?,
-                price: fields.signed(15, 10_000)?,
-            })
+            read_block(fields, edition)
         })?,
         reserve_prices: Reserves::from_order(array(|| fields.figure(14, 0, 10_000))?),
         ..Terms::default()
@@ -528,6 +548,31 @@ fn read_terms(fields: &mut FieldReader, edition: Edition) -> Result<Terms, Fault
         read_reactive_terms(fields, &mut terms)?;
     }
     Ok(terms)
+}
+
+/// "each cap 17 and price 15 (±10,000)", and "a floor (17 bits) after each block's cap". "A floor
+/// above its cap is a contradiction at the floor."
+fn read_block(fields: &mut FieldReader, edition: Edition) -> Result<Block, Fault> {
+    let cap = fields.power()?;
+    let floor = if edition.has_floors() {
+        read_floor(fields, cap)?
+    } else {
+        0
+    };
+    Ok(Block {
+        cap,
+        floor,
+        price: fields.signed(15, 10_000)?,
+    })
+}
+
+fn read_floor(fields: &mut FieldReader, cap: i128) -> Result<i128, Fault> {
+    let first_bit = fields.place();
+    let floor = fields.power()?;
+    if floor > cap {
+        fields.contradiction_at(first_bit);
+    }
+    Ok(floor)
 }
 
 /// "Per device and interval come qmin and qmax in kvar (18 bits, ±100,000)", behind the eight

@@ -28,7 +28,7 @@ use crate::packed::{output, pack, unpack};
 use crate::plan::{Plan, Setting};
 use crate::rng::Rng;
 use crate::tables;
-use crate::worked_day::{example_batch, lettered_days, reactive_days, Day};
+use crate::worked_day::{example_batch, floor_days, lettered_days, reactive_days, Day};
 
 pub const DEFAULT_SEED: u64 = 20_260;
 
@@ -105,10 +105,10 @@ struct Part {
 type Maker = fn(&mut Rng) -> Vec<Vec<u8>>;
 
 /// Every part, made from its own random numbers so that none depends on the others. Each has
-/// batches of both editions.
+/// batches of every edition.
 const PARTS: [(&str, Maker); 13] = [
     (
-        "the paper's example batch, days (a) to (m), worked days of edition 2",
+        "the paper's example batch, days (a) to (m), worked days of editions 2 and 3",
         |_| worked_days(),
     ),
     ("tiny days at the edges of the wording", |_| edge_days()),
@@ -134,7 +134,7 @@ const PARTS: [(&str, Maker); 13] = [
         cases_with_many_states,
     ),
     ("metered days: plans with many breaches", metered_days),
-    ("plans and cases of the other edition", mixed_editions),
+    ("plans and cases of another edition", mixed_editions),
 ];
 
 fn parts_of(seed: u64) -> Vec<Part> {
@@ -166,6 +166,7 @@ fn worked_days() -> Vec<Vec<u8>> {
     let mut batches = vec![example_batch()];
     batches.extend(lettered_days().iter().map(|(_, day)| batch_of_day(day)));
     batches.extend(reactive_days().iter().map(|(_, day)| batch_of_day(day)));
+    batches.extend(floor_days().iter().map(|(_, day)| batch_of_day(day)));
     batches
 }
 
@@ -177,7 +178,8 @@ fn edge_days() -> Vec<Vec<u8>> {
 }
 
 /// A case with every kind of field that the edition's devices can have together, as small as that
-/// allows: in edition 2 one device with two lines and one with an equality.
+/// allows: from edition 2 on one device with two lines and one with an equality, in edition 3 some
+/// floor above 0.
 fn case_with_every_field(rng: &mut Rng, edition: Edition) -> Sample {
     let shape = Shape {
         size: Size::Small,
@@ -195,7 +197,9 @@ fn case_with_every_field(rng: &mut Rng, edition: Edition) -> Sample {
                 && !device.start_windows.is_empty()
                 && !device.energy_windows.is_empty()
         });
-        if has_every_list && (has_every_link || !edition.has_reactive_power()) {
+        let has_every_figure = (has_every_link || !edition.has_reactive_power())
+            && (sample.case.has_floors() || !edition.has_floors());
+        if has_every_list && has_every_figure {
             return sample;
         }
     }
@@ -457,10 +461,10 @@ fn damaged_forms(rng: &mut Rng, message: &Encoded) -> Vec<Vec<u8>> {
     forms
 }
 
-/// For each rule, batches of one case of either edition, where both have the rule, a good plan and
-/// plans broken at the rule.
+/// For each rule, batches of one case of each edition that has the rule, a good plan and plans
+/// broken at the rule; twice as many for rule 19, which has two bounds.
 fn broken_plans(rng: &mut Rng) -> Vec<Vec<u8>> {
-    const BATCHES_PER_RULE: usize = 6;
+    let batches_for = |rule: u8| if rule == 19 { 12 } else { 6 };
     let mut batches = Vec::new();
     for rule in 1..=Edition::NEWEST.last_rule() {
         let having: Vec<Edition> = Edition::ALL
@@ -468,7 +472,7 @@ fn broken_plans(rng: &mut Rng) -> Vec<Vec<u8>> {
             .filter(|edition| rule <= edition.last_rule())
             .collect();
         let mut made = 0;
-        while made < BATCHES_PER_RULE {
+        while made < batches_for(rule) {
             let edition = having[made % having.len()];
             if let Some(batch) = batch_broken_at(rng, edition, rule) {
                 batches.push(batch);
@@ -499,22 +503,29 @@ const LAST_DEVICE: usize = MOST_DEVICES - 1;
 
 /// Plans of the largest counts that keep every rule until device 16 in interval 48: there they are
 /// broken at one of rules 5 to 19 or 21 to 26, or switched off, which breaks rule 1 where the
-/// device must be on.
+/// device must be on. In edition 3 at rules 17 to 19 alone, rule 19 several times.
 fn broken_at_the_end(rng: &mut Rng) -> Vec<Vec<u8>> {
-    let endings = [
-        (Edition::One, true),
-        (Edition::One, false),
-        (Edition::Two, true),
+    let all = |edition: Edition| (5..=edition.last_rule()).collect();
+    let endings: [(Edition, bool, Vec<u8>); 4] = [
+        (Edition::One, true, all(Edition::One)),
+        (Edition::One, false, all(Edition::One)),
+        (Edition::Two, true, all(Edition::Two)),
+        (Edition::Three, true, vec![17, 18, 19, 19, 19, 19]),
     ];
     endings
-        .map(|(edition, on)| batch_broken_at_the_end(rng, edition, on))
+        .map(|(edition, on, rules)| batch_broken_at_the_end(rng, edition, on, &rules))
         .to_vec()
 }
 
-fn batch_broken_at_the_end(rng: &mut Rng, edition: Edition, on_at_the_end: bool) -> Vec<u8> {
+fn batch_broken_at_the_end(
+    rng: &mut Rng,
+    edition: Edition,
+    on_at_the_end: bool,
+    rules: &[u8],
+) -> Vec<u8> {
     let sample = sample_ending(rng, edition, on_at_the_end);
     let mut plans = Vec::new();
-    for rule in 5..=edition.last_rule() {
+    for &rule in rules {
         let mut plan = good_plan(rng, &sample);
         if break_at(rng, &sample, &mut plan, rule, (LAST_INTERVAL, LAST_DEVICE)) {
             plans.push(plan);
@@ -526,17 +537,22 @@ fn batch_broken_at_the_end(rng: &mut Rng, edition: Edition, on_at_the_end: bool)
     batch_of(edition, &sample.case, &plans)
 }
 
-/// A case of the largest counts whose device 16 must be on, or is off, in interval 48.
+/// A case of the largest counts whose device 16 must be on, or is off, in interval 48, where its
+/// floors come to more than pmin if the edition has any.
 fn sample_ending(rng: &mut Rng, edition: Edition, on_at_the_end: bool) -> Sample {
     let ends_on = |schedule: &Schedule| schedule.commitment.on[LAST_INTERVAL];
+    let is_floored = |case: &Case| {
+        let terms = &case.devices[LAST_DEVICE].terms[LAST_INTERVAL];
+        terms.sum_of_floors() > terms.pmin
+    };
     loop {
         let shape = Shape::random(rng, Size::Full);
         let mut sample = sample_of(rng, edition, &shape, Scale::Calm);
         let schedules = &sample.pools[LAST_DEVICE].good;
-        if schedules
+        let ends_so = schedules
             .iter()
-            .all(|schedule| ends_on(schedule) == on_at_the_end)
-        {
+            .all(|schedule| ends_on(schedule) == on_at_the_end);
+        if ends_so && (is_floored(&sample.case) || !edition.has_floors()) {
             if on_at_the_end {
                 sample.case.devices[LAST_DEVICE].terms[LAST_INTERVAL].status = Status::On;
             }
@@ -575,6 +591,7 @@ fn extreme_days() -> Vec<Day> {
     vec![
         very_low_surplus_day(Edition::One),
         very_low_surplus_day(Edition::Two),
+        very_low_surplus_day(Edition::Three),
         very_high_surplus_day(),
         costly_reactive_reserves_day(),
     ]
@@ -585,8 +602,9 @@ fn extreme_days() -> Vec<Day> {
 fn cases_with_many_states(rng: &mut Rng) -> Vec<Vec<u8>> {
     let mut batches = Vec::new();
     for count in 0..=MOST_STATES_SAID {
-        for (j, edition) in Edition::ALL.into_iter().enumerate() {
+        for (k, edition) in Edition::ALL.into_iter().enumerate() {
             let mut sample = case_with_every_field(rng, edition);
+            let j = k % sample.case.devices.len();
             give_states(&mut sample.case, j, count);
             let plans = [(); 3].map(|_| good_plan(rng, &sample));
             batches.push(batch_of(edition, &sample.case, &plans));
@@ -630,8 +648,8 @@ fn metered_days(rng: &mut Rng) -> Vec<Vec<u8>> {
 }
 
 /// "A plan's edition equals its case's, else 2": plans of each edition for a case of each, and the
-/// same content in both editions. A case whose header names the other edition is read with that
-/// edition's fields.
+/// same content in every edition that can say it. A case whose header names another edition is read
+/// with that edition's fields.
 fn mixed_editions(rng: &mut Rng) -> Vec<Vec<u8>> {
     let mut batches = Vec::new();
     for edition in Edition::ALL {
@@ -644,11 +662,16 @@ fn mixed_editions(rng: &mut Rng) -> Vec<Vec<u8>> {
             batches.push(join(&[with_other_edition(rng, &case), other, good]));
         }
     }
-    for size in [Size::Tiny, Size::Small, Size::Medium] {
-        let sample = sample_in(rng, Edition::One, size);
-        let plans = [(); 3].map(|_| good_plan(rng, &sample));
-        for edition in Edition::ALL {
-            batches.push(batch_of(edition, &sample.case, &plans));
+    for content in Edition::NEWEST.older() {
+        for size in [Size::Tiny, Size::Small, Size::Medium] {
+            let sample = sample_in(rng, content, size);
+            let plans = [(); 3].map(|_| good_plan(rng, &sample));
+            for edition in Edition::ALL
+                .into_iter()
+                .filter(|&edition| edition >= content)
+            {
+                batches.push(batch_of(edition, &sample.case, &plans));
+            }
         }
     }
     batches
@@ -789,5 +812,6 @@ const NUMBERS_NOTE: &str = "\
 A plan has no field that could contradict another, so number 5 is never a plan's. Number 7 needs a
 short buffer, which the batch program has not; the reference's own tests hold it. Two kinds of field
 of a case (its edition and its zone count) and one of a plan (its edition) are never cut: no byte
-ends before or inside them. Framing has the numbers 1 and 4 alone. Rules 21 to 26 are edition 2's.
+ends before or inside them. Framing has the numbers 1 and 4 alone. Rules 21 to 26 are those of
+editions 2 and 3; rule 19 has its lower bound in edition 3.
 ";

@@ -15,8 +15,10 @@ use crate::ours::{complete, complete_by, downtime};
 use crate::plan::{read_plan, Plan};
 use crate::rules::{broken_rules, most_fall, most_rise, Place};
 
+mod floors;
 mod reactive;
 
+use floors::{FLOOR_ACCEPTED_EDGES, FLOOR_BROKEN_EDGES};
 use reactive::{REACTIVE_ACCEPTED_EDGES, REACTIVE_BROKEN_EDGES};
 
 /// An edge's name, and whether a day shows it.
@@ -31,8 +33,12 @@ pub struct Edges {
 impl Edges {
     /// Every edge with its count, 0 included.
     pub fn in_order(&self) -> Vec<(&'static str, usize)> {
-        let accepted = [ACCEPTED_EDGES, REACTIVE_ACCEPTED_EDGES];
-        let broken = [BROKEN_EDGES, REACTIVE_BROKEN_EDGES];
+        let accepted = [
+            ACCEPTED_EDGES,
+            REACTIVE_ACCEPTED_EDGES,
+            FLOOR_ACCEPTED_EDGES,
+        ];
+        let broken = [BROKEN_EDGES, REACTIVE_BROKEN_EDGES, FLOOR_BROKEN_EDGES];
         let of_accepted = accepted.into_iter().flatten().map(|(name, _)| *name);
         let of_broken = broken.into_iter().flatten().map(|(name, _)| *name);
         of_accepted
@@ -78,6 +84,7 @@ impl Edges {
             };
             self.count(ACCEPTED_EDGES, &day);
             self.count(REACTIVE_ACCEPTED_EDGES, &day);
+            self.count(FLOOR_ACCEPTED_EDGES, &day);
         } else {
             let day = BrokenDay {
                 case,
@@ -88,6 +95,7 @@ impl Edges {
             };
             self.count(BROKEN_EDGES, &day);
             self.count(REACTIVE_BROKEN_EDGES, &day);
+            self.count(FLOOR_BROKEN_EDGES, &day);
         }
     }
 

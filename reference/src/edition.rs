@@ -17,6 +17,8 @@ pub enum Edition {
     /// reactive ones of 4.6.8, with the plain limits for producing sets symmetrical to 122 and
     /// 123." (A.1)
     Two,
+    /// "Edition 3, on top of 2, puts a floor (17 bits) after each block's cap." (A.6)
+    Three,
 }
 
 /// A count's width in bits, and the most that it may say.
@@ -28,14 +30,15 @@ pub struct CountField {
 
 impl Edition {
     /// Every edition, oldest first.
-    pub const ALL: [Edition; 2] = [Edition::One, Edition::Two];
-    pub const NEWEST: Edition = Edition::Two;
+    pub const ALL: [Edition; 3] = [Edition::One, Edition::Two, Edition::Three];
+    pub const NEWEST: Edition = Edition::Three;
 
     /// The number that stands in a message.
     pub fn figure(self) -> i128 {
         match self {
             Edition::One => 1,
             Edition::Two => 2,
+            Edition::Three => 3,
         }
     }
 
@@ -48,6 +51,17 @@ impl Edition {
     /// Whether messages have the fields of A.1.
     pub fn has_reactive_power(self) -> bool {
         self >= Edition::Two
+    }
+
+    /// Whether blocks have the floors of A.6.
+    pub fn has_floors(self) -> bool {
+        self >= Edition::Three
+    }
+
+    /// The editions before it, oldest first.
+    pub fn older(self) -> impl Iterator<Item = Edition> {
+        let all = Edition::ALL.into_iter();
+        all.filter(move |&edition| edition < self)
     }
 
     /// "devices 5 (1..16)".

@@ -153,6 +153,10 @@ pub fn encode_case(edition: Edition, case: &Case) -> Encoded {
         edition.has_reactive_power() || !case.has_reactive_power(),
         "edition 1 cannot say a reactive figure"
     );
+    assert!(
+        edition.has_floors() || !case.has_floors(),
+        "editions 1 and 2 cannot say a floor"
+    );
     let mut message = Encoder::default();
     message.kind("case kind", KIND_CASE);
     let editions = (Edition::ALL[0].figure(), Edition::NEWEST.figure());
@@ -310,6 +314,9 @@ fn put_terms(message: &mut Encoder, edition: Edition, terms: &Terms) {
     message.count("blocks", 3, (0, 4), terms.blocks.len());
     for block in &terms.blocks {
         message.power("block cap", block.cap);
+        if edition.has_floors() {
+            message.power("block floor", block.floor);
+        }
         message.signed("block price", 15, 10_000, block.price);
     }
     const PRICES: [&str; 8] = [

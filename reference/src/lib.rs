@@ -1,6 +1,6 @@
 //! An independent reading of paper 01, "Plan unit: judging a day's commitment", with requests A.4
-//! (three startup states), A.3 (energy by the minute), A.5 (every broken rule) and A.1 (reactive
-//! power: edition 2) of paper 02.
+//! (three startup states), A.3 (energy by the minute), A.5 (every broken rule), A.1 (reactive
+//! power: edition 2) and A.6 (take-or-pay blocks: edition 3) of paper 02.
 //!
 //! Written from the papers alone, it shares no code and no tables with the product that it is held
 //! against. Every figure is an `i128` and arithmetic is checked in every profile, so that nothing
@@ -23,7 +23,8 @@
 //! What tries it, and the product:
 //!
 //! - [`encode`]: writing of messages, with a record of their fields.
-//! - [`worked_day`]: the paper's worked day and example batch, the worked days of edition 2.
+//! - [`worked_day`]: the paper's worked day and example batch, the worked days of editions 2 and
+//!   3.
 //! - [`busiest`]: the day on which instructions are counted.
 //! - [`rng`], [`generate`]: random cases, plans and batches from a seed.
 //! - [`rivals`]: other completions of a plan.

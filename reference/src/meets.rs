@@ -294,7 +294,9 @@ impl Day<'_> {
                 off_power + r.rrd_off <= terms.pmax * (1 - u),
             ]
         };
-        let rule_19 = self.p(j, t) <= terms.blocks.iter().map(|block| block.cap).sum();
+        let floors: i128 = terms.blocks.iter().map(|block| u * block.floor).sum();
+        let caps = terms.blocks.iter().map(|block| block.cap).sum();
+        let rule_19 = floors <= self.p(j, t) && self.p(j, t) <= caps;
         [rule_16, rule_17, rule_18, rule_19]
     }
 
@@ -380,13 +382,14 @@ impl Day<'_> {
 
     /// "su and sd as above; block powers, each from 0 to its cap, whose sum is the device's p
     /// (absent blocks 0); at a start, no state or one of the device's states whose longest
-    /// downtime ≥ downtime (elsewhere none)".
+    /// downtime ≥ downtime (elsewhere none)"; "While u = 1 each block power is at least its floor".
     fn device_choices_are_these(&self, j: usize, t: usize, choices: &DeviceChoices) -> bool {
         let blocks = &self.terms(j, t).blocks;
+        let floor = |m: usize| blocks.get(m).map_or(0, |block| self.u(j, t) * block.floor);
         let cap = |m: usize| blocks.get(m).map_or(0, |block| block.cap);
         choices.started == self.su(j, t)
             && choices.stopped == self.sd(j, t)
-            && (0..4).all(|m| 0 <= choices.blocks[m] && choices.blocks[m] <= cap(m))
+            && (0..4).all(|m| floor(m) <= choices.blocks[m] && choices.blocks[m] <= cap(m))
             && choices.blocks.iter().sum::<i128>() == self.p(j, t)
             && self.state_is_allowed(j, t, choices.startup_state)
     }

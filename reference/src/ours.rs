@@ -97,6 +97,7 @@ impl Day<'_> {
         let blocks = fill_blocks(
             device.side,
             &device.terms[t].blocks,
+            commitment.on[t],
             self.forced[j].power[t],
         );
         let startup_state = if commitment.started[t] {
@@ -234,9 +235,10 @@ fn product_sum(prices: &[i128], amounts: &[i128]) -> i128 {
         .sum()
 }
 
-/// Fills blocks in order of merit, the cheapest first for a producer and the dearest first for a
-/// consumer; "lower-numbered block first" among equals.
-pub fn fill_blocks(side: Side, blocks: &[Block], power: i128) -> [i128; MOST_ITEMS] {
+/// Fills blocks: "Floors first, then price order." Floors count while the device is on. In order of
+/// merit the cheapest comes first for a producer and the dearest for a consumer; "lower-numbered
+/// block first" among equals.
+pub fn fill_blocks(side: Side, blocks: &[Block], on: bool, power: i128) -> [i128; MOST_ITEMS] {
     let mut by_merit: Vec<usize> = (0..blocks.len()).collect();
     by_merit.sort_by_key(|&m| match side {
         Side::Producing => (blocks[m].price, m),
@@ -244,9 +246,17 @@ pub fn fill_blocks(side: Side, blocks: &[Block], power: i128) -> [i128; MOST_ITE
     });
     let mut filled = [0; MOST_ITEMS];
     let mut left = power;
+    if on {
+        for (power, block) in filled.iter_mut().zip(blocks) {
+            *power = block.floor;
+            left -= block.floor;
+        }
+    }
+    assert!(left >= 0, "rule 19 leaves every floor its power");
     for m in by_merit {
-        filled[m] = left.min(blocks[m].cap);
-        left -= filled[m];
+        let more = left.min(blocks[m].cap - filled[m]);
+        filled[m] += more;
+        left -= more;
     }
     assert_eq!(left, 0, "rule 19 leaves no power without a block");
     filled

@@ -1,22 +1,34 @@
 //! Rivals of our completion: other choices for the same plan.
 
-use crate::case::{Case, MOST_STATES};
+use crate::case::{Block, Case, MOST_STATES};
 use crate::completion::{Completion, IntervalChoices};
 use crate::edition::Edition;
+use crate::plan::Plan;
 use crate::rng::Rng;
 
 /// Another completion of a plan, made from ours by a few random changes of the kinds that rules
-/// allow: power moved between blocks, another startup state, more shortfall, mismatch or overrun.
-/// Reactive choices are changed where the edition's completions have them.
+/// allow: power moved between blocks, above their floors or not, another startup state, more
+/// shortfall, mismatch or overrun. Reactive choices are changed where the edition's completions have them.
 ///
 /// Whether it meets every rule is for [`crate::meets::meets`] to say.
-pub fn random_rival(rng: &mut Rng, edition: Edition, case: &Case, ours: &Completion) -> Completion {
+pub fn random_rival(
+    rng: &mut Rng,
+    edition: Edition,
+    case: &Case,
+    plan: &Plan,
+    ours: &Completion,
+) -> Completion {
     let mut rival = ours.clone();
     for _ in 0..1 + rng.below(6) {
         let t = rng.below(rival.intervals.len());
         let j = rng.below(case.devices.len());
         match rng.below(5) {
-            0 | 1 => move_power(rng, case, &mut rival, t, j),
+            0 | 1 => {
+                let floors_bind = plan.intervals[t][j].on && rng.chance(80);
+                let blocks = &case.devices[j].terms[t].blocks;
+                let filled = &mut rival.intervals[t].devices[j].blocks;
+                move_power(rng, blocks, floors_bind, filled);
+            }
             2 => take_another_state(rng, case, &mut rival, j),
             3 => add_shortfall_or_mismatch(rng, edition, &mut rival, t),
             _ => add_overrun(rng, &mut rival, j),
@@ -25,14 +37,13 @@ pub fn random_rival(rng: &mut Rng, edition: Edition, case: &Case, ours: &Complet
     rival
 }
 
-fn move_power(rng: &mut Rng, case: &Case, rival: &mut Completion, t: usize, j: usize) {
-    let blocks = &case.devices[j].terms[t].blocks;
+fn move_power(rng: &mut Rng, blocks: &[Block], floors_bind: bool, filled: &mut [i128; 4]) {
     if blocks.len() < 2 {
         return;
     }
     let (from, to) = (rng.below(blocks.len()), rng.below(blocks.len()));
-    let filled = &mut rival.intervals[t].devices[j].blocks;
-    let most = filled[from].min(blocks[to].cap - filled[to]);
+    let floor = if floors_bind { blocks[from].floor } else { 0 };
+    let most = (filled[from] - floor).clamp(0, (blocks[to].cap - filled[to]).max(0));
     let moved = match rng.below(2) {
         0 => most,
         _ => rng.from_to(0, most),
@@ -92,15 +103,18 @@ pub fn random_misfit(
     rng: &mut Rng,
     edition: Edition,
     case: &Case,
+    plan: &Plan,
     ours: &Completion,
 ) -> Completion {
     let mut misfit = ours.clone();
     let t = rng.below(misfit.intervals.len());
     let j = rng.below(case.devices.len());
+    let floors_bind = plan.intervals[t][j].on;
+    let blocks = &case.devices[j].terms[t].blocks;
     let interval = &mut misfit.intervals[t];
     let device = &mut interval.devices[j];
     let off_by = rng.pick(&[-1, 1, 1 << 70]);
-    match rng.below(9) {
+    match rng.below(10) {
         0 => device.started += off_by,
         1 => device.stopped += off_by,
         2 => device.blocks[rng.below(4)] += off_by,
@@ -119,7 +133,23 @@ pub fn random_misfit(
             Some(overrun) => *overrun -= 1,
             None => *any_mismatch(rng, edition, interval) -= 1,
         },
+        8 if floors_bind && take_below_floor(blocks, &mut device.blocks) => {}
         _ => *any_mismatch(rng, edition, interval) -= 1,
     }
     misfit
+}
+
+/// Moves power from a block down to one below its floor to another that has room; false where no
+/// two blocks let it.
+pub fn take_below_floor(blocks: &[Block], filled: &mut [i128; 4]) -> bool {
+    for from in (0..blocks.len()).filter(|&m| blocks[m].floor > 0) {
+        let moved = filled[from] - blocks[from].floor + 1;
+        let has_room = |to: &usize| *to != from && blocks[*to].cap - filled[*to] >= moved;
+        if let Some(to) = (0..blocks.len()).find(has_room) {
+            filled[from] -= moved;
+            filled[to] += moved;
+            return true;
+        }
+    }
+    false
 }

@@ -144,7 +144,7 @@ impl<'a> Point<'a> {
                 self.commitment.trajectory(self.t) + self.offline_upward()
                     <= self.while_off(self.terms.pmax)
             }
-            19 => self.power <= self.terms.sum_of_caps(),
+            19 => self.fits_its_blocks(),
             _ => self.reactive().keeps(rule),
         }
     }
@@ -210,6 +210,12 @@ impl<'a> Point<'a> {
             Side::Producing => r.rgd + r.rrd_on,
             Side::Consuming => r.rgu + r.scr + r.rru_on,
         }
+    }
+
+    /// Rule 19, "both bounds": "u·(sum of floors) ≤ p ≤ sum of caps".
+    fn fits_its_blocks(&self) -> bool {
+        let least = self.while_on(self.terms.sum_of_floors());
+        (least..=self.terms.sum_of_caps()).contains(&self.power)
     }
 
     /// The reserves of an off device that rule 18 holds below pmax.

@@ -26,6 +26,7 @@ use crate::judge::{judge, Refusal, Verdict};
 use crate::plan::{Plan, Setting};
 use crate::rng::Rng;
 
+mod floors;
 mod reactive;
 
 /// A row: a case message, a plan message, and what the row is about.
@@ -107,7 +108,7 @@ fn hex(bytes: &[u8]) -> String {
 }
 
 /// All rows: those written by hand, then those drawn from a seed: one for each rule, one for each
-/// way of refusing in each edition, and `accepted` of both editions that keep every rule.
+/// way of refusing in each edition, and `accepted` of all editions that keep every rule.
 pub fn rows(seed: u64, accepted: usize) -> Vec<Row> {
     let mut rows = written_rows();
     let mut rng = Rng::new(seed);
@@ -126,7 +127,7 @@ pub fn rows(seed: u64, accepted: usize) -> Vec<Row> {
     rows
 }
 
-/// The most bytes of a drawn case of edition 1; one of edition 2 may have half as many more.
+/// The most bytes of a drawn case of edition 1; one of a later edition may have half as many more.
 const MOST_CASE_BYTES: usize = 150;
 
 fn tiny_sample(rng: &mut Rng, edition: Edition) -> Sample {
@@ -201,7 +202,7 @@ fn refused_rows(rng: &mut Rng, edition: Edition) -> Vec<Row> {
 fn row_of_two_editions(rng: &mut Rng, edition: Edition) -> Row {
     let sample = tiny_sample(rng, edition);
     Row {
-        about: "plan of the other edition".to_string(),
+        about: "plan of another edition".to_string(),
         case: encode_case(edition, &sample.case).bytes,
         plan: plan_of_another_edition(rng, &sample),
     }
@@ -289,7 +290,7 @@ struct Draft {
 fn draft(side: Side, initially_on: bool, minutes: i128, on: &[bool]) -> Draft {
     let terms = Terms {
         pmax: 100,
-        blocks: vec![Block { cap: 100, price: 7 }],
+        blocks: vec![Block::plain(100, 7)],
         ..Terms::default()
     };
     let device = Device {
@@ -350,6 +351,7 @@ pub fn written_rows() -> Vec<Row> {
     rows.extend(order_rows());
     rows.extend(breach_rows());
     rows.extend(reactive::rows());
+    rows.extend(floors::rows());
     rows
 }
 
@@ -399,7 +401,7 @@ fn block_rows() -> Vec<Row> {
         let mut draft = draft(side, true, 10, &[true]);
         draft.device().terms[0].blocks = blocks
             .iter()
-            .map(|&(cap, price)| Block { cap, price })
+            .map(|&(cap, price)| Block::plain(cap, price))
             .collect();
         draft.setting(1).online_power = 70;
         draft.row(about)

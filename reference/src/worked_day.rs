@@ -1,5 +1,5 @@
 //! "A two-set day": the paper's worked case, its plan, the variations (a) to (m), and those of
-//! edition 2 that were worked by hand.
+//! editions 2 and 3 that were worked by hand.
 //!
 //! Only what is given as input stands here; the figures given as results are in the tests.
 
@@ -43,7 +43,7 @@ pub fn two_set_day() -> Day {
         blocks: blocks.to_vec(),
         ..Terms::default()
     };
-    let block = |cap, price| Block { cap, price };
+    let block = Block::plain;
     let state = |longest_downtime, cost| StartupState {
         longest_downtime,
         cost,
@@ -151,8 +151,8 @@ fn no_energy_in(start: i128, end: i128) -> EnergyWindow {
     }
 }
 
-/// What a day of edition 2 is about, and the day.
-pub type ReactiveDay = (&'static str, Day);
+/// What a day of a later edition is about, and the day.
+pub type ToldDay = (&'static str, Day);
 
 /// The two-set day of edition 2 after a change; "unnamed additions neutral".
 fn reactive_day(change: impl Fn(&mut Day)) -> Day {
@@ -165,12 +165,12 @@ fn reactive_day(change: impl Fn(&mut Day)) -> Day {
 }
 
 /// The days of edition 2 that were worked by hand, in order.
-pub fn reactive_days() -> Vec<ReactiveDay> {
+pub fn reactive_days() -> Vec<ToldDay> {
     [plain_reactive_days(), linked_days()].concat()
 }
 
 /// The load of device 2 with 1 kvar in interval 1, alone and with what is held beside it.
-fn plain_reactive_days() -> Vec<ReactiveDay> {
+fn plain_reactive_days() -> Vec<ToldDay> {
     let one_kvar = |day: &mut Day, j: usize| {
         day.case.devices[j].terms[0].qmax = 1;
         day.plan.intervals[0][j].reactive_power = 1;
@@ -207,7 +207,7 @@ fn add_reactive_zone(case: &mut Case) {
 }
 
 /// Device 1 with two lines, then with an equality; mismatch price 1.
-fn linked_days() -> Vec<ReactiveDay> {
+fn linked_days() -> Vec<ToldDay> {
     let two_lines = |q, qru| {
         reactive_day(|day| {
             day.case.mismatch_price = 1;
@@ -242,6 +242,29 @@ fn linked_days() -> Vec<ReactiveDay> {
 
 fn line(offset: i128, slope: i128) -> LinkLine {
     LinkLine { offset, slope }
+}
+
+/// The days of edition 3 that were worked by hand, in order.
+pub fn floor_days() -> Vec<ToldDay> {
+    let with_floors = |floors: [i128; 2]| {
+        let mut day = Day {
+            edition: Edition::Three,
+            ..two_set_day()
+        };
+        for terms in &mut day.case.devices[0].terms {
+            for (block, floor) in terms.blocks.iter_mut().zip(floors) {
+                block.floor = floor;
+            }
+        }
+        day
+    };
+    vec![
+        ("floors 0 and 80 of device 1", with_floors([0, 80])),
+        (
+            "floors 71 and 80 of device 1, above 150 kW",
+            with_floors([71, 80]),
+        ),
+    ]
 }
 
 /// The batch of the paper's example: "the case, plan (a), plan (b), and a plan of its first byte

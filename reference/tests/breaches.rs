@@ -158,11 +158,16 @@ fn lists_at_the_largest_counts() {
     assert_eq!(list_of(&day), [[1, 48, 16, 0], [20, 0, 16, 4]]);
 }
 
-/// 16 devices: 15 rules in each of 48 intervals, in edition 2 four more, rule 2 in 24, rule 3 or 4
-/// in 47, rule 20 in four windows; in all 12,720 breaches, 50,880 bytes, or 15,792 and 63,168.
+/// 16 devices: 15 rules in each of 48 intervals, from edition 2 on four more, rule 2 in 24, rule 3
+/// or 4 in 47, rule 20 in four windows; in all 12,720 breaches, 50,880 bytes, or 15,792 and 63,168.
 #[test]
 fn the_longest_list() {
-    for (edition, count) in [(Edition::One, 12_720), (Edition::Two, 15_792)] {
+    let longest = [
+        (Edition::One, 12_720),
+        (Edition::Two, 15_792),
+        (Edition::Three, 15_792),
+    ];
+    for (edition, count) in longest {
         let day = most_breaches_day(edition);
         let (case, plan) = day.messages();
         let bytes_needed = 4 * count;

@@ -10,6 +10,7 @@ fn busiest_day_is_accepted() {
     for (edition, [case, plan, completion]) in [
         (Edition::One, [29_812, 14_787, 12_165]),
         (Edition::Two, [37_203, 19_779, 13_887]),
+        (Edition::Three, [43_731, 19_779, 13_887]),
     ] {
         let batch = busiest_batch(edition, 2, 16, 48);
         let lengths: Vec<usize> = messages(&batch).iter().map(|m| m.len()).collect();

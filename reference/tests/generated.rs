@@ -185,8 +185,8 @@ fn hold_to_fields(message: &Encoded, read: impl Fn(&[u8]) -> Result<(), Fault>) 
     }
 }
 
-/// The fields that edition 2 adds to case and plan.
-const FIELDS_OF_EDITION_2: [&str; 18] = [
+/// The fields that editions 2 and 3 add to case and plan.
+const FIELDS_OF_LATER_EDITIONS: [&str; 19] = [
     "qru shortfall price",
     "qrd shortfall price",
     "qru minimum",
@@ -205,6 +205,7 @@ const FIELDS_OF_EDITION_2: [&str; 18] = [
     "q",
     "qru",
     "qrd",
+    "block floor",
 ];
 
 #[test]
@@ -221,14 +222,14 @@ fn damage_is_refused_at_the_field_that_was_damaged() {
         hold_to_fields(&plan, |bytes| read_plan(*edition, case, bytes).map(|_| ()));
         damaged.extend(message.fields.iter().chain(&plan.fields).map(|f| f.name));
     }
-    for name in FIELDS_OF_EDITION_2 {
+    for name in FIELDS_OF_LATER_EDITIONS {
         assert!(damaged.contains(name), "{name}");
     }
 }
 
 #[test]
 fn contradictions_are_refused_at_the_field_the_paper_names() {
-    let mut made = [0; 7];
+    let mut made = [0; 8];
     for (mut rng, sample) in samples(120) {
         for (k, &contradiction) in contradictions(sample.edition).iter().enumerate() {
             let mut case = sample.case.clone();
@@ -249,6 +250,7 @@ fn contradictions_are_refused_at_the_field_the_paper_names() {
                 }
                 Contradiction::ZoneBitAboveCount => "zone bits",
                 Contradiction::QminAboveQmax => "qmax",
+                Contradiction::FloorAboveCap => "block floor",
             };
             assert_eq!(name_of_field_at(&message, fault.bit), Some(name));
         }
@@ -299,7 +301,7 @@ fn noise_is_refused() {
         let length = rng.below(400);
         let mut noise: Vec<u8> = (0..length).map(|_| rng.below(256) as u8).collect();
         if rng.chance(70) && length > 2 {
-            noise[0] = 0x11 + rng.below(2) as u8;
+            noise[0] = 0x11 + rng.below(3) as u8;
             noise[1] = 0x08;
         }
         assert!(read_case(&noise).is_err());

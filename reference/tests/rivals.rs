@@ -32,7 +32,13 @@ fn random_rivals_never_have_a_greater_surplus() {
         let plan = good_plan(&mut rng, &sample);
         let ours = ours(&sample.case, &plan);
         for _ in 0..12 {
-            let rival = random_rival(&mut rng, sample.edition, &sample.case, &ours.completion);
+            let rival = random_rival(
+                &mut rng,
+                sample.edition,
+                &sample.case,
+                &plan,
+                &ours.completion,
+            );
             if !meets(&sample.case, &plan, &rival) {
                 unfit += 1;
                 continue;
@@ -57,7 +63,13 @@ fn misfits_do_not_meet_every_rule() {
         let plan = good_plan(&mut rng, &sample);
         let ours = ours(&sample.case, &plan);
         for _ in 0..12 {
-            let misfit = random_misfit(&mut rng, sample.edition, &sample.case, &ours.completion);
+            let misfit = random_misfit(
+                &mut rng,
+                sample.edition,
+                &sample.case,
+                &plan,
+                &ours.completion,
+            );
             assert!(!meets(&sample.case, &plan, &misfit), "{misfit:?}");
         }
     }
@@ -128,12 +140,7 @@ fn hold_to_all_rivals(side: Side, prices: [i128; 3], state_costs: [i128; 2]) {
     let caps = [3, 4, 2];
     for terms in &mut device.terms {
         terms.pmin = 0;
-        terms.blocks = (0..3)
-            .map(|m| Block {
-                cap: caps[m],
-                price: prices[m],
-            })
-            .collect();
+        terms.blocks = (0..3).map(|m| Block::plain(caps[m], prices[m])).collect();
     }
     day.plan.intervals[1][0].online_power = 5;
     let ours = ours(&day.case, &day.plan);

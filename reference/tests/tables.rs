@@ -246,7 +246,7 @@ const REACTIVE_VERDICTS: [&str; 119] = [
 ];
 
 /// The lists of the last six rows of edition 2.
-const REACTIVE_LISTS: [&[[u8; 4]]; 6] = [
+const REACTIVE_LISTS: [List; 6] = [
     &[[21, 1, 1, 0], [22, 1, 1, 0], [23, 1, 1, 0], [24, 1, 1, 0]],
     &[[21, 1, 1, 0], [22, 1, 1, 0], [25, 1, 1, 0], [26, 1, 1, 0]],
     &[
@@ -276,8 +276,95 @@ const REACTIVE_LISTS: [&[[u8; 4]]; 6] = [
     ],
 ];
 
+/// What each written row of edition 3 must give, in order, behind those of edition 2.
+const FLOOR_VERDICTS: [&str; 55] = [
+    // The two-set day.
+    "accepted 164260",
+    "broken 19 2 1 0",
+    // Bounds, over 10 minutes with a mismatch of p: 20·5 + 30·3 and 1 more at the best price.
+    "accepted -2400",
+    "broken 19 1 1 0",
+    "accepted -2440",
+    "accepted 1400",
+    "broken 19 1 1 0",
+    "accepted 1440",
+    "accepted -6000",
+    "broken 19 1 1 0",
+    "broken 19 1 1 0",
+    "accepted 0",
+    // Filling: 30·9 + 20·2 twice, and one kW less; 50·7 twice; 10·9 − 30·4; −10·4 + 30·2; −45·4;
+    // 15·0 − 50; 1·4 + 2·3 + 12·2 + 25.
+    "accepted -3600",
+    "accepted -3600",
+    "broken 19 1 1 0",
+    "accepted -4000",
+    "accepted 3000",
+    "accepted -100",
+    "accepted -200",
+    "accepted 1350",
+    "accepted -150",
+    "accepted -990",
+    // Off: 80 kW at 7 and 1 of mismatch; 90 kW.
+    "accepted -6400",
+    "broken 19 1 1 0",
+    "accepted 4800",
+    "accepted 0",
+    "accepted -7200",
+    "broken 19 3 1 0",
+    "broken 19 2 1 0",
+    // Cases refused: 457 up to the blocks' count, 3 of it, 17 of the cap before the floor; 49 each.
+    "refused case 4 477",
+    "refused case 4 477",
+    "refused case 5 477",
+    "refused case 5 477",
+    "refused case 5 526",
+    "refused case 4 526",
+    "refused case 5 440",
+    "refused case 5 477",
+    "refused case 5 477",
+    "refused case 4 671",
+    "refused case 6 687",
+    "refused case 1 460",
+    "refused case 1 477",
+    "refused case 1 494",
+    // Editions: the last is read as a price of 5 and, from bit 506 on, a reserve price of 14,336.
+    "refused plan 2 4",
+    "refused plan 2 4",
+    "accepted -1600",
+    "accepted -1600",
+    "refused case 4 506",
+    // Days of editions 1 and 2 in edition 3: their verdicts there.
+    "accepted -1147600",
+    "accepted -6400",
+    "accepted -372560",
+    "broken 23 2 1 0",
+    // Lists.
+    "broken 18 1 1 0",
+    "broken 18 1 1 0",
+    "broken 17 1 1 0",
+];
+
+/// A list of breaches.
+type List = &'static [[u8; 4]];
+
+/// The lists of the last three rows of edition 3.
+const FLOOR_LISTS: [List; 3] = [
+    &[[18, 1, 1, 0], [18, 3, 1, 0]],
+    &[[18, 1, 1, 0], [19, 1, 1, 0], [18, 3, 1, 0]],
+    &[
+        [17, 1, 1, 0],
+        [19, 1, 1, 0],
+        [21, 1, 1, 0],
+        [17, 1, 2, 0],
+        [19, 1, 2, 0],
+        [21, 1, 2, 0],
+        [20, 0, 1, 1],
+        [20, 0, 2, 1],
+    ],
+];
+
 /// The lists of the last ten rows of edition 1, those about order and about lists.
-const LISTS: [&[[u8; 4]]; 10] = [
+const LISTS: [List; 10] = [
     &[[17, 1, 1, 0], [7, 1, 2, 0], [9, 1, 2, 0], [10, 1, 2, 0]],
     &[[19, 1, 1, 0], [1, 2, 1, 0]],
     &[
@@ -324,7 +411,7 @@ const LISTS: [&[[u8; 4]]; 10] = [
 #[test]
 fn written_rows_give_what_was_worked_out() {
     let rows = written_rows();
-    let verdicts = [&VERDICTS[..], &REACTIVE_VERDICTS].concat();
+    let verdicts = [&VERDICTS[..], &REACTIVE_VERDICTS, &FLOOR_VERDICTS].concat();
     assert_eq!(rows.len(), verdicts.len());
     for (row, verdict) in rows.iter().zip(verdicts) {
         let printed = row.printed();
@@ -337,15 +424,18 @@ fn written_rows_give_what_was_worked_out() {
 #[test]
 fn lists_of_written_rows_are_what_was_worked_out() {
     let rows = written_rows();
-    let (of_edition_1, of_edition_2) = rows.split_at(VERDICTS.len());
-    let last = |rows: &'_ [Row], count: usize| rows.len() - count;
-    let first_lists = of_edition_1[last(of_edition_1, LISTS.len())..]
-        .iter()
-        .zip(LISTS);
-    let reactive_lists = of_edition_2[last(of_edition_2, REACTIVE_LISTS.len())..]
-        .iter()
-        .zip(REACTIVE_LISTS);
-    for (row, list) in first_lists.chain(reactive_lists) {
+    let (of_edition_1, later) = rows.split_at(VERDICTS.len());
+    let (of_edition_2, of_edition_3) = later.split_at(REACTIVE_VERDICTS.len());
+    let of_editions: [(&[Row], &[List]); 3] = [
+        (of_edition_1, &LISTS),
+        (of_edition_2, &REACTIVE_LISTS),
+        (of_edition_3, &FLOOR_LISTS),
+    ];
+    let with_lists = of_editions.into_iter().flat_map(|(rows, lists)| {
+        let last = &rows[rows.len() - lists.len()..];
+        last.iter().zip(lists)
+    });
+    for (row, list) in with_lists {
         assert_eq!(row.list(), list.concat(), "{}", row.about);
         let list_hex: String = list.iter().flatten().map(|b| format!("{b:02x}")).collect();
         let printed = format!("{} {list_hex}", row.printed());
@@ -369,8 +459,8 @@ fn lists_begin_with_the_verdict() {
 }
 
 /// Small enough to be worked out by hand; the paper's worked case has 210 bytes, in edition 2 and
-/// with a zone 278.
-const MOST_CASE_BYTES: usize = 278;
+/// with a zone 278, in edition 3 290.
+const MOST_CASE_BYTES: usize = 290;
 
 #[test]
 fn rows_reach_every_rule_and_every_refusal() {

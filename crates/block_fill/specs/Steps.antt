@@ -101,7 +101,7 @@ module _ {ahead : ℕ → ℕ → Bool} (lin : Linear ahead) (caps powers : List
       others : (j : ℕ) → (j ≡ k → ⊥) → capOf (set powers k power) j ≡ capOf powers j
       others j differ = ap (λ x. x .0) (getD-set-other powers k j power (kw 0) differ)
 
-as-four : (r : List Kw) → length r ≡ 4 → r ≡ map (λ k. kw (capOf r k)) blocks
+pub as-four : (r : List Kw) → length r ≡ 4 → r ≡ map (λ k. kw (capOf r k)) blocks
 unfolding range
 as-four [] l = absurd (omega arith)
 as-four (a ∷ []) l = absurd (omega arith)

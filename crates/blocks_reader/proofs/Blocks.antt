@@ -1,5 +1,5 @@
 -- One block, and the turns of the loop that reads a cell's blocks.
-use mathlib.Core.Path.{_≡_, refl, sym, ap, _∙_}
+use mathlib.Core.Path.{_≡_, refl, sym, _∙_}
 use mathlib.Core.List.{List}
 use Prim.Native.Nat.{ℕ, zero, suc, _+_, _≤_, _<_}
 use native.Mathlib.Omega.{arith}
@@ -9,49 +9,55 @@ use lib.Seq.{getD-set-other}
 use Rattle.layouts.specs.declared.Fault.{Fault}
 use Rattle.layouts.specs.declared.Place.{Place}
 use Rattle.layouts.specs.Layout.{nat, int, countOf}
-use Rattle.model.specs.Messages.{kW}
+use Rattle.model.specs.Case as M
+use Rattle.model.specs.ByEdition as B
 use Rattle.fields.specs.declared.Figure.{Figure}
 use Rattle.fields.specs.declared.Figure.the-variants as F
 use Rattle.fields.specs.declared.Went.{Went}
 use Rattle.fields.specs.declared.Went.the-variants as W
 use Rattle.records.specs.Views.{less, priceOffset}
-use Rattle.fields.specs.Got.{good, got, told, figured, kept, placed, Natural, nat-natural, int-natural, then-natural}
+use Rattle.fields.specs.Got.{good, got, told, figured, kept, placed, Natural, int-natural, then-natural}
 use Rattle.fields.specs.Got.{nat-within, counted-on, counted-off, placed-off, told-off, went-good, went-bad}
 use Rattle.field_rows.specs.Going.{Storing, storing-none, storing-more, storing-off, storing-done}
-use Rattle.fields.proofs.Steps.{figure-on, figure-off, pair-no-first, pair-no-second, pair-both}
+use Rattle.fields.proofs.Steps.{figure-on, figure-off}
+use Rattle.fields.proofs.Chains.{then-off, then-late, then-on, kept-good, kept-bad, stop, pass}
+use Rattle.floor_reader.proofs.Floors.{block-natural as bounds-natural}
 use Rattle.cell_groups.specs.declared.Block.{Block}
-use Rattle.cell_groups.specs.Groups.{block, blockIn, noBlock, BlocksDone}
+use Rattle.cell_groups.specs.Groups.{block, blockIn, noBlock, Empty, BlocksDone}
 
 -- ---- one block
 
+price-natural : Natural (int 15 10000)
+price-natural = int-natural 15 10000
+
 pub block-natural : (e : ℕ) → Natural (block e)
-block-natural e = then-natural (nat-natural _) (λ a. int-natural 15 10000)
+block-natural e = then-natural (bounds-natural e) (λ a. price-natural)
 
-module _ (e : ℕ) (s : List ℕ) (p : Place) {r : Figure} (c : figured r ≡ got kW s p) where
-  pub no-cap : {w v : Went} (b : ℕ × ℤ) {f : Fault} → r ≡ F.Bad f → v ≡ placed r → w ≡ v → told w b ≡ got (block e) s p
-  no-cap b t d o = told-off b (o ∙ placed-off d t) (pair-no-first 17 0 100000 15 10000 s p c t)
+module _ (e : ℕ) (s : List ℕ) (p : Place) {w : Went} (a : M.Block) (c : told w a ≡ got (B.block e) s p) where
+  pub no-bounds : {v : Went} (b : M.Block × ℤ) {f : Fault} → w ≡ W.Off f → v ≡ w → told v b ≡ got (block e) s p
+  no-bounds b t o = pass b t o (then-off (bounds-natural e) _ s p (went-bad a c t))
 
-  module _ {cap : ℕ} {q : Place} (t : r ≡ F.Good cap q) {x : Figure} (h : kept 10000 x ≡ got (int 15 10000) s q) where
-    pub no-price : {w v : Went} (b : ℕ × ℤ) {f : Fault} → x ≡ F.Bad f → v ≡ placed x → w ≡ v → told w b ≡ got (block e) s p
-    no-price b g d o = told-off b (o ∙ placed-off d g) (pair-no-second 17 0 100000 15 10000 s p c t h g)
+  module _ {q : Place} (t : w ≡ W.On q) {x : Figure} (h : kept 10000 x ≡ got (int 15 10000) s q) where
+    pub no-price : {v u : Went} (b : M.Block × ℤ) {f : Fault} → x ≡ F.Bad f → u ≡ placed x → v ≡ u → told v b ≡ got (block e) s p
+    no-price b g d o = stop b g d o (then-late (bounds-natural e) _ s p price-natural (went-good a c t) (kept-bad 10000 h g))
 
-    pub block-done : {price : ℕ} {z : Place} → x ≡ F.Good price z → good (cap, less priceOffset price) z ≡ got (block e) s p
-    block-done g = sym (pair-both 17 0 100000 15 10000 s p c t h g)
+    pub block-done : {price : ℕ} {z : Place} → x ≡ F.Good price z → good (a, less priceOffset price) z ≡ got (block e) s p
+    block-done g = sym (then-on (bounds-natural e) _ s p price-natural (went-good a c t) (kept-good 10000 h g))
 
 -- ---- the blocks
 
--- i of n blocks have been read, and the others have cap 0
+-- i of n blocks have been read, and the others have cap 0 and floor 0
 pub record Blocking (e : ℕ) (s : List ℕ) (n : ℕ) (start : Place) (i : ℕ) (bs : List Block) (p : Place) : Type 0 where
   pub few : n ≤ 4
   pub long : length bs ≡ 4
   pub storing : Storing (block e) blockIn s n start i bs p
-  pub rest : (k : ℕ) → i ≤ k → k < 4 → getD bs k noBlock .cap .0 ≡ 0
+  pub rest : (k : ℕ) → i ≤ k → k < 4 → Empty (getD bs k noBlock)
 
-none-there : (k : ℕ) → k < 4 → getD (replicate 4 noBlock) k noBlock .cap .0 ≡ 0
-none-there zero h = refl
-none-there (suc zero) h = refl
-none-there (suc (suc zero)) h = refl
-none-there (suc (suc (suc zero))) h = refl
+none-there : (k : ℕ) → k < 4 → Empty (getD (replicate 4 noBlock) k noBlock)
+none-there zero h = (refl, refl)
+none-there (suc zero) h = (refl, refl)
+none-there (suc (suc zero)) h = (refl, refl)
+none-there (suc (suc (suc zero))) h = (refl, refl)
 none-there (suc (suc (suc (suc k)))) h = absurd (omega arith)
 
 module _ (e : ℕ) (s : List ℕ) (p : Place) where
@@ -73,7 +79,7 @@ module _ {e : ℕ} {s : List ℕ} {n : ℕ} {start : Place} {i : ℕ} {bs : List
     few = u .few;
     long = simp length-set (u .long);
     storing = storing-more (u .storing) (block-natural e) h (went-good (blockIn b) g t);
-    rest = λ k l m. ap (λ (x : Block). x .cap .0) (getD-set-other bs i k b noBlock (λ z. omega (arith, z))) ∙ u .rest k (omega arith) m;
+    rest = λ k l m. rw (getD-set-other bs i k b noBlock (λ z. omega (arith, z))) (u .rest k (omega arith) m);
   }
 
   module _ (o : Place) {c : Figure} (h : figured c ≡ got (nat (countOf 3 0 4)) s o) (t : c ≡ F.Good n start) where

@@ -4,10 +4,9 @@ ghost use Rattle.fields.specs.Got.{got, told};
 ghost use Rattle.cell_groups.specs.Groups.{block, blockIn, BlocksDone};
 use cell_groups::Block;
 use cell_groups::BlocksRead;
-use cell_groups::MOST_POWER;
-use cell_groups::POWER_BITS;
 use fields::Figure;
 use fields::Went;
+use floor_reader::read_bounds;
 use kilowatts::Kw;
 use layouts::Place;
 
@@ -25,6 +24,7 @@ const MOST_PRICE: u64 = 10000;
 
 const ABSENT: Block = Block {
     cap: Kw(0),
+    floor: Kw(0),
     price: 0,
 };
 
@@ -42,28 +42,32 @@ fn no_block(went: Went) -> BlockRead
     }
 }
 
-// "each cap 17 and price 15 (±10,000)"
+// "each cap 17 and price 15 (±10,000)"; the floor stands between them
 fn read_block(s: &[u8], p: Place, edition: u32) -> BlockRead
     ensures { λ r. ⌜ told (r .went) (blockIn (r .block)) ≡ got (block edition) (now (s .entry)) p ⌝ }
 {
-    let cap = fields::read_figure(s, p, POWER_BITS, 0, MOST_POWER);
-    let Figure::Good(c, at_price) = cap else {
-        return no_block(fields::place_of(cap));
+    let bounds = read_bounds(s, p, edition);
+    let bounded = bounds.went;
+    let Went::On(at_price) = bounded else {
+        return no_block(bounded);
     };
     let price = fields::read_offset(s, at_price, PRICE_BITS, PRICE_HALF, MOST_PRICE);
     let Figure::Good(v, past) = price else {
         return no_block(fields::place_of(price));
     };
+    let cap = bounds.cap;
+    let floor = bounds.floor;
     BlockRead {
         went: Went::On(past),
         block: Block {
-            cap: Kw(c),
+            cap,
+            floor,
             price: v,
         },
     }
 }
 
-// The count of blocks and that many; absent blocks have cap 0.
+// The count of blocks and that many; absent blocks have cap 0 and floor 0.
 pub fn read_blocks(s: &[u8], p: Place, edition: u32) -> BlocksRead
     ensures { λ r. ⌜ BlocksDone edition (now (s .entry)) p r ⌝ }
 {

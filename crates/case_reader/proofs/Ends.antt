@@ -10,11 +10,12 @@ use Rattle.layouts.specs.declared.Fault.{Fault}
 use Rattle.layouts.specs.declared.Place.{Place}
 use Rattle.layouts.specs.Layout.{_then_, held, begin, tailFault}
 use Rattle.layouts.specs.Numbers.{Tells}
+use Rattle.layouts.specs.Sure.{Any, sure-checked}
 use Rattle.model.specs.Editions.{Largest}
 use Rattle.model.specs.Messages.{apart}
 use Rattle.model.specs.ByEdition.{Stated, content, caseLayout, statedIn}
 use Rattle.model.specs.AsBefore.{stated}
-use Rattle.ranges.specs.Ranges.{StatedRange, stated-checked, stated-range}
+use Rattle.ranges.specs.Ranges.{StatedRange, stated-sure, stated-range}
 use Rattle.row_places.specs.declared.Counts.{Counts}
 use Rattle.row_places.specs.declared.Front.{Front}
 use Rattle.fields.specs.declared.Went.{Went}
@@ -107,7 +108,7 @@ module _ (n m : ℕ) (s : List ℕ) (f : Front) (c : Counts) (halves : List ℕ)
   module _ (room : CaseRoom n m halves zones minima devices cells) where
     told-number : {r : Ending} → ended said r ≡ statedIn l s → (x : Fault) → r ≡ Fails x → Tells (caseLayout l) s x
     unfolding statedIn
-    told-number e = ended-tells (caseLayout l) (StatedRange l) (stated-checked l (room .few-devices) (room .few-intervals)) s said e
+    told-number e = ended-tells (caseLayout l) Any (sure-checked (caseLayout l) (StatedRange l) (stated-sure l (room .few-devices) (room .few-intervals))) s said e
 
     pub case-fails : {x : Fault} → w ≡ W.Off x → CaseDone n m s halves zones minima devices cells (Fails x) f c
     unfolding statedIn

@@ -51,12 +51,12 @@ boundsOf d = record {
 abbrev pub consumes : Bounds → Bool
 consumes d = eqb (d .side) 1
 
--- the sum of the blocks' caps
-abbrev pub cap : List Kw → ℕ → ℕ
-cap caps k = getD caps k (kw 0) .0
+-- the cap or the floor of a block, and the sum of the four
+abbrev pub ofBlock : List Kw → ℕ → ℕ
+ofBlock powers k = getD powers k (kw 0) .0
 
-abbrev pub roomOf : List Kw → ℕ
-roomOf caps = cap caps 0 + cap caps 1 + cap caps 2 + cap caps 3
+abbrev pub sumOf : List Kw → ℕ
+sumOf powers = ofBlock powers 0 + ofBlock powers 1 + ofBlock powers 2 + ofBlock powers 3
 
 -- sums of reserves
 module _ (s : Setting) where
@@ -106,7 +106,7 @@ module _ (d : Bounds) (c : Cell) (s : Setting) (w : Moment) where
       (16, leb (s .online .0 + pick (consumes d) (downs s) (ups s)) (c .pmax .0 * s .on)) ∷
       (17, leZ (pos (c .pmin .0 * s .on)) (pos (s .online .0) -ℤ pos (pick (consumes d) (ups s) (downs s)))) ∷
       (18, leb (forced s w + pick (consumes d) (s .reserves .rrdoff .0) (offUps s)) (c .pmax .0 * (1 - s .on))) ∷
-      (19, leb (w .power .0) (roomOf (c .caps))) ∷ []
+      (19, leb (s .on * sumOf (c .floors)) (w .power .0) && leb (w .power .0) (sumOf (c .caps))) ∷ []
 
   unfoldable pub tests : List (ℕ × Bool)
   tests = stateTests ++ (rampTests ++ (onTests ++ (offTests ++ powerTests)))
@@ -140,10 +140,14 @@ pub record Sized (c : Cell) (s : Setting) (w : Moment) : Type 0 where
   pub rrdoff : s .reserves .rrdoff .0 ≤ 100000
   pub online : s .online .0 ≤ 100000
   pub pmin : c .pmin .0 ≤ 100000
-  pub cap0 : cap (c .caps) 0 ≤ 100000
-  pub cap1 : cap (c .caps) 1 ≤ 100000
-  pub cap2 : cap (c .caps) 2 ≤ 100000
-  pub cap3 : cap (c .caps) 3 ≤ 100000
+  pub cap0 : ofBlock (c .caps) 0 ≤ 100000
+  pub cap1 : ofBlock (c .caps) 1 ≤ 100000
+  pub cap2 : ofBlock (c .caps) 2 ≤ 100000
+  pub cap3 : ofBlock (c .caps) 3 ≤ 100000
+  pub floor0 : ofBlock (c .floors) 0 ≤ 100000
+  pub floor1 : ofBlock (c .floors) 1 ≤ 100000
+  pub floor2 : ofBlock (c .floors) 2 ≤ 100000
+  pub floor3 : ofBlock (c .floors) 3 ≤ 100000
   pub power : w .power .0 ≤ mostPower
   pub previous : w .previous .0 ≤ mostPower
   pub minutes : w .minutes ≤ 360

@@ -9,6 +9,7 @@ use Rattle.layouts.specs.declared.Place.{Place}
 use Rattle.layouts.specs.Layout.{Layout, int, _then_, _▸_, such, counted, figure, countOf}
 use Rattle.model.specs.Case as M
 use Rattle.model.specs.Messages.{kW, eight}
+use Rattle.model.specs.ByEdition as B
 use Rattle.kilowatts.specs.Power.{kw}
 use Rattle.row_places.specs.declared.Cell.{Cell}
 use Rattle.row_places.specs.declared.ReservePrices.{ReservePrices}
@@ -28,12 +29,12 @@ use Rattle.cell_groups.specs.declared.BlocksRead.{BlocksRead}
 abbrev pub limits : Layout (ℕ × (ℕ × ℕ))
 limits = figure 2 0 2 ▸ (kW then (λ low. such (λ high. leb low high) kW))
 
--- "each cap 17 and price 15 (±10,000)"
-abbrev pub block : ℕ → Layout (ℕ × ℤ)
-block e = kW ▸ int 15 10000
+-- "each cap 17 and price 15 (±10,000)"; the floor stands between them
+abbrev pub block : ℕ → Layout (M.Block × ℤ)
+block e = B.block e ▸ int 15 10000
 
 -- "blocks 3 (0..4)"
-abbrev pub blocks : ℕ → Layout (List (ℕ × ℤ))
+abbrev pub blocks : ℕ → Layout (List (M.Block × ℤ))
 blocks e = counted (countOf 3 0 4) (block e)
 
 -- "eight reserve prices 14 each (0..10,000)"
@@ -45,16 +46,19 @@ reservePrices = eight (figure 14 0 10000)
 abbrev pub limitsIn : LimitsRead → ℕ × (ℕ × ℕ)
 limitsIn r = (r .status, (r .pmin .0, r .pmax .0))
 
-abbrev pub blockIn : Block → ℕ × ℤ
-blockIn b = (b .cap .0, less priceOffset (b .price))
+abbrev pub blockIn : Block → M.Block × ℤ
+blockIn b = (record { cap = b .cap .0; floor = b .floor .0 }, less priceOffset (b .price))
 
 abbrev pub noBlock : Block
-noBlock = record { cap = kw 0; price = 0 }
+noBlock = record { cap = kw 0; floor = kw 0; price = 0 }
 
--- at most four blocks, and from block n on cap 0
+abbrev pub Empty : Block → Type 0
+Empty b = (b .cap .0 ≡ 0) × (b .floor .0 ≡ 0)
+
+-- at most four blocks, and from block n on cap 0 and floor 0
 pub record Absent (bs : List Block) (n : ℕ) : Type 0 where
   pub few : n ≤ 4
-  pub rest : (k : ℕ) → n ≤ k → k < 4 → getD bs k noBlock .cap .0 ≡ 0
+  pub rest : (k : ℕ) → n ≤ k → k < 4 → Empty (getD bs k noBlock)
 
 pub record BlocksDone (e : ℕ) (s : List ℕ) (p : Place) (r : BlocksRead) : Type 0 where
   pub is : told (r .went) (map blockIn (take (r .count) (r .blocks))) ≡ got (blocks e) s p
@@ -72,6 +76,7 @@ cellWith l n bs reserves reactive = record {
   pmax = l .pmax;
   blocks = n;
   caps = getD bs 0 noBlock .cap ∷ getD bs 1 noBlock .cap ∷ getD bs 2 noBlock .cap ∷ getD bs 3 noBlock .cap ∷ [];
+  floors = getD bs 0 noBlock .floor ∷ getD bs 1 noBlock .floor ∷ getD bs 2 noBlock .floor ∷ getD bs 3 noBlock .floor ∷ [];
   prices = getD bs 0 noBlock .price ∷ getD bs 1 noBlock .price ∷ getD bs 2 noBlock .price ∷ getD bs 3 noBlock .price ∷ [];
   reserves = reserves;
   reactive = reactive;

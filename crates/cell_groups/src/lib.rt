@@ -75,6 +75,7 @@ pub fn read_limits(s: &[u8], p: Place) -> LimitsRead
 // One block; its price is kept from 0: the price and 10,000.
 pub struct Block {
     pub cap: Kw,
+    pub floor: Kw,
     pub price: u32,
 }
 

@@ -1,5 +1,5 @@
 -- Rules 7 to 19 in one go, by whether the device is on: what the code compares says that each test holds.
-use mathlib.Core.Path.{_≡_, sym, _∙_}
+use mathlib.Core.Path.{_≡_, refl, sym, _∙_}
 use mathlib.Core.Bool.{Bool, true, false, not}
 use mathlib.Core.List.{List, [], _∷_, _++_}
 use Prim.Native.Nat.{ℕ, _+_, _-_, _*_, _≤_}
@@ -14,9 +14,9 @@ use Rattle.row_places.specs.declared.Cell.{Cell}
 use Rattle.row_places.specs.declared.Setting.{Setting}
 use Rattle.cell_bounds.specs.declared.Bounds.{Bounds}
 use Rattle.cell_bounds.specs.declared.Moment.{Moment}
-use Rattle.cell_bounds.specs.Sign.{moved-r}
+use Rattle.cell_bounds.specs.Sign.{moved-r, blocks-on, blocks-off}
 use Rattle.cell_bounds.specs.Word.{no-test, test-holds, all-hold}
-use Rattle.cell_bounds.specs.Tests.{consumes, ups, downs, offUps, forced, roomOf, stateTests, rampTests, onTests, offTests, powerTests, tests}
+use Rattle.cell_bounds.specs.Tests.{consumes, ups, downs, offUps, forced, sumOf, stateTests, rampTests, onTests, offTests, powerTests, tests}
 
 -- the code's answer: `if !rule(..) { return false; }`, or the last one
 pub passed : {b test : Bool} → b ≡ test → not b ≡ false → test ≡ true
@@ -96,18 +96,18 @@ module _ (d : Bounds) (c : Cell) (s : Setting) (w : Moment) where
 
   -- rules 16 to 19
   pub on-powers : s .on ≡ 1 → offUps s + s .reserves .rrdoff .0 ≤ 0 → s .online .0 + pick (consumes d) (downs s) (ups s) ≤ c .pmax .0
-      → c .pmin .0 + pick (consumes d) (ups s) (downs s) ≤ s .online .0 → w .power .0 ≤ s .online .0 → leb (w .power .0) (roomOf (c .caps)) ≡ true
-      → failing (powerTests d c s w) ≡ []
+      → c .pmin .0 + pick (consumes d) (ups s) (downs s) ≤ s .online .0 → w .power .0 ≤ s .online .0
+      → leb (sumOf (c .floors)) (w .power .0) ≡ true → leb (w .power .0) (sumOf (c .caps)) ≡ true → failing (powerTests d c s w) ≡ []
   unfolding powerTests
-  on-powers on z a b e f =
+  on-powers on z a b e g f =
       let y : pick (consumes d) (s .reserves .rrdoff .0) (offUps s) ≡ 0 = none-by-side (consumes d) (s .reserves .rrdoff .0) (offUps s) (omega arith) (omega arith) in
       test-holds 16 _ (kept-on (s .online .0 + pick (consumes d) (downs s) (ups s)) (c .pmax .0) (s .on) on a)
       (test-holds 17 _ (floor-on (c .pmin .0) (s .on) (s .online .0) (pick (consumes d) (ups s) (downs s)) on b)
       (test-holds 18 _ (none (forced s w + pick (consumes d) (s .reserves .rrdoff .0) (offUps s)) (c .pmax .0 * (1 - s .on)) (omega arith))
-      (test-holds 19 _ f no-test)))
+      (test-holds 19 _ (sym (blocks-on (sumOf (c .floors)) (w .power .0) (leb (w .power .0) (sumOf (c .caps))) on refl g) ∙ f) no-test)))
 
   pub off-powers : s .on ≡ 0 → ups s + downs s ≤ 0 → s .online .0 ≤ 0
-      → w .power .0 + pick (consumes d) (s .reserves .rrdoff .0) (offUps s) ≤ c .pmax .0 → leb (w .power .0) (roomOf (c .caps)) ≡ true
+      → w .power .0 + pick (consumes d) (s .reserves .rrdoff .0) (offUps s) ≤ c .pmax .0 → leb (w .power .0) (sumOf (c .caps)) ≡ true
       → failing (powerTests d c s w) ≡ []
   unfolding powerTests
   off-powers off z a b f =
@@ -116,7 +116,7 @@ module _ (d : Bounds) (c : Cell) (s : Setting) (w : Moment) where
       test-holds 16 _ (none (s .online .0 + pick (consumes d) (downs s) (ups s)) (c .pmax .0 * s .on) (omega arith))
       (test-holds 17 _ (floor-off (c .pmin .0) (s .on) (s .online .0) (pick (consumes d) (ups s) (downs s)) off x)
       (test-holds 18 _ (kept-off (forced s w + pick (consumes d) (s .reserves .rrdoff .0) (offUps s)) (c .pmax .0) (s .on) off (omega arith))
-      (test-holds 19 _ f no-test)))
+      (test-holds 19 _ (sym (blocks-off (sumOf (c .floors)) (w .power .0) (leb (w .power .0) (sumOf (c .caps))) off) ∙ f) no-test)))
 
   -- all of them
   pub tests-hold : failing (stateTests d c s w) ≡ [] → failing (rampTests d c s w) ≡ [] → failing (onTests d c s w) ≡ [] → failing (offTests d c s w) ≡ []

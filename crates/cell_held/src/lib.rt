@@ -10,6 +10,7 @@ use cell_bounds::Bounds;
 use cell_bounds::Moment;
 use cell_tests::by_side;
 use cell_tests::fall_kept;
+use cell_tests::floors_kept;
 use cell_tests::initial_kept;
 use cell_tests::rise_kept;
 use cell_tests::room_kept;
@@ -124,11 +125,15 @@ fn on_powers_held(d: Bounds, c: Cell, s: Setting, w: Moment) -> bool
     if s.online.0 < w.power.0 {
         return false;
     }
+    let floors = c.floors;
+    if !floors_kept(w.power, floors) {
+        return false;
+    }
     let caps = c.caps;
     room_kept(w.power, caps)
 }
 
-// The same of a device that is off.
+// The same of a device that is off, where floors don't bind.
 fn off_powers_held(d: Bounds, c: Cell, s: Setting, w: Moment) -> bool
     requires { ⌜ Sized c s w × (s .on ≡ 0) × (ups s + downs s ≤ 0) ⌝ }
     ensures { λ r. ⌜ (r ≡ true → failing (powerTests d c s w) ≡ []) ⌝ }

@@ -13,6 +13,7 @@ use Rattle.layouts.specs.Layout.{Layout, _then_, held, list}
 use Rattle.layouts.specs.Since.{since}
 use Rattle.model.specs.Case as M
 use Rattle.model.specs.Messages.{apart}
+use Rattle.model.specs.ByEdition as B
 use Rattle.model.specs.ByEdition.{cell, reactiveCell, noReactiveCell}
 use Rattle.ranges.specs.Kept.{reservesOf}
 use Rattle.kilowatts.specs.declared.Kw.{Kw}
@@ -20,7 +21,7 @@ use Rattle.row_places.specs.declared.Cell.{Cell}
 use Rattle.row_places.specs.declared.ReservePrices.{ReservePrices}
 use Rattle.row_places.specs.declared.ReactiveCell.{ReactiveCell}
 use Rattle.row_places.specs.Figures.{cellRow, kwAt}
-use Rattle.records.specs.Views.{less, priceOffset, eightPricesIn, reactiveLimitsIn, reactivePricesIn, Padded, cellPair}
+use Rattle.records.specs.Views.{less, priceOffset, fourBlocks, eightPricesIn, reactiveLimitsIn, reactivePricesIn, Padded, cellPair}
 use Rattle.records.specs.Stored.{four, cell-stored, cell-prices-stored, cell-padded}
 use Rattle.fields.specs.declared.Went.{Went}
 use Rattle.fields.specs.declared.Went.the-variants as W
@@ -32,7 +33,7 @@ use Rattle.field_rows.proofs.Steps.{eight-natural}
 use Rattle.cell_groups.specs.declared.LimitsRead.{LimitsRead}
 use Rattle.cell_groups.specs.declared.Block.{Block}
 use Rattle.cell_groups.specs.declared.BlocksRead.{BlocksRead}
-use Rattle.cell_groups.specs.Groups.{limits, blocks, reservePrices, limitsIn, blockIn, noBlock, BlocksDone, pricesOf, cellWith}
+use Rattle.cell_groups.specs.Groups.{limits, blocks, reservePrices, limitsIn, blockIn, noBlock, Empty, BlocksDone, pricesOf, cellWith}
 use Rattle.cell_reader.specs.Cells.{CellDone, CellsDone}
 use Rattle.cell_groups.proofs.Limits.{limits-natural}
 use Rattle.blocks_reader.proofs.Blocks.{block-natural}
@@ -48,7 +49,7 @@ prices-natural : Natural reservePrices
 prices-natural = eight-natural (nat-natural _)
 
 pub cell-natural : (e : ℕ) → Natural (cell e)
-unfolding cell apart
+unfolding cell B.cellWith apart
 cell-natural e = held-natural _ _
     (then-natural (nat-natural _) (λ a. then-natural (then-natural (nat-natural _) (λ low. such-natural _ (nat-natural _)))
     (λ b. then-natural (held-natural _ _ (blocks-natural e)) (λ c. then-natural prices-natural (λ d. reactive-natural e)))))
@@ -57,16 +58,16 @@ abbrev reactive : ℕ → Layout (M.ReactiveLimits × M.ReactiveReserves)
 reactive e = since e 2 noReactiveCell reactiveCell
 
 -- the model's cell of its groups
-abbrev grouped : ℕ × (ℕ × ℕ) → List (ℕ × ℤ) → M.Reserves → M.ReactiveLimits × M.ReactiveReserves → M.Cell × M.CellPrices
+abbrev grouped : ℕ × (ℕ × ℕ) → List (M.Block × ℤ) → M.Reserves → M.ReactiveLimits × M.ReactiveReserves → M.Cell × M.CellPrices
 grouped h b r x = (
-  record { status = h .0; pmin = h .1 .0; pmax = h .1 .1; caps = map (λ y. y .0) b; reactive = x .0 },
+  record { status = h .0; pmin = h .1 .0; pmax = h .1 .1; blocks = map (λ y. y .0) b; reactive = x .0 },
   record { blocks = map (λ y. y .1) b; reserves = r; reactive = x .1 },
 )
 
 module _ (e : ℕ) (s : List ℕ) (p : Place) where
   cell-is : got (cell e) s p
       ≡ limits .read s p bad (λ h p. blocks e .read s p bad (λ b p. reservePrices .read s p bad (λ r p. reactive e .read s p bad (λ x p. good (grouped h b r x) p))))
-  unfolding cell held _then_ apart
+  unfolding cell B.cellWith held _then_ apart
   cell-is = refl
 
   cell-1 : {f : Fault} → got limits s p ≡ bad f → got (cell e) s p ≡ bad f
@@ -76,7 +77,7 @@ module _ (e : ℕ) (s : List ℕ) (p : Place) where
     cell-2 : {f : Fault} → got (blocks e) s p₁ ≡ bad f → got (cell e) s p ≡ bad f
     cell-2 g = cell-is ∙ goes-on limits-natural s p bad _ t ∙ goes-off (blocks-natural e) s p₁ bad _ g
 
-    module _ {b : List (ℕ × ℤ)} {p₂ : Place} (g : got (blocks e) s p₁ ≡ good b p₂) where
+    module _ {b : List (M.Block × ℤ)} {p₂ : Place} (g : got (blocks e) s p₁ ≡ good b p₂) where
       prices-next : got (cell e) s p ≡ reservePrices .read s p₂ bad (λ r p. reactive e .read s p bad (λ x p. good (grouped h b r x) p))
       prices-next = cell-is ∙ goes-on limits-natural s p bad _ t ∙ goes-on (blocks-natural e) s p₁ bad _ g
 
@@ -95,6 +96,12 @@ module _ {A B C D : Type 0} (f : A → B) (g : B → C) (h : A → D) (k : D →
   parts (suc n) [] = refl
   parts (suc n) (x ∷ l) = ap₂ (λ (y : C) (ys : List C). y ∷ ys) (same x) (parts n l)
 
+module _ {A B C : Type 0} (f : A → C) (h : A → B) (k : B → C) (same : (x : A) → f x ≡ k (h x)) where
+  seen : (n : ℕ) (l : List A) → take n (map f l) ≡ map k (map h (take n l))
+  seen zero l = refl
+  seen (suc n) [] = refl
+  seen (suc n) (x ∷ l) = ap₂ (λ (y : C) (ys : List C). y ∷ ys) (same x) (seen n l)
+
 module _ (l : LimitsRead) (n : ℕ) (bs : List Block) (prices : ReservePrices) (figures : ReactiveCell) (long : length bs ≡ 4) where
   abbrev c : Cell
   c = cellWith l n bs prices figures
@@ -102,20 +109,29 @@ module _ (l : LimitsRead) (n : ℕ) (bs : List Block) (prices : ReservePrices) (
   caps-are : c .caps ≡ map (λ b. b .cap) bs
   caps-are = ap (map (λ (b : Block). b .cap)) (four bs noBlock long)
 
+  floors-are : c .floors ≡ map (λ b. b .floor) bs
+  floors-are = ap (map (λ (b : Block). b .floor)) (four bs noBlock long)
+
   prices-are : c .prices ≡ map (λ b. b .price) bs
   prices-are = ap (map (λ (b : Block). b .price)) (four bs noBlock long)
 
+  blocks-are : fourBlocks c ≡ map (λ b. blockIn b .0) bs
+  blocks-are = ap (map (λ (b : Block). blockIn b .0)) (four bs noBlock long)
+
   row-holds : cellPair (cellRow c) ≡ grouped (limitsIn l) (map blockIn (take n bs)) (eightPricesIn prices) (reactivePair figures)
-  row-holds = ap₂ (λ (x : M.Cell) (y : M.CellPrices). (x, y)) (cell-stored c refl refl) (cell-prices-stored c refl refl)
-      ∙ ap₂ (λ (x : List ℕ) (y : List ℤ). (
-        record { status = l .status; pmin = l .pmin .0; pmax = l .pmax .0; caps = x; reactive = reactiveLimitsIn figures },
+  row-holds = ap₂ (λ (x : M.Cell) (y : M.CellPrices). (x, y)) (cell-stored c refl refl refl) (cell-prices-stored c refl refl refl)
+      ∙ ap₂ (λ (x : List M.Block) (y : List ℤ). (
+        record { status = l .status; pmin = l .pmin .0; pmax = l .pmax .0; blocks = x; reactive = reactiveLimitsIn figures },
         record { blocks = y; reserves = eightPricesIn prices; reactive = reactivePricesIn figures },
       ))
-      (ap (λ (x : List Kw). map (λ y. y .0) (take n x)) caps-are ∙ parts (λ b. b .cap) (λ x. x .0) blockIn (λ x. x .0) (λ b. refl) n bs)
+      (ap (take n) blocks-are ∙ seen (λ b. blockIn b .0) blockIn (λ x. x .0) (λ b. refl) n bs)
       (ap (λ (x : List ℕ). map (less priceOffset) (take n x)) prices-are ∙ parts (λ b. b .price) (less priceOffset) blockIn (λ x. x .1) (λ b. refl) n bs)
 
-  row-padded : n ≤ 4 → ((k : ℕ) → n ≤ k → k < 4 → getD bs k noBlock .cap .0 ≡ 0) → Padded (cellRow c)
-  row-padded few rest = cell-padded c refl refl few (λ k m o. ap (λ (x : List Kw). kwAt x k) caps-are ∙ ap (λ (x : Kw). x .0) (List·getD-map (λ (b : Block). b .cap) bs k noBlock) ∙ rest k m o)
+  row-padded : n ≤ 4 → ((k : ℕ) → n ≤ k → k < 4 → Empty (getD bs k noBlock)) → Padded (cellRow c)
+  row-padded few rest = cell-padded c refl refl refl few (λ k m o. (
+    ap (λ (x : List Kw). kwAt x k) caps-are ∙ ap (λ (x : Kw). x .0) (List·getD-map (λ (b : Block). b .cap) bs k noBlock) ∙ rest k m o .0,
+    ap (λ (x : List Kw). kwAt x k) floors-are ∙ ap (λ (x : Kw). x .0) (List·getD-map (λ (b : Block). b .floor) bs k noBlock) ∙ rest k m o .1,
+  ))
 
 -- the eight, by name
 pub prices-told : (s : List ℕ) (p : Place) (w : Went) (v : List ℕ) {r : ReservePrices} → told w (reservesOf v) ≡ got reservePrices s p → r ≡ pricesOf v

@@ -11,6 +11,10 @@ use row_places::CELL_CAP_1;
 use row_places::CELL_CAP_2;
 use row_places::CELL_CAP_3;
 use row_places::CELL_CAP_4;
+use row_places::CELL_FLOOR_1;
+use row_places::CELL_FLOOR_2;
+use row_places::CELL_FLOOR_3;
+use row_places::CELL_FLOOR_4;
 use row_places::CELL_NSC;
 use row_places::CELL_PMAX;
 use row_places::CELL_PMIN;
@@ -35,12 +39,11 @@ use row_places::CellRow;
 use row_places::ReactiveCell;
 use row_places::ReservePrices;
 
-pub fn cell_at(cells: &[CellRow], k: usize) -> Cell
-    requires { ⌜ k < length (now cells) ⌝ }
-    ensures { λ r. ⌜ r ≡ cellOf (getD (now (cells .entry)) k []) ⌝ }
+// The prices of the eight in a cell's row.
+fn reserve_prices(r: CellRow) -> ReservePrices
+    ensures { λ x. ⌜ x ≡ cellOf r .reserves ⌝ }
 {
-    let r = cells[k];
-    let reserves = ReservePrices {
+    ReservePrices {
         rgu: r[CELL_RGU],
         rgd: r[CELL_RGD],
         scr: r[CELL_SCR],
@@ -49,7 +52,15 @@ pub fn cell_at(cells: &[CellRow], k: usize) -> Cell
         rruoff: r[CELL_RRU_OFF],
         rrdon: r[CELL_RRD_ON],
         rrdoff: r[CELL_RRD_OFF],
-    };
+    }
+}
+
+pub fn cell_at(cells: &[CellRow], k: usize) -> Cell
+    requires { ⌜ k < length (now cells) ⌝ }
+    ensures { λ r. ⌜ r ≡ cellOf (getD (now (cells .entry)) k []) ⌝ }
+{
+    let r = cells[k];
+    let reserves = reserve_prices(r);
     let reactive = ReactiveCell {
         qmin: SignedKvar(r[CELL_QMIN]),
         qmax: SignedKvar(r[CELL_QMAX]),
@@ -66,6 +77,12 @@ pub fn cell_at(cells: &[CellRow], k: usize) -> Cell
             Kw(r[CELL_CAP_2]),
             Kw(r[CELL_CAP_3]),
             Kw(r[CELL_CAP_4]),
+        ],
+        floors: [
+            Kw(r[CELL_FLOOR_1]),
+            Kw(r[CELL_FLOOR_2]),
+            Kw(r[CELL_FLOOR_3]),
+            Kw(r[CELL_FLOOR_4]),
         ],
         prices: [
             r[CELL_PRICE_1],
@@ -102,6 +119,7 @@ fn cell_row(c: Cell) -> CellRow
     ensures { λ r. ⌜ r ≡ cellRow c ⌝ }
 {
     let caps = c.caps;
+    let floors = c.floors;
     let prices = c.prices;
     let reserves = c.reserves;
     let reactive = c.reactive;
@@ -130,6 +148,10 @@ fn cell_row(c: Cell) -> CellRow
         reactive.qmax.0,
         reactive.qru,
         reactive.qrd,
+        floors[0].0,
+        floors[1].0,
+        floors[2].0,
+        floors[3].0,
     ]
 }
 

@@ -7,13 +7,13 @@ use cell_bounds::Bounds;
 use cell_bounds::Moment;
 use cell_bounds::bit_unless;
 use cell_tests::at_most;
+use cell_tests::blocks_kept;
 use cell_tests::fall_kept;
 use cell_tests::floor_kept;
 use cell_tests::initial_kept;
 use cell_tests::none_held;
 use cell_tests::rise_kept;
 use cell_tests::roof_kept;
-use cell_tests::room_kept;
 use cell_tests::status_kept;
 use kilowatts::Kw;
 use row_places::Cell;
@@ -91,8 +91,9 @@ fn power_rules(d: Bounds, c: Cell, s: Setting, w: Moment) -> u32
     let floor = floor_kept(d.side, ups, downs, c.pmin, s.on, s.online);
     let lid = roof_kept(d.side, e.rrdoff, standing, forced, c.pmax, 1 - s.on);
     let caps = c.caps;
-    let room = room_kept(w.power, caps);
-    bit_unless(roof, 16) + bit_unless(floor, 17) + bit_unless(lid, 18) + bit_unless(room, 19)
+    let floors = c.floors;
+    let carried = blocks_kept(w.power, floors, caps, s.on);
+    bit_unless(roof, 16) + bit_unless(floor, 17) + bit_unless(lid, 18) + bit_unless(carried, 19)
 }
 
 // The rules of one device in one interval that fail: bit n for rule n.

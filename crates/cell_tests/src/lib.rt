@@ -9,7 +9,7 @@ ghost use Rattle.bits.specs.Pick.{pick};
 ghost use Rattle.numbers.specs.Base.{implies};
 ghost use Rattle.records.specs.Views.{mostPower, lastMinute};
 ghost use Rattle.cell_bounds.specs.Sign.{mayRise, mayFall};
-ghost use Rattle.cell_bounds.specs.Tests.{cap, roomOf};
+ghost use Rattle.cell_bounds.specs.Tests.{ofBlock, sumOf};
 use cell_bounds::Bounds;
 use kilowatts::Kw;
 
@@ -136,23 +136,47 @@ pub fn floor_kept(side: u32, consuming: Kw, producing: Kw, pmin: Kw, on: u32, on
     above_floor(pmin, on, online, low)
 }
 
-// The sum of the blocks' caps.
-fn room_of(caps: [Kw; 4]) -> Kw
-    requires { ⌜ (cap caps 0 ≤ 100000) × (cap caps 1 ≤ 100000) × (cap caps 2 ≤ 100000) × (cap caps 3 ≤ 100000) ⌝ }
-    ensures { λ r. ⌜ r .0 ≡ roomOf caps ⌝ }
+// The sum of the blocks' caps, or of their floors.
+fn sum_of(powers: [Kw; 4]) -> Kw
+    requires { ⌜ (ofBlock powers 0 ≤ 100000) × (ofBlock powers 1 ≤ 100000) × (ofBlock powers 2 ≤ 100000) × (ofBlock powers 3 ≤ 100000) ⌝ }
+    ensures { λ r. ⌜ r .0 ≡ sumOf powers ⌝ }
 {
-    let a = caps[0];
-    let b = caps[1];
-    let c = caps[2];
-    let d = caps[3];
+    let a = powers[0];
+    let b = powers[1];
+    let c = powers[2];
+    let d = powers[3];
     Kw(a.0 + b.0 + c.0 + d.0)
 }
 
-// Rule 19.
+// Rule 19's upper bound.
 pub fn room_kept(power: Kw, caps: [Kw; 4]) -> bool
-    requires { ⌜ (cap caps 0 ≤ 100000) × (cap caps 1 ≤ 100000) × (cap caps 2 ≤ 100000) × (cap caps 3 ≤ 100000) ⌝ }
-    ensures { λ r. ⌜ r ≡ leb (power .0) (roomOf caps) ⌝ }
+    requires { ⌜ (ofBlock caps 0 ≤ 100000) × (ofBlock caps 1 ≤ 100000) × (ofBlock caps 2 ≤ 100000) × (ofBlock caps 3 ≤ 100000) ⌝ }
+    ensures { λ r. ⌜ r ≡ leb (power .0) (sumOf caps) ⌝ }
 {
-    let room = room_of(caps);
+    let room = sum_of(caps);
     power.0 <= room.0
+}
+
+// Rule 19's lower bound, while on.
+pub fn floors_kept(power: Kw, floors: [Kw; 4]) -> bool
+    requires { ⌜ (ofBlock floors 0 ≤ 100000) × (ofBlock floors 1 ≤ 100000) × (ofBlock floors 2 ≤ 100000) × (ofBlock floors 3 ≤ 100000) ⌝ }
+    ensures { λ r. ⌜ r ≡ leb (sumOf floors) (power .0) ⌝ }
+{
+    let least = sum_of(floors);
+    least.0 <= power.0
+}
+
+// Rule 19: while off the floors don't bind.
+pub fn blocks_kept(power: Kw, floors: [Kw; 4], caps: [Kw; 4], on: u32) -> bool
+    requires { ⌜ (ofBlock floors 0 ≤ 100000) × (ofBlock floors 1 ≤ 100000) × (ofBlock floors 2 ≤ 100000) × (ofBlock floors 3 ≤ 100000) × (on ≤ 1) ⌝ }
+    requires { ⌜ (ofBlock caps 0 ≤ 100000) × (ofBlock caps 1 ≤ 100000) × (ofBlock caps 2 ≤ 100000) × (ofBlock caps 3 ≤ 100000) ⌝ }
+    ensures { λ r. ⌜ r ≡ (leb (on * sumOf floors) (power .0) && leb (power .0) (sumOf caps)) ⌝ }
+{
+    if on == 0 {
+        return room_kept(power, caps);
+    }
+    if !floors_kept(power, floors) {
+        return false;
+    }
+    room_kept(power, caps)
 }

@@ -1,8 +1,8 @@
 -- A device in an interval of a decoded case and plan, by its records and its part of the settings.
-use mathlib.Core.Path.{_≡_, sym, ap, subst, _∙_}
+use mathlib.Core.Path.{_≡_, sym, ap, ap₂, subst, _∙_}
 use mathlib.Core.Logic.{_⊎_}
 use mathlib.Core.List.{List, []}
-use Prim.Native.Nat.{ℕ, suc, _≤_, _<_}
+use Prim.Native.Nat.{ℕ, suc, _*_, _≤_, _<_}
 use native.Mathlib.Omega.{arith}
 use lib.Dec.{eqb}
 use lib.ListN.{length, getD}
@@ -112,6 +112,20 @@ module _ {d : Device} {cell : Cell} {settings : List (List ℕ)} {starts : List 
 
   pub cap-at : (k : ℕ) → k < 4 → numberOf (cell .caps) k ≡ F.cap systemOf t (w .i) k
   cap-at k h = ap (λ (x : Cell). numberOf (x .caps) k) (w .cell-is) ∙ Ranged.cap-at (w .ready .case-rows) (w .i) (w .known) t (w .interval) k h
+
+  pub floor-at : (k : ℕ) → k < 4 → numberOf (cell .floors) k ≡ F.floor systemOf t (w .i) k
+  floor-at k h = ap (λ (x : Cell). numberOf (x .floors) k) (w .cell-is) ∙ Ranged.floor-at (w .ready .case-rows) (w .i) (w .known) t (w .interval) k h
+
+  pub floor-below : (k : ℕ) → k < 4 → numberOf (cell .floors) k ≤ numberOf (cell .caps) k
+  floor-below k h = rw (w .cell-is) (Ranged.floor-below (w .ready .case-rows) (w .i) (w .known) t (w .interval) k h)
+
+  pub on-small : onAt settings t ≤ 1
+  on-small = rw (w .settings-are) (Ranged.setting-range (w .ready .plan-rows) (w .i) t (w .known) (w .interval) .on)
+
+  -- the floors that bind
+  pub least-at : (k : ℕ) → k < 4 → onAt settings t * numberOf (cell .floors) k ≡ F.least systemOf planOf t (w .i) k
+  unfolding F.least
+  least-at k h = ap₂ (λ (a b : ℕ). a * b) (on-is t (w .interval)) (floor-at k h)
 
   pub price-at : (k : ℕ) → k < 4 → (F.cap systemOf t (w .i) k ≡ 0) ⊎ (less priceOffset (getD (cell .prices) k 0) ≡ C.blockPrice caseOf t (w .i) k)
   price-at k h = rw (w .cell-is) (Ranged.price-at (w .ready .case-rows) (w .i) (w .known) t (w .interval) k h)

@@ -2,7 +2,7 @@
 use mathlib.Core.Path.{_≡_, refl, sym, ap, ap₂, subst, _∙_}
 use mathlib.Core.Bool.{Bool}
 use mathlib.Core.List.{List, map}
-use Prim.Native.Nat.{ℕ, zero, suc, _≤_}
+use Prim.Native.Nat.{ℕ, zero, suc, _*_, _≤_}
 use native.Mathlib.Omega.{arith}
 use lib.Dec.{leb, eqb}
 use lib.ListN.{length}
@@ -10,24 +10,26 @@ use lib.IntN.{ℤ, pos}
 use Rattle.numbers.specs.State.{best, best-same}
 use Rattle.bits.specs.Pick.{pick}
 use Rattle.numbers.specs.Base.{range}
-use Rattle.model.specs.Forced.{device, consuming, cap, su, power, downtime}
+use Rattle.model.specs.Forced.{device, consuming, cap, least, su, power, downtime}
 use Rattle.model.specs.Rules.{blocks}
 use Rattle.model.specs.Completion.{stateCost, blockPrice}
-use Rattle.model.specs.Ours.{filling, lasts, bestState, ours}
+use Rattle.model.specs.Ours.{fillingAbove, lasts, bestState, ours}
 use Rattle.numbers.specs.Every.{all-range}
 use Rattle.kilowatts.specs.declared.Kw.{Kw}
 use Rattle.kilowatts.specs.Power.{kw}
 use Rattle.row_places.specs.declared.Cell.{Cell}
 use Rattle.row_places.specs.declared.Device.{Device}
-use Rattle.row_places.specs.Figures.{startedAt, stoppedAt}
+use Rattle.row_places.specs.Figures.{onAt, startedAt, stoppedAt}
 use Rattle.records.specs.Views.{priceOffset}
 use Rattle.records.specs.Viewed as Viewed
-use Rattle.block_fill.specs.Filled.{Filled, priceOf, capOf, Alike, filling-same, filling-caps, four-same}
+use Rattle.block_fill.specs.Filled.{priceOf, capOf, Alike, four-same}
+use Rattle.block_fill.specs.Above.{above-same}
 use Rattle.choices.specs.declared.Choice.{Choice}
 use Rattle.choices.specs.Cells as Cells
 use Rattle.choices.specs.Cells.{CellOf, systemOf, planOf, caseOf}
 use Rattle.choices.specs.States.{costOf, lastsOf, stateOf}
 use Rattle.choices.specs.Rests.{offSince, downtime-is}
+use Rattle.choices.specs.Blocks.{FilledWhile}
 
 -- ---- the startup state
 
@@ -83,14 +85,13 @@ module _ {d : Device} {cell : Cell} {settings : List (List ℕ)} {starts : List 
   prices-are : Alike (cap (systemOf w) t (w .i)) f (blockPrice (caseOf w) t (w .i))
   prices-are = Cells.price-at w
 
-  pub blocks-are : {r : List Kw} → Filled (d .side) p (cell .caps) (cell .prices) r → r ≡ map (λ k. kw (ours (caseOf w) (planOf w) .block t (w .i) k)) blocks
+  pub blocks-are : {r : List Kw} → FilledWhile (onAt settings t) (d .side) p (cell .floors) (cell .caps) (cell .prices) r → r ≡ map (λ k. kw (ours (caseOf w) (planOf w) .block t (w .i) k)) blocks
   unfolding ours
   blocks-are {r} h =
       h .powers priceOffset
-      ∙ ap₂ (λ (b : Bool) (n : ℕ). map (λ k. kw (filling b f (capOf (cell .caps)) n k)) blocks) (Cells.side-is w) (Cells.power-of w)
-      ∙ four-same _ _ (λ k l.
-      filling-caps n (capOf (cell .caps)) (cap (systemOf w) t (w .i)) f (Cells.cap-at w) (consuming (systemOf w) (w .i)) k l
-      ∙ filling-same n (cap (systemOf w) t (w .i)) f (blockPrice (caseOf w) t (w .i)) prices-are (consuming (systemOf w) (w .i)) k l)
+      ∙ ap₂ (λ (b : Bool) (n : ℕ). map (λ k. kw (fillingAbove b f (λ j. onAt settings t * capOf (cell .floors) j) (capOf (cell .caps)) n k)) blocks) (Cells.side-is w) (Cells.power-of w)
+      ∙ four-same _ _ (above-same n (λ j. onAt settings t * capOf (cell .floors) j) (least (systemOf w) (planOf w) t (w .i)) (capOf (cell .caps)) (cap (systemOf w) t (w .i))
+      f (blockPrice (caseOf w) t (w .i)) (Cells.least-at w) (Cells.cap-at w) prices-are (consuming (systemOf w) (w .i)))
     where
       n : ℕ
       n = power (systemOf w) (planOf w) t (w .i)
@@ -105,15 +106,16 @@ module _ (d : Device) (cell : Cell) (settings : List (List ℕ)) (starts : List 
     pub state : (w : CellOf d cell settings starts p t) → x .state ≡ ours (caseOf w) (planOf w) .state t (w .i)
     pub blocks : (w : CellOf d cell settings starts p t) → x .blocks ≡ map (λ k. kw (ours (caseOf w) (planOf w) .block t (w .i) k)) blocks
 
-  pub choice-of : {on0 side s e x : ℕ} {b : List Kw} → on0 ≡ d .on0 → side ≡ d .side → s ≡ startedAt on0 settings t → e ≡ stoppedAt on0 settings t
-      → x ≡ pick (eqb s 1) (stateOf d (offSince d settings starts t t)) 0 → Filled side p (cell .caps) (cell .prices) b
+  pub choice-of : {on0 side on s e x : ℕ} {b : List Kw} → on0 ≡ d .on0 → side ≡ d .side → s ≡ startedAt on0 settings t → e ≡ stoppedAt on0 settings t
+      → x ≡ pick (eqb s 1) (stateOf d (offSince d settings starts t t)) 0 → on ≡ onAt settings t → FilledWhile on side p (cell .floors) (cell .caps) (cell .prices) b
       → ChoiceOf (record { started = s; stopped = e; state = x; blocks = b })
   unfolding ours
-  choice-of {s = s} {b = b} f g h j k l = record {
+  choice-of {side = side} {s = s} {b = b} f g h j k m l = record {
     started = begun;
     stopped = λ w. j ∙ ap (λ (n : ℕ). stoppedAt n settings t) f ∙ Cells.stop-is w;
     state = λ w. chosen-is w (begun w) k;
-    blocks = λ w. blocks-are w (subst (λ (n : ℕ). Filled n p (cell .caps) (cell .prices) b) g l);
+    blocks = λ w. blocks-are w (subst (λ (n : ℕ). FilledWhile (onAt settings t) n p (cell .floors) (cell .caps) (cell .prices) b) g
+        (subst (λ (n : ℕ). FilledWhile n side p (cell .floors) (cell .caps) (cell .prices) b) m l));
   }
     where
       begun : (w : CellOf d cell settings starts p t) → s ≡ su (systemOf w) (planOf w) t (w .i)

@@ -1,21 +1,23 @@
 -- What a day's pass over its rows asks of `choose`, and what it learns, at its own case and plan.
 use mathlib.Core.Path.{_≡_, sym, ap, _∙_}
 use mathlib.Core.List.{List, [], map}
-use Prim.Native.Nat.{ℕ, _+_, _*_, _<_}
+use Prim.Native.Nat.{ℕ, _+_, _*_, _≤_, _<_}
 use lib.ListN.{length, getD}
 use Rattle.kilowatts.specs.Power.{kw}
 use Rattle.model.specs.Case.{Plan, Case}
-use Rattle.model.specs.Rules.{blocks}
+use Rattle.model.specs.Rules.{blocks, EveryRule}
 use Rattle.model.specs.Ours.{ours}
 use Rattle.row_places.specs.declared.Front.{Front}
 use Rattle.row_places.specs.declared.Cell.{Cell}
 use Rattle.row_places.specs.declared.Device.{Device}
-use Rattle.row_places.specs.Figures.{cellOf, deviceOf}
+use Rattle.row_places.specs.Figures.{cellOf, deviceOf, onAt}
 use Rattle.numbers.specs.Parts.{part, part-at}
-use Rattle.records.specs.Views.{caseIn, planIn, Ready}
+use Rattle.records.specs.Views.{systemIn, caseIn, planIn, Ready}
 use Rattle.choices.specs.declared.Choice.{Choice}
 use Rattle.choices.specs.Cells.{CellOf}
 use Rattle.choices.specs.Choices.{ChoiceOf}
+use Rattle.choices.specs.Blocks.{floors-met}
+use Rattle.block_fill.specs.Above.{sumOf}
 
 -- our completion's choices for device i in interval t
 pub record OurChoice (c : Case) (p : Plan) (t i : ℕ) (x : Choice) : Type 0 where
@@ -52,6 +54,11 @@ module _ {front : Front} {halves : List ℕ} {zones minima devices cells setting
       settings-are = eo;
       power-is = ep ∙ at-place 0 powers;
     }
+
+    -- where the plan breaks no rule, the power is at or above the floors that bind
+    pub floors-here : EveryRule (systemIn halves zones minima devices cells) (planIn (length devices) (length halves) settings) → onAt own t * sumOf (cell .floors) ≤ p
+    unfolding cell-here
+    floors-here rules = floors-met cell-here rules
 
     pub choice-learnt : {x : Choice} → ChoiceOf d cell own starts p t x → OurChoice (caseIn front halves zones minima devices cells) (planIn (length devices) (length halves) settings) t i x
     unfolding cell-here

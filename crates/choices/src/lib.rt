@@ -1,4 +1,6 @@
-// Our choices for a device in an interval: "lower-numbered block first; lowest-numbered cheapest state, and none unless it costs below 0".
+// Our choices for a device in an interval: "Floors first, then price order", "lower-numbered block first; lowest-numbered cheapest state, and none unless it costs below 0".
+use block_fill::fill;
+use block_fill::fill_above;
 use device_rows::minutes0_at;
 use device_rows::on0_at;
 use device_rows::side_at;
@@ -12,15 +14,17 @@ use setting_rows::on_at;
 use setting_rows::started_at;
 use setting_rows::stopped_at;
 ghost use mathlib.Core.Path.{_≡_};
-ghost use Prim.Native.Nat.{_≤_, _<_, _-_};
+ghost use Prim.Native.Nat.{_≤_, _<_, _-_, _*_};
 ghost use lib.Dec.{eqb};
 ghost use lib.ListN.{length};
 ghost use Rattle.bits.specs.Pick.{pick};
-ghost use Rattle.row_places.specs.Figures.{deviceAt};
+ghost use Rattle.row_places.specs.Figures.{deviceAt, onAt};
 ghost use Rattle.choices.specs.Cells.{CellOf};
 ghost use Rattle.choices.specs.States.{chosen, stateOf};
 ghost use Rattle.choices.specs.Rests.{initial, offSince, Looks};
 ghost use Rattle.records.specs.Views.{mostStates};
+ghost use Rattle.block_fill.specs.Above.{sumOf, FloorsFit};
+ghost use Rattle.choices.specs.Blocks.{FilledWhile};
 ghost use Rattle.choices.specs.Choices.{ChoiceOf};
 
 // The cost of no state, kept from 0.
@@ -127,6 +131,18 @@ fn state_at(
     }
 }
 
+// The block powers of p: above the floors while on; while off floors don't bind.
+fn blocks_of(on: u32, p: Kw, side: u32, floors: [Kw; 4], caps: [Kw; 4], prices: [u32; 4]) -> [Kw; 4]
+    requires { ⌜ (on ≤ 1) × (on ≡ 1 → FloorsFit (p .0) floors caps) ⌝ }
+    ensures { λ r. ⌜ FilledWhile on side (p .0) floors caps prices r ⌝ }
+{
+    if on == 1 {
+        fill_above(p, side, floors, caps, prices)
+    } else {
+        fill(p, side, caps, prices)
+    }
+}
+
 // Our choices for one device in one interval; state 0 is none.
 pub struct Choice {
     pub started: u32,
@@ -135,7 +151,7 @@ pub struct Choice {
     pub blocks: [Kw; 4],
 }
 
-// The choices of device i in interval t, from its cell there, its settings and its power p.
+// The choices of device i in interval t, from its cell there, its settings and its power p, which while on is at or above the floors.
 pub fn choose(
     devices: &[DeviceRow],
     i: usize,
@@ -145,16 +161,18 @@ pub fn choose(
     p: Kw,
     t: usize,
 ) -> Choice
-    requires { ⌜ (i < length (now devices)) × CellOf (deviceAt (now devices) i) cell (now settings) (now starts) (p .0) t ⌝ }
+    requires { ⌜ (i < length (now devices)) × CellOf (deviceAt (now devices) i) cell (now settings) (now starts) (p .0) t × (onAt (now settings) t * sumOf (cell .floors) ≤ p .0) ⌝ }
     ensures { λ r. ⌜ ChoiceOf (deviceAt (now (devices .entry)) i) cell (now (settings .entry)) (now (starts .entry)) (p .0) t r ⌝ }
 {
     let on0 = on0_at(devices, i);
     let started = started_at(on0, settings, t);
     let stopped = stopped_at(on0, settings, t);
     let state = state_at(devices, i, settings, starts, t, started);
+    let on = on_at(settings, t);
+    let floors = cell.floors;
     let caps = cell.caps;
     let prices = cell.prices;
-    let blocks = block_fill::fill(p, side_at(devices, i), caps, prices);
+    let blocks = blocks_of(on, p, side_at(devices, i), floors, caps, prices);
     Choice {
         started,
         stopped,

@@ -18,6 +18,7 @@ use Rattle.field_rows.specs.Each.{list-natural, counted-natural}
 use Rattle.field_rows.proofs.Steps.{eight-natural}
 use Rattle.item_reader.specs.declared.Listed.the-variants.{States, Starts, Energies}
 use Rattle.item_reader.specs.Naturals.{item-natural}
+use Rattle.floor_reader.proofs.Floors.{block-natural}
 use Rattle.reactive_cells.proofs.Reactive.{reactive-natural}
 use Rattle.link_reader.proofs.Links.{link-natural}
 use Rattle.device_reader.specs.Heads.{Ahead, ahead, aheadOf}
@@ -50,10 +51,10 @@ ahead-natural e zones last =
     (λ d. then-natural (counted-natural _ (item-natural Starts e last)) (λ f. then-natural (counted-natural _ (item-natural Energies e last)) (λ g. link-natural e))))))
 
 pub cell-natural : (e : ℕ) → Natural (cell e)
-unfolding cell apart
+unfolding cell B.cellWith apart
 cell-natural e = held-natural _ _
     (then-natural (nat-natural _) (λ a. then-natural (then-natural (nat-natural _) (λ low. such-natural _ (nat-natural _))) (λ b.
-    then-natural (held-natural _ _ (counted-natural _ (then-natural (nat-natural _) (λ c. int-natural _ _)))) (λ d.
+    then-natural (held-natural _ _ (counted-natural _ (then-natural (block-natural e) (λ c. int-natural _ _)))) (λ d.
     then-natural (eight-natural (nat-natural _)) (λ f. reactive-natural e)))))
 
 -- ---- what stands ahead, then the cells

@@ -1,10 +1,11 @@
 -- The tests of a device's interval are the model's of real power. `tests-are` is the one law that knows the model's list of them.
 use mathlib.Core.Path.{_≡_, refl, sym, ap, _∙_}
 use mathlib.Core.Bool.{true, false}
-use mathlib.Core.List.{List, []}
+use mathlib.Core.List.{List, [], _∷_}
 use Prim.Native.Nat.{ℕ, _+_, _-_, _*_, _≤_, _<_}
 use native.Mathlib.Omega.{arith}
 use native.Mathlib.Decide.{decLe}
+use native.Mathlib.Nat.{mul-zero, mul-add}
 use borrow.Author.Tests.{lt-ltb, le-ltb, eq-eqb, ne-eqb}
 use lib.Dec.{eqb, ltb}
 use lib.ListN.{getD, length}
@@ -16,23 +17,28 @@ use Rattle.model.specs.Case as M
 use Rattle.model.specs.Case.{System, Plan}
 use Rattle.model.specs.Forced as F
 use Rattle.model.specs.Rules as R
-use Rattle.model.specs.Breaches.{apart, realTests}
+use Rattle.model.specs.Breaches.{apart, firstTests, realTests}
 use Rattle.row_places.specs.Figures.{cellOf, settingOf, deviceOf, startedAt, stoppedAt, previousAt, onAt, onBefore}
 use Rattle.numbers.specs.Parts.{part, part-long}
 use Rattle.records.specs.Views.{systemIn, planIn, deviceIn, cellIn, settingIn, mostPower, Ready}
 use Rattle.records.specs.Viewed as W
 use Rattle.records.specs.Ranged as G
+use Rattle.kilowatts.specs.Power.{kw}
 use Rattle.row_places.specs.declared.Cell.{Cell}
 use Rattle.row_places.specs.declared.Device.{Device}
 use Rattle.row_places.specs.declared.Front.{Front}
 use Rattle.row_places.specs.declared.Setting.{Setting}
 use Rattle.cell_bounds.specs.declared.Bounds.{Bounds}
 use Rattle.cell_bounds.specs.declared.Moment.{Moment}
-use Rattle.cell_bounds.specs.Tests.{boundsOf, roomOf, tests, stateTests, rampTests, onTests, offTests, powerTests, Sized, Small}
+use Rattle.cell_bounds.specs.Tests.{boundsOf, sumOf, tests, stateTests, rampTests, onTests, offTests, powerTests, Sized, Small}
 use Rattle.rests.specs.Apart.{Rising, apartAt}
 use Rattle.moments.specs.Moments.{stopsOf, startsOf, momentAt, testsAt, Fits}
 
 -- ---- the figures that the model's tests compare, by the records' names
+
+sumℕ-times : (n : ℕ) (f : ℕ → ℕ) (ks : List ℕ) → n * sumℕ f ks ≡ sumℕ (λ k. n * f k) ks
+sumℕ-times n f [] = mul-zero n
+sumℕ-times n f (k ∷ ks) = mul-add n (f k) (sumℕ f ks) ∙ ap (λ (m : ℕ). n * f k + m) (sumℕ-times n f ks)
 
 module _ (q : System) (p : Plan) (t i : ℕ) where
   pub record OfDevice (d : Bounds) : Type 0 where
@@ -58,7 +64,8 @@ module _ (q : System) (p : Plan) (t i : ℕ) where
     pub status : c .status ≡ F.cell q t i .status
     pub pmin : c .pmin .0 ≡ F.cell q t i .pmin
     pub pmax : c .pmax .0 ≡ F.cell q t i .pmax
-    pub room : roomOf (c .caps) ≡ sumℕ (F.cap q t i) R.blocks
+    pub room : sumOf (c .caps) ≡ sumℕ (F.cap q t i) R.blocks
+    pub floors : sumOf (c .floors) ≡ sumℕ (F.floor q t i) R.blocks
 
   pub record OfSetting (s : Setting) : Type 0 where
     pub on : s .on ≡ F.u q p t i
@@ -85,8 +92,13 @@ module _ (q : System) (p : Plan) (t i : ℕ) where
   unfolding F.power
   forced-is e f = omega arith
 
+  -- the floors bind while on, all or none
+  floors-bind : F.u q p t i * sumℕ (F.floor q t i) R.blocks ≡ sumℕ (F.least q p t i) R.blocks
+  unfolding F.least
+  floors-bind = sumℕ-times (F.u q p t i) (F.floor q t i) R.blocks
+
   pub tests-are : {d : Bounds} {c : Cell} {s : Setting} {w : Moment} → OfDevice d → OfCell c → OfSetting s → OfMoment w → tests d c s w ≡ realTests q p t i
-  unfolding tests stateTests rampTests onTests offTests powerTests realTests R.initialMinimum R.mayRise R.mayFall
+  unfolding tests stateTests rampTests onTests offTests powerTests firstTests realTests R.initialMinimum R.mayRise R.mayFall
   tests-are {d} {c} {s} {w} a b e f = rw (
     forced-is (f .power) (e .online),
     a .side,
@@ -110,7 +122,9 @@ module _ (q : System) (p : Plan) (t i : ℕ) where
     b .pmin,
     b .pmax,
     b .room,
+    b .floors,
     e .on,
+    floors-bind,
     e .online,
     e .rgu,
     e .rgd,
@@ -190,11 +204,17 @@ module _ {front : Front} {halves : List ℕ} {zones minima devices cells setting
     abbrev row : List ℕ
     row = getD ownCells t []
 
-    room-is : roomOf (cellOf row .caps) ≡ sumℕ (F.cap q t i) R.blocks
+    room-is : sumOf (cellOf row .caps) ≡ sumℕ (F.cap q t i) R.blocks
     unfolding range
     room-is =
         let c = G.cap-at (ready .case-rows) i l t h in
         omega (arith, c 0 (omega arith), c 1 (omega arith), c 2 (omega arith), c 3 (omega arith))
+
+    floors-are : sumOf (cellOf row .floors) ≡ sumℕ (F.floor q t i) R.blocks
+    unfolding range
+    floors-are =
+        let f = G.floor-at (ready .case-rows) i l t h in
+        omega (arith, f 0 (omega arith), f 1 (omega arith), f 2 (omega arith), f 3 (omega arith))
 
     of-cell : OfCell q p t i (cellOf row)
     of-cell =
@@ -204,6 +224,7 @@ module _ {front : Front} {halves : List ℕ} {zones minima devices cells setting
           pmin = sym (ap (λ (x : M.Cell). x .pmin) e);
           pmax = sym (ap (λ (x : M.Cell). x .pmax) e);
           room = room-is;
+          floors = floors-are;
         }
 
     of-setting : OfSetting q p t i (settingOf (getD ownSettings t []))
@@ -272,6 +293,7 @@ module _ {front : Front} {halves : List ℕ} {zones minima devices cells setting
         let s = G.setting-range (ready .plan-rows) i t l h in
         let c = G.cell-range (ready .case-rows) i l t h in
         let cap = G.cap-small (ready .case-rows) i l t h in
+        let floor : (k : ℕ) → k < 4 → getD (cellOf row .floors) k (kw 0) .0 ≤ 100000 = λ k b. omega (arith, cap k b, G.floor-below (ready .case-rows) i l t h k b) in
         record {
           on = s .on;
           started = rises (onBefore (d .on0) ownSettings t) (onAt ownSettings t);
@@ -289,6 +311,10 @@ module _ {front : Front} {halves : List ℕ} {zones minima devices cells setting
           cap1 = cap 1 (omega arith);
           cap2 = cap 2 (omega arith);
           cap3 = cap 3 (omega arith);
+          floor0 = floor 0 (omega arith);
+          floor1 = floor 1 (omega arith);
+          floor2 = floor 2 (omega arith);
+          floor3 = floor 3 (omega arith);
           power = G.power-small ready i l t h;
           previous = previous-small;
           minutes = omega (arith, G.half-small (ready .case-rows) t);

@@ -6,7 +6,7 @@ ghost use Rattle.layouts.specs.Since.{has};
 ghost use Rattle.model.specs.Editions as E;
 
 // The newest edition there is.
-pub const NEWEST: u32 = 2;
+pub const NEWEST: u32 = 3;
 
 // The largest counts that a reader takes, in whatever edition.
 pub struct Largest {

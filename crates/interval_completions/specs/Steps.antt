@@ -27,14 +27,15 @@ use Rattle.row_places.specs.declared.Cell.{Cell}
 use Rattle.row_places.specs.declared.Setting.{Setting}
 use Rattle.row_places.specs.declared.Zone.{Zone}
 use Rattle.row_places.specs.declared.Minima.{Minima}
-use Rattle.row_places.specs.Figures.{cellOf, settingOf, zoneOf, minimaOf, deviceAt}
+use Rattle.row_places.specs.Figures.{onAt, cellOf, settingOf, zoneOf, minimaOf, deviceAt}
 use Rattle.numbers.specs.Parts.{part, part-at, part-cut, place-inside}
 use Rattle.records.specs.Views.{mostIntervals, systemIn, caseIn, planIn}
 use Rattle.records.specs.Viewed as Viewed
 use Rattle.choices.specs.declared.Choice.{Choice}
 use Rattle.choices.specs.Cells.{CellOf}
 use Rattle.choices.specs.Choices.{ChoiceOf}
-use Rattle.choices.specs.Here.{cell-here, choice-learnt}
+use Rattle.block_fill.specs.Above.{sumOf}
+use Rattle.choices.specs.Here.{cell-here, floors-here, choice-learnt}
 use Rattle.mismatches.specs.Sides.{sidesTo, mismatchOf, mismatch-is}
 use Rattle.zone_totals.specs.Sums.{sumsTo}
 use Rattle.zone_shortfalls.specs.Needs.{Thousandths, zoneNeeds, thousandths, shortfalls-are}
@@ -112,6 +113,10 @@ module _ {front : Front} {halves : List ℕ} {zones minima devices cells setting
     module _ {cell : Cell} (ec : cell ≡ cellOf (getD cells (a + t) [])) where
       pub cell-of : CellOf (deviceAt devices i) cell own starts power t
       cell-of = cell-here (u .ready) t i a h l begins refl ec own-is refl
+
+      -- its power is at or above the floors that bind
+      pub floors-of : onAt own t * sumOf (cell .floors) ≤ power
+      floors-of = floors-here (u .ready) t i a h l begins refl ec own-is refl (u .rules)
 
       module _ {v : Choice} (o : ChoiceOf (deviceAt devices i) cell own starts power t v) where
         pub device-fits : FitsDevice (choiceIn (v .started) (v .stopped) (v .state) (v .blocks))

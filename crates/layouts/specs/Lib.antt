@@ -9,3 +9,4 @@ pub mod As
 pub mod Own
 pub mod OwnBytes
 pub mod Numbers
+pub mod Sure

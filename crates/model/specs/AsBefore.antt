@@ -1,12 +1,13 @@
 -- Edition 1 as before: a message of edition 1 is read and written by the layouts of every edition as `Messages` says, which is all that an edition 1 message means.
 use mathlib.Core.Path.{_≡_, refl, sym, _∙_, ap}
+use mathlib.Core.Bool.{false}
 use mathlib.Core.List.{List, _++_, append-assoc, append-nil}
 use Prim.Native.Nat.{ℕ, _≤_, min}
 use native.Mathlib.Omega.{arith}
 use Rattle.layouts.specs.declared.Fault.{Fault}
 use Rattle.layouts.specs.declared.Place.{Place}
 use Rattle.layouts.specs.Layout.{Layout, begin, advanced, nat, _then_, _▸_, held, fixed, readWhole, bitsOf}
-use Rattle.layouts.specs.Since.{nothing, present}
+use Rattle.layouts.specs.Since.{has, nothing, present}
 use Rattle.layouts.specs.As.{As, as-same, as-pair, as-each, as-held, ahead, only, holding, leads}
 use Rattle.model.specs.Case.{Case, System}
 use Rattle.model.specs.Editions.{Largest, deviceLimit, intervalLimit, batch}
@@ -15,7 +16,7 @@ use Rattle.model.specs.Messages.{edition1, Counts, Written}
 use Rattle.model.specs.Judgement.{countsOf}
 use Rattle.model.specs.Before.{readPlan}
 use Rattle.model.specs.ByEdition.{Stated, counts, startWindow, device, content, caseLayout, caseKind, editionOf, editionField, completionFront, completionLayout}
-use Rattle.model.specs.ByEdition.{planKind, setting, cell, minima, zone, planLayout, plannedIn, zoneChoice, intervalChoice}
+use Rattle.model.specs.ByEdition.{planKind, setting, block, cellWith, cell, minima, zone, planLayout, plannedIn, zoneChoice, intervalChoice}
 
 -- a case with its edition beside it
 abbrev pub stated : ℕ → Case → Stated
@@ -53,9 +54,18 @@ first l = held (λ v. v .1 .1) (λ c. (caseKind, (1, c))) (fixed caseKind ▸ fi
 regroup : (a b c d : List ℕ) → a ++ (b ++ (c ++ d)) ≡ (a ++ (b ++ c)) ++ d
 regroup a b c d = simp append-assoc
 
+-- floors came with edition 3
+pub block-as : (e : ℕ) → has 3 e ≡ false → block e ≡ M.block
+unfolding block M.block held _then_ nat bitsOf present nothing
+block-as e h = rw h refl
+
+pub cell-without : (e : ℕ) → has 3 e ≡ false → cell e ≡ cellWith e M.block
+unfolding cell
+cell-without e h = ap (cellWith e) (block-as e h)
+
 -- reactive power came with edition 2
 cell-as : M.cell ≡ cell 1
-unfolding cell M.cell M.eight held _then_ nat bitsOf present nothing
+unfolding cell cellWith M.cell block M.block M.eight held _then_ nat bitsOf present nothing
 cell-as = refl
 
 minima-as : M.minima ≡ minima 1

@@ -9,7 +9,7 @@ use Rattle.layouts.specs.declared.Fault.the-variants.{WrongKind}
 use Rattle.layouts.specs.Layout.{Field, Layout, Whole, nat, int, _then_, _▸_, list, held, counted, figure, any, countOf, fixed, readWhole, such}
 use Rattle.layouts.specs.Since.{since, present}
 use lib.ListN.{length}
-use Rattle.model.specs.Case.{StartWindow, Line, Link, Cell, Device, Minima, Zone, CellPrices, DevicePrices, Kinds, Case, System, Reactive, Setting}
+use Rattle.model.specs.Case.{StartWindow, Line, Link, Block, Cell, Device, Minima, Zone, CellPrices, DevicePrices, Kinds, Case, System, Reactive, Setting}
 use Rattle.model.specs.Case.{Plan, noReactive, ReactiveLimits, ReactiveReserves, noReactiveLimits, noReactiveReserves, noLine, noLink, unitPrices}
 use lib.Dec.{ltb, leb, eqb}
 use lib.Signed.{leZ}
@@ -78,20 +78,30 @@ reactiveCell = reactiveLimits ▸ reactivePrices
 abbrev pub noReactiveCell : ReactiveLimits × ReactiveReserves
 noReactiveCell = (noReactiveLimits, noReactiveReserves)
 
+-- "a floor (17 bits) after each block's cap", since edition 3; "A floor above its cap is a contradiction at the floor"
+unfoldable pub block : ℕ → Layout Block
+block e = held
+    (λ v. record { cap = v .0; floor = v .1 })
+    (λ b. (b .cap, b .floor))
+    (kW then (λ cap. since e 3 0 (such (λ floor. leb floor cap) kW)))
+
 -- "status 2 (0 free, 1 on, 2 off); pmin, pmax 17 each; blocks 3 (0..4), each cap 17 and price 15 (±10,000); eight reserve prices 14 each (0..10,000)";
 -- "New fields follow, in the order told here, the old ones of their device .. in that interval"
-unfoldable pub cell : ℕ → Layout (Cell × CellPrices)
-cell e = held
+unfoldable pub cellWith : ℕ → Layout Block → Layout (Cell × CellPrices)
+cellWith e one = held
     (λ v. let r = v .1 .1 .1 in (
-      record { status = v .0; pmin = v .1 .0 .0; pmax = v .1 .0 .1; caps = v .1 .1 .0 .0; reactive = r .1 .0 },
+      record { status = v .0; pmin = v .1 .0 .0; pmax = v .1 .0 .1; blocks = v .1 .1 .0 .0; reactive = r .1 .0 },
       record { blocks = v .1 .1 .0 .1; reserves = r .0; reactive = r .1 .1 },
     ))
-    (λ r. let c = r .0 in let x = r .1 in (c .status, ((c .pmin, c .pmax), ((c .caps, x .blocks), (x .reserves, (c .reactive, x .reactive))))))
+    (λ r. let c = r .0 in let x = r .1 in (c .status, ((c .pmin, c .pmax), ((c .blocks, x .blocks), (x .reserves, (c .reactive, x .reactive))))))
     (figure 2 0 2
     ▸ (kW then (λ low. such (λ high. leb low high) kW))
-    ▸ apart (counted (countOf 3 0 4) (kW ▸ int 15 10000))
+    ▸ apart (counted (countOf 3 0 4) (one ▸ int 15 10000))
     ▸ eight (figure 14 0 10000)
     ▸ since e 2 noReactiveCell reactiveCell)
+
+unfoldable pub cell : ℕ → Layout (Cell × CellPrices)
+cell e = cellWith e (block e)
 
 -- "each start 16, end 16, most starts 6 (0..48)"
 unfoldable pub startWindow : ℕ → ℕ → Layout StartWindow

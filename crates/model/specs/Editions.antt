@@ -3,7 +3,7 @@ use Prim.Native.Nat.{ℕ, min}
 
 -- the newest edition there is
 abbrev pub newest : ℕ
-newest = 2
+newest = 3
 
 -- ---- counts
 

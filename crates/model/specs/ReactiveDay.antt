@@ -10,7 +10,7 @@ use Rattle.model.specs.Open.{open-rules, open-messages}
 use Rattle.model.specs.Case.{Case, Plan, Setting, Link, Line, Reactive, ReactiveLimits, noLink, noLine, noReactive, noReactiveLimits, noReactiveReserves, noReserves, unitPrices}
 use Rattle.model.specs.Judgement.{verdict}
 use Rattle.model.specs.Shown.{shown, eqℤ, eqList}
-use Rattle.model.specs.Day.{Added, noneAdded, dayCase, reactivePlan}
+use Rattle.model.specs.Day.{Added, noneAdded, block, dayCase, reactivePlan}
 
 -- a case, a plan, and what is expected: 0 and the surplus, or 1, rule and place
 pub record Row : Type 0 where
@@ -58,15 +58,16 @@ none = replicate 2 noReactiveLimits
 
 -- device 2, interval 1: qmax 1, and qru at a price; device 1's limits
 unlinked : List ReactiveLimits → ℕ → Added
-unlinked first price = record { link = noLink; limits1 = first; limits2 = one; qruPrice = price; prices = unitPrices; minima = replicate 2 noReactiveReserves }
+unlinked first price = record { floors = replicate 2 0; link = noLink; limits1 = first; limits2 = one; qruPrice = price; prices = unitPrices; minima = replicate 2 noReactiveReserves }
 
 -- device 1's link and limits
 linked : Link → List ReactiveLimits → Added
-linked link first = record { link = link; limits1 = first; limits2 = none; qruPrice = 0; prices = unitPrices; minima = replicate 2 noReactiveReserves }
+linked link first = record { floors = replicate 2 0; link = link; limits1 = first; limits2 = none; qruPrice = 0; prices = unitPrices; minima = replicate 2 noReactiveReserves }
 
 -- "a zone with minima qru 2 in interval 1, qrd 1 in interval 2, prices 3 and 5"
 zoned : Added
 zoned = record {
+  floors = replicate 2 0;
   link = noLink;
   limits1 = none;
   limits2 = one;
@@ -128,7 +129,7 @@ single side power0 link reactive intervals = record {
       startWindows = [];
       energyWindows = [];
       link = link;
-      cells = replicate intervals (record { status = 0; pmin = power0; pmax = 100; caps = 100 ∷ []; reactive = reactive });
+      cells = replicate intervals (record { status = 0; pmin = power0; pmax = 100; blocks = block 100 ∷ []; reactive = reactive });
     } ∷ [];
   };
   prices = record {

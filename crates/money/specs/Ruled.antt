@@ -14,16 +14,16 @@ use Rattle.kilowatts.specs.declared.Kw.{Kw}
 use Rattle.kilowatts.specs.Power.{kw}
 use Rattle.numbers.specs.Base.{range}
 use Rattle.model.specs.Case.{System, Plan, Case}
-use Rattle.model.specs.Forced.{devices, device, consuming, cap, u, uBefore, su, sd, power, duration}
+use Rattle.model.specs.Forced.{devices, device, consuming, cap, least, u, uBefore, su, sd, power, duration}
 use Rattle.model.specs.Rules.{blocks, EveryRule}
 use Rattle.model.specs.Completion.{cellPrices, blockPrice, stateCost}
 use Rattle.model.specs.Ours.{ours, bestState, lasts}
-use Rattle.theorems.specs.Best.{filling-cap}
+use Rattle.theorems.specs.Best.{above-cap}
 use Rattle.numbers.specs.Every.{all-range}
 use Rattle.ranges.specs.Ranges.{CellPriceRange, SettingRange}
 use Rattle.ranges.specs.Kept.{kept-small}
 use Rattle.numbers.specs.Every.{all-or, bit-le}
-use Rattle.theorems.specs.Sizes.{power-bound}
+use Rattle.theorems.specs.Sizes.{power-bound, floored}
 use Rattle.row_places.specs.declared.Cell.{Cell}
 use Rattle.row_places.specs.declared.Device.{Device}
 use Rattle.row_places.specs.declared.Setting.{Setting}
@@ -120,9 +120,12 @@ module _ {d : Device} {cell : Cell} {setting : Setting} {p minutes : ℕ} {x : C
   abbrev pub ourBlock : ℕ → ℕ
   ourBlock = ours case plan .block (w .t) i
 
-  block-cap : (k : ℕ) → ourBlock k ≤ cap q (w .t) i k
+  pub floors-below : (k : ℕ) → k < 4 → least q plan (w .t) i k ≤ cap q (w .t) i k
+  floors-below = floored q plan (system-range (w .place .ready)) (plan-range (w .place .ready)) (w .t) i (Cells.in-intervals (w .place)) (Cells.in-devices (w .place))
+
+  block-cap : (k : ℕ) → k < 4 → ourBlock k ≤ cap q (w .t) i k
   unfolding ours
-  block-cap k = filling-cap (blockPrice case (w .t) i) (cap q (w .t) i) (power q plan (w .t) i) (consuming q i) k
+  block-cap k h = above-cap (blockPrice case (w .t) i) (least q plan (w .t) i) (cap q (w .t) i) (power q plan (w .t) i) floors-below (consuming q i) k h
 
   cap-small : (k : ℕ) → k < 4 → cap q (w .t) i k ≤ powerMost
   cap-small k h =
@@ -135,7 +138,7 @@ module _ {d : Device} {cell : Cell} {setting : Setting} {p minutes : ℕ} {x : C
     where
       go : (cap q (w .t) i k ≡ 0) ⊎ (less priceOffset (getD (cell .prices) k 0) ≡ blockPrice case (w .t) i k)
           → (ourBlock k ≡ 0) ⊎ (less priceOffset (getD (cell .prices) k 0) ≡ blockPrice case (w .t) i k)
-      go (inl z) = inl (omega (arith, block-cap k))
+      go (inl z) = inl (omega (arith, block-cap k h))
       go (inr e) = inr e
 
   block-price-small : (k : ℕ) → natAbs (blockPrice case (w .t) i k) ≤ priceMost
@@ -149,7 +152,7 @@ module _ {d : Device} {cell : Cell} {setting : Setting} {p minutes : ℕ} {x : C
 
   pub four-priced : FourPriced (x .blocks) (cell .prices)
   four-priced = record {
-    small = λ k h. omega (arith, block-at k h, block-cap k, cap-small k h);
+    small = λ k h. omega (arith, block-at k h, block-cap k h, cap-small k h);
     priced = λ k h. go k h (block-priced k h);
   }
     where

@@ -16,7 +16,7 @@ use Rattle.grains.specs.declared.Ledger.{Ledger}
 use Rattle.numbers.specs.Base.{range}
 use Rattle.model.specs.Case as M
 use Rattle.model.specs.Case.{System, Plan, Case}
-use Rattle.model.specs.Forced.{consuming, power, cap, setting}
+use Rattle.model.specs.Forced.{consuming, power, cap, least, setting}
 use Rattle.model.specs.Rules.{blocks}
 use Rattle.model.specs.Completion.{Completion, bySide, cellPrices, blockPrice, reserveCost, blockWorth, onCost, changeCost, reservesCost}
 use Rattle.model.specs.Named.{rule19-holds}
@@ -26,7 +26,7 @@ use Rattle.row_places.specs.declared.Device.{Device}
 use Rattle.row_places.specs.declared.Setting.{Setting}
 use Rattle.records.specs.Views.{less, priceOffset, eightIn, eightPricesIn, settingIn, devicePricesIn}
 use Rattle.records.specs.Viewed as Viewed
-use Rattle.block_fill.specs.Filled.{filling-total}
+use Rattle.theorems.specs.Best.{above-total}
 use Rattle.choices.specs.declared.Choice.{Choice}
 use Rattle.choices.specs.States.{costOf}
 use Rattle.choices.specs.Cells as Cells
@@ -87,7 +87,9 @@ module _ {d : Device} {cell : Cell} {s : Setting} {p minutes : ℕ} {x : Choice}
 
   total : sumℕ ourBlock blocks ≡ power q plan t i
   unfolding ours
-  total = filling-total (consuming q i) (blockPrice c t i) (cap q t i) (power q plan t i) (rule19-holds q plan (w .rules) t i (Cells.in-intervals (w .place)) (Cells.in-devices (w .place)))
+  total =
+      let fits = rule19-holds q plan (w .rules) t i (Cells.in-intervals (w .place)) (Cells.in-devices (w .place)) in
+      above-total (blockPrice c t i) (least q plan t i) (cap q t i) (power q plan t i) (Ruled.floors-below w) (fits .floors) (fits .caps) (consuming q i)
 
   abbrev kept : ℕ → ℕ
   kept k = getD (cell .prices) k 0

@@ -9,7 +9,7 @@ use Rattle.numbers.specs.Every.{all-at}
 use Rattle.layouts.specs.declared.Fault.{Fault}
 use Rattle.layouts.specs.declared.Place.{Place}
 use Rattle.layouts.specs.Layout.{held, _then_, list, begin, readWhole}
-use Rattle.layouts.specs.Checked.{whole-checked}
+use Rattle.layouts.specs.Sure.{Any, sure-checked, whole-sure}
 use Rattle.model.specs.Case as M
 use Rattle.model.specs.Case.{noSetting}
 use Rattle.model.specs.ByEdition.{planned, planLayout}
@@ -88,7 +88,7 @@ pub plan-done : (e n m : ℕ) (s : List ℕ) {r : Ending} (settings : List (List
     → ended (planIn n m settings) r ≡ readWhole (planLayout e n m) s → PlanDone e n m s settings r
 plan-done e n m s settings l h = record {
   reads = h;
-  refused = ended-tells (planLayout e n m) (Settings n m) (settings-in e n m) s (planIn n m settings) h;
+  refused = ended-tells (planLayout e n m) Any (sure-checked (planLayout e n m) (Settings n m) (settings-in e n m)) s (planIn n m settings) h;
   rows = λ o. plan-rows n m settings
-      (whole-checked (planLayout e n m) (Settings n m) (settings-in e n m) s (planIn n m settings) (sym (ap (λ (x : Ending). ended (planIn n m settings) x) (sym o) ∙ h))) l;
+      (whole-sure (planLayout e n m) (Settings n m) (settings-in e n m) s (planIn n m settings) (sym (ap (λ (x : Ending). ended (planIn n m settings) x) (sym o) ∙ h))) l;
 }

@@ -1,3 +1,4 @@
 pub mod Ranges
 pub mod Kept
 pub mod Plain
+pub mod Floorless

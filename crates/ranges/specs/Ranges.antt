@@ -5,12 +5,13 @@ use mathlib.Core.List.{List}
 use Prim.Native.Nat.{ℕ, _≤_}
 use native.Mathlib.Omega.{arith}
 use lib.ListN.{length, length-map}
+use lib.Dec.{T, leb, leb→le, le→leb}
 use lib.IntN.{natAbs}
 use Rattle.numbers.specs.Sum.{All, all-map}
 use Rattle.numbers.specs.Every.{map-of-all}
 use Rattle.model.specs.Case.{Reserves, Ramps, StartWindow, EnergyWindow, Shares, Six, Kinds, Minima, Cell, CellPrices, Device, DevicePrices, Zone, System, Prices}
-use Rattle.model.specs.Case.{Case, Plan, Reactive, Setting, noReactive, ReactiveLimits, ReactiveReserves, Line, Link, noLine, noLink, noReactiveReserves, unitPrices}
-use Rattle.layouts.specs.Layout.{Layout, Field, nat, list, counted, _then_, _▸_, passes, figure, any, countOf, int}
+use Rattle.model.specs.Case.{Block, Case, Plan, Reactive, Setting, noReactive, ReactiveLimits, ReactiveReserves, Line, Link, noLine, noLink, noReactiveReserves, unitPrices}
+use Rattle.layouts.specs.Layout.{Layout, Field, nat, list, counted, _then_, _▸_, such, passes, figure, any, countOf, int}
 use Rattle.model.specs.Editions.{newest, Largest, batch, devicesIn, intervalsIn, mostDevices, mostIntervals, mostZones, mostStates, mostWindows, startsBits, mostStarts}
 use Rattle.model.specs.Messages as M
 use Rattle.model.specs.Messages.{edition1}
@@ -18,46 +19,55 @@ use Rattle.model.specs.ByEdition as B
 use Rattle.model.specs.ByEdition.{Stated, statedIn, plannedIn}
 use Rattle.model.specs.AsBefore.{first, first-as}
 use Rattle.layouts.specs.As.{as-checked}
-use Rattle.layouts.specs.Since.{has, present, present-checked, since, where-more}
-use Rattle.layouts.specs.Checked.{Checked, nat-checked, int-checked, list-checked, such-checked, held-checked, then-checked, whole-checked, weaken}
+use Rattle.layouts.specs.Since.{has, present, since}
+use Rattle.layouts.specs.Checked.{Checked}
+use Rattle.layouts.specs.Sure.{Sure, Any, nat-sure, int-sure, list-sure, such-sure, held-sure, then-sure, present-sure, whole-sure, weaken-sure, sure-checked}
 
-pub pair-checked : {A B : Type 0} (l : Layout A) (m : Layout B) (P : A → Type 0) (Q : B → Type 0) → Checked l P → Checked m Q → Checked (l ▸ m) (λ x. P (x .0) × Q (x .1))
-pair-checked l m P Q u v = then-checked l (λ a. m) P (λ a. Q) u (λ a ok. v)
+pub pair-sure : {A B : Type 0} (l : Layout A) (m : Layout B) (P : A → Type 0) (Q : B → Type 0) → Sure l P → Sure m Q → Sure (l ▸ m) (λ x. P (x .0) × Q (x .1))
+pair-sure l m P Q u v = then-sure l (λ a. m) P (λ a. Q) u (λ a. v)
 
-pub counted-checked : {A : Type 0} (f : Field) (l : Layout A) (P : A → Type 0) → Checked l P → Checked (counted f l) (λ xs. (length xs ≤ f .high) × All P xs)
+pub counted-sure : {A : Type 0} (f : Field) (l : Layout A) (P : A → Type 0) → Sure l P → Sure (counted f l) (λ xs. (length xs ≤ f .high) × All P xs)
 unfolding counted
-counted-checked f l P u = held-checked _ _ _ _ _ (then-checked (nat f) (λ n. list n l) _ (λ n xs. (length xs ≡ n) × All P xs) (nat-checked f)
-    (λ n ok. list-checked n l P u)) (λ a ok. (omega arith, ok .1 .1))
+counted-sure f l P u = held-sure _ _ _ _ _ (then-sure (nat f) (λ n. list n l) _ (λ n xs. (length xs ≡ n) × All P xs) (nat-sure f)
+    (λ n. list-sure n l P u)) (λ a ok. (omega arith, ok .1 .1))
 
 -- what came with an edition, whose neutral value is in its range
-since-checked : {A : Type 0} (e k : ℕ) (neutral : A) (l : Layout A) (P : A → Type 0) → Checked l P → P neutral → Checked (since e k neutral l) P
-since-checked e k neutral l P u n =
-    weaken (since e k neutral l) _ _ (present-checked (has k e) neutral l P u) (λ x ok. where-more (has k e) true neutral P (λ _. refl) n x ok)
+pub since-sure : {A : Type 0} (e k : ℕ) (neutral : A) (l : Layout A) (P : A → Type 0) → Sure l P → P neutral → Sure (since e k neutral l) P
+since-sure e k neutral l P u n = present-sure (has k e) neutral l P u n
+
+-- a field whose test is not asked for
+pub tested-sure : {A : Type 0} (ok : A → Bool) (l : Layout A) (P : A → Type 0) → Sure l P → Sure (such ok l) P
+tested-sure ok l P u = weaken-sure (such ok l) _ P (such-sure ok l P u) (λ a k. k .0)
 
 -- a cell: status, pmin and pmax, at most four blocks, each cap, qmin and qmax
 pub record ReactiveLimitRange (r : ReactiveLimits) : Type 0 where
   pub qmin : natAbs (r .qmin) ≤ 100000
   pub qmax : natAbs (r .qmax) ≤ 100000
 
+-- a block: its cap, and a floor that is not above it
+pub record BlockRange (b : Block) : Type 0 where
+  pub cap : b .cap ≤ 100000
+  pub floor : b .floor ≤ b .cap
+
 pub record CellRange (c : Cell) : Type 0 where
   pub status : c .status ≤ 2
   pub pmin : c .pmin ≤ 100000
   pub pmax : c .pmax ≤ 100000
-  pub blocks : length (c .caps) ≤ 4
-  pub caps : All (λ x. x ≤ 100000) (c .caps)
+  pub blocks : length (c .blocks) ≤ 4
+  pub each : All BlockRange (c .blocks)
   pub reactive : ReactiveLimitRange (c .reactive)
 
-pub apart-checked : {A B : Type 0} (l : Layout (List (A × B))) (n : ℕ) (P : A → Type 0) (Q : B → Type 0)
-    → Checked l (λ xs. (length xs ≤ n) × All (λ x. P (x .0) × Q (x .1)) xs) → Checked (M.apart l) (λ v. (length (v .0) ≤ n) × All P (v .0) × All Q (v .1))
+pub apart-sure : {A B : Type 0} (l : Layout (List (A × B))) (n : ℕ) (P : A → Type 0) (Q : B → Type 0)
+    → Sure l (λ xs. (length xs ≤ n) × All (λ x. P (x .0) × Q (x .1)) xs) → Sure (M.apart l) (λ v. (length (v .0) ≤ n) × All P (v .0) × All Q (v .1))
 unfolding M.apart
-apart-checked l n P Q u = held-checked _ _ _ _ _ u (λ xs ok. (
+apart-sure l n P Q u = held-sure _ _ _ _ _ u (λ xs ok. (
   rw length-map (ok .0),
   map-of-all P (λ x. x .0) xs (all-map (λ x k. k .0) xs (ok .1)),
   map-of-all Q (λ x. x .1) xs (all-map (λ x k. k .1) xs (ok .1)),
 ))
 
-pub figure-checked : (w low high : ℕ) → Checked (figure w low high) (λ v. v ≤ high)
-figure-checked w low high = weaken (figure w low high) _ _ (nat-checked (record { width = w; low = low; high = high; wrong = _ })) (λ a ok. ok .1)
+pub figure-sure : (w low high : ℕ) → Sure (figure w low high) (λ v. v ≤ high)
+figure-sure w low high = weaken-sure (figure w low high) _ _ (nat-sure (record { width = w; low = low; high = high; wrong = _ })) (λ a ok. ok .1)
 
 -- each of the eight
 pub record Eight (P : ℕ → Type 0) (r : Reserves) : Type 0 where
@@ -70,10 +80,10 @@ pub record Eight (P : ℕ → Type 0) (r : Reserves) : Type 0 where
   pub rrdOn : P (r .rrdOn)
   pub rrdOff : P (r .rrdOff)
 
-pub eight-checked : (l : Layout ℕ) (P : ℕ → Type 0) → Checked l P → Checked (M.eight l) (Eight P)
+pub eight-sure : (l : Layout ℕ) (P : ℕ → Type 0) → Sure l P → Sure (M.eight l) (Eight P)
 unfolding M.eight
-eight-checked l P u = held-checked _ _ _ _ _
-    (pair-checked _ _ _ _ u (pair-checked _ _ _ _ u (pair-checked _ _ _ _ u (pair-checked _ _ _ _ u (pair-checked _ _ _ _ u (pair-checked _ _ _ _ u (pair-checked _ _ _ _ u u)))))))
+eight-sure l P u = held-sure _ _ _ _ _
+    (pair-sure _ _ _ _ u (pair-sure _ _ _ _ u (pair-sure _ _ _ _ u (pair-sure _ _ _ _ u (pair-sure _ _ _ _ u (pair-sure _ _ _ _ u (pair-sure _ _ _ _ u u)))))))
     (λ v ok. record {
       rgu = ok .0;
       rgd = ok .1 .0;
@@ -94,22 +104,29 @@ pub record CellPriceRange (c : CellPrices) : Type 0 where
   pub reserves : Eight (λ r. r ≤ 10000) (c .reserves)
   pub reactive : ReactivePriceRange (c .reactive)
 
-reactive-cell-checked : Checked B.reactiveCell (λ v. ReactiveLimitRange (v .0) × ReactivePriceRange (v .1))
+pub reactive-cell-sure : Sure B.reactiveCell (λ v. ReactiveLimitRange (v .0) × ReactivePriceRange (v .1))
 unfolding B.reactiveLimits B.reactivePrices
-reactive-cell-checked = let l = int-checked 18 100000 in let x = figure-checked 14 0 10000 in pair-checked _ _ _ _
-    (held-checked _ _ _ _ _ (then-checked (int 18 100000) _ _ (λ low high. natAbs high ≤ 100000) l (λ low ok. such-checked _ _ _ l)) (λ v ok. record { qmin = ok .0; qmax = ok .1 }))
-    (held-checked _ _ _ _ _ (pair-checked _ _ _ _ x x) (λ v ok. record { qru = ok .0; qrd = ok .1 }))
+reactive-cell-sure = let l = int-sure 18 100000 in let x = figure-sure 14 0 10000 in pair-sure _ _ _ _
+    (held-sure _ _ _ _ _ (then-sure (int 18 100000) _ _ (λ low high. natAbs high ≤ 100000) l (λ low. tested-sure _ _ _ l)) (λ v ok. record { qmin = ok .0; qmax = ok .1 }))
+    (held-sure _ _ _ _ _ (pair-sure _ _ _ _ x x) (λ v ok. record { qru = ok .0; qrd = ok .1 }))
 
-cell-checked : (e : ℕ) → Checked (B.cell e) (λ v. CellRange (v .0) × CellPriceRange (v .1))
-unfolding B.cell
-cell-checked e = held-checked _ _ _ _ _
-    (pair-checked _ _ _ _ (figure-checked 2 0 2)
-    (pair-checked _ _ _ _ (then-checked M.kW _ _ (λ low high. high ≤ 100000) (figure-checked 17 0 100000) (λ low ok. such-checked _ _ _ (figure-checked 17 0 100000)))
-    (pair-checked _ _ _ _ (apart-checked _ 4 (λ x. x ≤ 100000) (λ x. natAbs x ≤ 10000) (counted-checked (countOf 3 0 4) _ _ (pair-checked _ _ _ _ (figure-checked 17 0 100000) (int-checked 15 10000))))
-    (pair-checked _ _ _ _ (eight-checked _ _ (figure-checked 14 0 10000))
-    (since-checked e 2 B.noReactiveCell B.reactiveCell _ reactive-cell-checked (record { qmin = omega arith; qmax = omega arith }, record { qru = omega arith; qrd = omega arith }))))))
+pub block-sure : (e : ℕ) → Sure (B.block e) BlockRange
+unfolding B.block
+block-sure e = let u = figure-sure 17 0 100000 in held-sure _ _ _ _ _
+    (then-sure M.kW _ _ (λ cap floor. T (leb floor cap)) u (λ cap. since-sure e 3 0 _ (λ floor. T (leb floor cap))
+    (weaken-sure _ _ _ (such-sure (λ floor. leb floor cap) M.kW _ u) (λ a ok. ok .1)) (le→leb 0 cap (omega arith))))
+    (λ v ok. record { cap = ok .0; floor = leb→le _ _ (ok .1) })
+
+cell-sure : (e : ℕ) → Sure (B.cell e) (λ v. CellRange (v .0) × CellPriceRange (v .1))
+unfolding B.cell B.cellWith
+cell-sure e = held-sure _ _ _ _ _
+    (pair-sure _ _ _ _ (figure-sure 2 0 2)
+    (pair-sure _ _ _ _ (then-sure M.kW _ _ (λ low high. high ≤ 100000) (figure-sure 17 0 100000) (λ low. tested-sure _ _ _ (figure-sure 17 0 100000)))
+    (pair-sure _ _ _ _ (apart-sure _ 4 BlockRange (λ x. natAbs x ≤ 10000) (counted-sure (countOf 3 0 4) _ _ (pair-sure _ _ _ _ (block-sure e) (int-sure 15 10000))))
+    (pair-sure _ _ _ _ (eight-sure _ _ (figure-sure 14 0 10000))
+    (since-sure e 2 B.noReactiveCell B.reactiveCell _ reactive-cell-sure (record { qmin = omega arith; qmax = omega arith }, record { qru = omega arith; qrd = omega arith }))))))
     (λ v ok. let r = ok .1 .1 .1 in (
-      record { status = ok .0; pmin = ok .1 .0 .0; pmax = ok .1 .0 .1; blocks = ok .1 .1 .0 .0; caps = ok .1 .1 .0 .1; reactive = r .1 .0 },
+      record { status = ok .0; pmin = ok .1 .0 .0; pmax = ok .1 .0 .1; blocks = ok .1 .1 .0 .0; each = ok .1 .1 .0 .1; reactive = r .1 .0 },
       record { blocks = ok .1 .1 .0 .2; reserves = r .0; reactive = r .1 .1 },
     ))
 
@@ -155,21 +172,21 @@ pub record LinkRange (l : Link) : Type 0 where
   pub upper : LineRange (l .upper)
   pub lower : LineRange (l .lower)
 
-no-line : LineRange noLine
+pub no-line : LineRange noLine
 no-line = record { offset = omega arith; slope = omega arith }
 
-line-checked : Checked B.line LineRange
+line-sure : Sure B.line LineRange
 unfolding B.line
-line-checked = held-checked _ _ _ _ _ (pair-checked _ _ _ _ (int-checked 18 100000) (int-checked 15 10000)) (λ v ok. record { offset = ok .0; slope = ok .1 })
+line-sure = held-sure _ _ _ _ _ (pair-sure _ _ _ _ (int-sure 18 100000) (int-sure 15 10000)) (λ v ok. record { offset = ok .0; slope = ok .1 })
 
 -- a line that a link kind has or lacks
-with-line : (b : Bool) → Checked (present b noLine B.line) LineRange
-with-line b = weaken (present b noLine B.line) _ _ (present-checked b noLine B.line LineRange line-checked) (λ x ok. where-more b true noLine LineRange (λ _. refl) no-line x ok)
+with-line : (b : Bool) → Sure (present b noLine B.line) LineRange
+with-line b = present-sure b noLine B.line LineRange line-sure no-line
 
-link-checked : Checked B.link LinkRange
+pub link-sure : Sure B.link LinkRange
 unfolding B.link
-link-checked = held-checked _ _ _ _ _
-    (then-checked (figure 2 0 2) _ _ (λ kind v. LineRange (v .0) × LineRange (v .1)) (figure-checked 2 0 2) (λ kind ok. pair-checked _ _ _ _ (with-line _) (with-line _)))
+link-sure = held-sure _ _ _ _ _
+    (then-sure (figure 2 0 2) _ _ (λ kind v. LineRange (v .0) × LineRange (v .1)) (figure-sure 2 0 2) (λ kind. pair-sure _ _ _ _ (with-line _) (with-line _)))
     (λ v ok. record { kind = ok .0; upper = ok .1 .0; lower = ok .1 .1 })
 
 pub record DeviceRange (intervals : ℕ) (d : Device) : Type 0 where
@@ -185,16 +202,16 @@ pub record DeviceRange (intervals : ℕ) (d : Device) : Type 0 where
   pub each : length (d .cells) ≡ intervals
   pub cells : All CellRange (d .cells)
 
-ramps-checked : Checked M.ramps RampsRange
+ramps-sure : Sure M.ramps RampsRange
 unfolding M.ramps
-ramps-checked = let u = figure-checked 17 1 100000 in held-checked _ _ _ _ _ (pair-checked _ _ _ _ u (pair-checked _ _ _ _ u (pair-checked _ _ _ _ u u)))
+ramps-sure = let u = figure-sure 17 1 100000 in held-sure _ _ _ _ _ (pair-sure _ _ _ _ u (pair-sure _ _ _ _ u (pair-sure _ _ _ _ u u)))
     (λ v ok. record { up = ok .0; down = ok .1 .0; starting = ok .1 .1 .0; stopping = ok .1 .1 .1 })
 
-pub head-checked : (zones : ℕ) → Checked (M.head zones) HeadRange
+pub head-sure : (zones : ℕ) → Sure (M.head zones) HeadRange
 unfolding M.head M.zoneBits
-head-checked zones = let f = figure-checked 16 0 60000 in let b = figure-checked 1 0 1 in held-checked _ _ _ _ _
-    (pair-checked _ _ _ _ b (pair-checked _ _ _ _ (such-checked _ _ _ (figure-checked 4 0 15)) (pair-checked _ _ _ _ b (pair-checked _ _ _ _ (figure-checked 17 0 100000)
-    (pair-checked _ _ _ _ f (pair-checked _ _ _ _ f (pair-checked _ _ _ _ f ramps-checked)))))))
+head-sure zones = let f = figure-sure 16 0 60000 in let b = figure-sure 1 0 1 in held-sure _ _ _ _ _
+    (pair-sure _ _ _ _ b (pair-sure _ _ _ _ (tested-sure _ _ _ (figure-sure 4 0 15)) (pair-sure _ _ _ _ b (pair-sure _ _ _ _ (figure-sure 17 0 100000)
+    (pair-sure _ _ _ _ f (pair-sure _ _ _ _ f (pair-sure _ _ _ _ f ramps-sure)))))))
     (λ v ok. record {
       side = ok .0;
       zoneBits = ok .1 .0;
@@ -206,28 +223,28 @@ head-checked zones = let f = figure-checked 16 0 60000 in let b = figure-checked
       ramps = ok .1 .1 .1 .1 .1 .1 .1;
     })
 
-pub costs-checked : Checked M.costs (λ x. (x .on ≤ 100000) × (x .start ≤ 1000000000) × (x .stop ≤ 1000000000))
+pub costs-sure : Sure M.costs (λ x. (x .on ≤ 100000) × (x .start ≤ 1000000000) × (x .stop ≤ 1000000000))
 unfolding M.costs
-costs-checked = let u = figure-checked 30 0 1000000000 in held-checked _ _ _ _ _ (pair-checked _ _ _ _ (figure-checked 17 0 100000) (pair-checked _ _ _ _ u u)) (λ v ok. (ok .0, ok .1 .0, ok .1 .1))
+costs-sure = let u = figure-sure 30 0 1000000000 in held-sure _ _ _ _ _ (pair-sure _ _ _ _ (figure-sure 17 0 100000) (pair-sure _ _ _ _ u u)) (λ v ok. (ok .0, ok .1 .0, ok .1 .1))
 
-ends-checked : (last : ℕ) → Checked (M.windowEnds last) (λ v. (v .0 ≤ 65535) × (v .1 ≤ 65535))
+ends-sure : (last : ℕ) → Sure (M.windowEnds last) (λ v. (v .0 ≤ 65535) × (v .1 ≤ 65535))
 unfolding M.windowEnds
-ends-checked last = then-checked (any 16) _ _ (λ a b. b ≤ 65535) (figure-checked 16 0 65535) (λ a ok. such-checked _ _ _ (figure-checked 16 0 65535))
+ends-sure last = then-sure (any 16) _ _ (λ a b. b ≤ 65535) (figure-sure 16 0 65535) (λ a. tested-sure _ _ _ (figure-sure 16 0 65535))
 
-pub start-checked : (e last : ℕ) → Checked (B.startWindow e last) StartRange
+pub start-sure : (e last : ℕ) → Sure (B.startWindow e last) StartRange
 unfolding B.startWindow
-start-checked e last = held-checked _ _ _ _ _ (pair-checked _ _ _ _ (ends-checked last) (figure-checked (startsBits e) 0 (mostStarts e)))
+start-sure e last = held-sure _ _ _ _ _ (pair-sure _ _ _ _ (ends-sure last) (figure-sure (startsBits e) 0 (mostStarts e)))
     (λ v ok. record { from = ok .0 .0; until = ok .0 .1; most = ok .1 })
 
-pub energy-checked : (last : ℕ) → Checked (M.energyWindow last) EnergyRange
+pub energy-sure : (last : ℕ) → Sure (M.energyWindow last) EnergyRange
 unfolding M.energyWindow
-energy-checked last = held-checked _ _ _ _ _ (pair-checked _ _ _ _ (figure-checked 1 0 1) (pair-checked _ _ _ _ (ends-checked last) (figure-checked 32 0 4000000000)))
+energy-sure last = held-sure _ _ _ _ _ (pair-sure _ _ _ _ (figure-sure 1 0 1) (pair-sure _ _ _ _ (ends-sure last) (figure-sure 32 0 4000000000)))
     (λ v ok. record { kind = ok .0; from = ok .1 .0 .0; until = ok .1 .0 .1; energy = ok .1 .1 })
 
-pub some-checked : {A B : Type 0} (n : ℕ) (l : Layout (A × B)) (P : A → Type 0) (Q : B → Type 0) → Checked l (λ x. P (x .0) × Q (x .1))
-    → Checked (M.apart (list n l)) (λ v. (length (v .0) ≡ n) × All P (v .0) × All Q (v .1))
+pub some-sure : {A B : Type 0} (n : ℕ) (l : Layout (A × B)) (P : A → Type 0) (Q : B → Type 0) → Sure l (λ x. P (x .0) × Q (x .1))
+    → Sure (M.apart (list n l)) (λ v. (length (v .0) ≡ n) × All P (v .0) × All Q (v .1))
 unfolding M.apart
-some-checked n l P Q u = held-checked _ _ _ _ _ (list-checked n l (λ x. P (x .0) × Q (x .1)) u)
+some-sure n l P Q u = held-sure _ _ _ _ _ (list-sure n l (λ x. P (x .0) × Q (x .1)) u)
     (λ xs ok. (rw length-map (ok .0), map-of-all P (λ x. x .0) xs (all-map (λ x k. k .0) xs (ok .1)), map-of-all Q (λ x. x .1) xs (all-map (λ x k. k .1) xs (ok .1))))
 
 pub record DevicePriceRange (x : DevicePrices) : Type 0 where
@@ -237,18 +254,18 @@ pub record DevicePriceRange (x : DevicePrices) : Type 0 where
   pub states : All (λ z. natAbs z ≤ 1000000000) (x .stateCosts)
   pub cells : All CellPriceRange (x .cells)
 
-device-checked : (e intervals zones last : ℕ) → Checked (B.device e intervals zones last) (λ v. DeviceRange intervals (v .0) × DevicePriceRange (v .1))
+device-sure : (e intervals zones last : ℕ) → Sure (B.device e intervals zones last) (λ v. DeviceRange intervals (v .0) × DevicePriceRange (v .1))
 unfolding B.device
-device-checked e n zones last = held-checked _ _ _ _ _
-    (pair-checked _ _ _ _ (head-checked zones)
-    (pair-checked _ _ _ _ costs-checked
-    (pair-checked _ _ _ _ (eight-checked _ _ (figure-checked 17 0 100000))
-    (pair-checked _ _ _ _ (apart-checked _ mostStates (λ x. x ≤ 60000) (λ z. natAbs z ≤ 1000000000)
-    (counted-checked (countOf 3 0 mostStates) _ _ (pair-checked _ _ _ _ (figure-checked 16 0 60000) (int-checked 31 1000000000))))
-    (pair-checked _ _ _ _ (counted-checked (countOf 3 0 mostWindows) _ _ (start-checked e last))
-    (pair-checked _ _ _ _ (counted-checked (countOf 3 0 mostWindows) _ _ (energy-checked last))
-    (pair-checked _ _ _ _ (since-checked e 2 noLink B.link _ link-checked (record { kind = omega arith; upper = no-line; lower = no-line }))
-    (some-checked n (B.cell e) CellRange CellPriceRange (cell-checked e)))))))))
+device-sure e n zones last = held-sure _ _ _ _ _
+    (pair-sure _ _ _ _ (head-sure zones)
+    (pair-sure _ _ _ _ costs-sure
+    (pair-sure _ _ _ _ (eight-sure _ _ (figure-sure 17 0 100000))
+    (pair-sure _ _ _ _ (apart-sure _ mostStates (λ x. x ≤ 60000) (λ z. natAbs z ≤ 1000000000)
+    (counted-sure (countOf 3 0 mostStates) _ _ (pair-sure _ _ _ _ (figure-sure 16 0 60000) (int-sure 31 1000000000))))
+    (pair-sure _ _ _ _ (counted-sure (countOf 3 0 mostWindows) _ _ (start-sure e last))
+    (pair-sure _ _ _ _ (counted-sure (countOf 3 0 mostWindows) _ _ (energy-sure last))
+    (pair-sure _ _ _ _ (since-sure e 2 noLink B.link _ link-sure (record { kind = omega arith; upper = no-line; lower = no-line }))
+    (some-sure n (B.cell e) CellRange CellPriceRange (cell-sure e)))))))))
     (λ v ok. (
       record {
         head = ok .0;
@@ -286,20 +303,20 @@ pub record ZoneRange (z : Zone) : Type 0 where
   pub shares : SharesRange (z .shares)
   pub minima : All MinimaRange (z .minima)
 
-pub shares-checked : Checked M.shares SharesRange
+pub shares-sure : Sure M.shares SharesRange
 unfolding M.shares
-shares-checked = let u = figure-checked 10 0 1000 in held-checked _ _ _ _ _ (pair-checked _ _ _ _ u (pair-checked _ _ _ _ u (pair-checked _ _ _ _ u u)))
+shares-sure = let u = figure-sure 10 0 1000 in held-sure _ _ _ _ _ (pair-sure _ _ _ _ u (pair-sure _ _ _ _ u (pair-sure _ _ _ _ u u)))
     (λ v ok. record { rgu = ok .0; rgd = ok .1 .0; scr = ok .1 .1 .0; nsc = ok .1 .1 .1 })
 
-reactive-minima-checked : Checked B.reactiveMinima (TwoRange 6400000)
+reactive-minima-sure : Sure B.reactiveMinima (TwoRange 6400000)
 unfolding B.reactiveMinima
-reactive-minima-checked = let u = figure-checked 23 0 6400000 in held-checked _ _ _ _ _ (pair-checked _ _ _ _ u u) (λ v ok. record { qru = ok .0; qrd = ok .1 })
+reactive-minima-sure = let u = figure-sure 23 0 6400000 in held-sure _ _ _ _ _ (pair-sure _ _ _ _ u u) (λ v ok. record { qru = ok .0; qrd = ok .1 })
 
-minima-checked : (e : ℕ) → Checked (B.minima e) MinimaRange
+minima-sure : (e : ℕ) → Sure (B.minima e) MinimaRange
 unfolding M.minima B.minima
-minima-checked e = let u = figure-checked 23 0 6400000 in held-checked _ _ _ _ _
-    (pair-checked _ _ _ _ (held-checked _ _ _ _ (λ m. (m .rru ≤ 6400000) × (m .rrd ≤ 6400000)) (pair-checked _ _ _ _ u u) (λ v ok. ok))
-    (since-checked e 2 noReactiveReserves B.reactiveMinima _ reactive-minima-checked (record { qru = omega arith; qrd = omega arith })))
+minima-sure e = let u = figure-sure 23 0 6400000 in held-sure _ _ _ _ _
+    (pair-sure _ _ _ _ (held-sure _ _ _ _ (λ m. (m .rru ≤ 6400000) × (m .rrd ≤ 6400000)) (pair-sure _ _ _ _ u u) (λ v ok. ok))
+    (since-sure e 2 noReactiveReserves B.reactiveMinima _ reactive-minima-sure (record { qru = omega arith; qrd = omega arith })))
     (λ v ok. record { rru = ok .0 .0; rrd = ok .0 .1; reactive = ok .1 })
 
 pub record SixRange (r : Six) : Type 0 where
@@ -310,10 +327,10 @@ pub record SixRange (r : Six) : Type 0 where
   pub rru : r .rru ≤ 100
   pub rrd : r .rrd ≤ 100
 
-pub six-checked : Checked (M.six (figure 7 1 100)) SixRange
+pub six-sure : Sure (M.six (figure 7 1 100)) SixRange
 unfolding M.six
-six-checked = let u = figure-checked 7 1 100 in
-    held-checked _ _ _ _ _ (pair-checked _ _ _ _ u (pair-checked _ _ _ _ u (pair-checked _ _ _ _ u (pair-checked _ _ _ _ u (pair-checked _ _ _ _ u u)))))
+six-sure = let u = figure-sure 7 1 100 in
+    held-sure _ _ _ _ _ (pair-sure _ _ _ _ u (pair-sure _ _ _ _ u (pair-sure _ _ _ _ u (pair-sure _ _ _ _ u (pair-sure _ _ _ _ u u)))))
     (λ v ok. record { rgu = ok .0; rgd = ok .1 .0; scr = ok .1 .1 .0; nsc = ok .1 .1 .1 .0; rru = ok .1 .1 .1 .1 .0; rrd = ok .1 .1 .1 .1 .1 })
 
 -- the prices of a zone's shortfalls
@@ -321,16 +338,16 @@ pub record KindsRange (r : Kinds) : Type 0 where
   pub six : SixRange (r .six)
   pub reactive : TwoRange 100 (r .reactive)
 
-zone-prices-checked : Checked B.zoneReactivePrices (TwoRange 100)
+zone-prices-sure : Sure B.zoneReactivePrices (TwoRange 100)
 unfolding B.zoneReactivePrices
-zone-prices-checked = let u = figure-checked 7 1 100 in held-checked _ _ _ _ _ (pair-checked _ _ _ _ u u) (λ v ok. record { qru = ok .0; qrd = ok .1 })
+zone-prices-sure = let u = figure-sure 7 1 100 in held-sure _ _ _ _ _ (pair-sure _ _ _ _ u u) (λ v ok. record { qru = ok .0; qrd = ok .1 })
 
-zone-checked : (e intervals : ℕ) → Checked (B.zone e intervals) (λ v. ZoneRange (v .0) × KindsRange (v .1))
+pub zone-sure : (e intervals : ℕ) → Sure (B.zone e intervals) (λ v. ZoneRange (v .0) × KindsRange (v .1))
 unfolding B.zone
-zone-checked e n = held-checked _ _ _ _ _
-    (pair-checked _ _ _ _ shares-checked (pair-checked _ _ _ _ six-checked
-    (pair-checked _ _ _ _ (since-checked e 2 unitPrices B.zoneReactivePrices _ zone-prices-checked (record { qru = omega arith; qrd = omega arith }))
-    (list-checked n (B.minima e) _ (minima-checked e)))))
+zone-sure e n = held-sure _ _ _ _ _
+    (pair-sure _ _ _ _ shares-sure (pair-sure _ _ _ _ six-sure
+    (pair-sure _ _ _ _ (since-sure e 2 unitPrices B.zoneReactivePrices _ zone-prices-sure (record { qru = omega arith; qrd = omega arith }))
+    (list-sure n (B.minima e) _ (minima-sure e)))))
     (λ v ok. (record { shares = ok .0; minima = ok .1 .1 .1 .1 }, record { six = ok .1 .0; reactive = ok .1 .1 .0 }))
 
 -- the quantities of a case
@@ -359,9 +376,9 @@ pub record CaseRange (c : Case) : Type 0 where
 abbrev Counted : ℕ → ℕ → M.Counts → Type 0
 Counted devices intervals n = ((1 ≤ n .devices) × (n .devices ≤ devices)) × ((1 ≤ n .intervals) × (n .intervals ≤ intervals)) × (n .zones ≤ mostZones)
 
-pub counts-checked : (e : ℕ) (l : Largest) → Checked (B.counts e l) (Counted (devicesIn e l) (intervalsIn e l))
+pub counts-sure : (e : ℕ) (l : Largest) → Sure (B.counts e l) (Counted (devicesIn e l) (intervalsIn e l))
 unfolding B.counts
-counts-checked e l = held-checked _ _ _ _ _ (pair-checked _ _ _ _ (nat-checked _) (pair-checked _ _ _ _ (nat-checked _) (nat-checked _))) (λ v ok. (ok .0, ok .1 .0, ok .1 .1 .1))
+counts-sure e l = held-sure _ _ _ _ _ (pair-sure _ _ _ _ (nat-sure _) (pair-sure _ _ _ _ (nat-sure _) (nat-sure _))) (λ v ok. (ok .0, ok .1 .0, ok .1 .1 .1))
 
 -- a case of edition e as a reader takes it: within the edition's counts and the reader's
 pub record Taken (e : ℕ) (l : Largest) (c : Case) : Type 0 where
@@ -375,14 +392,14 @@ pub record StatedRange (l : Largest) (x : Stated) : Type 0 where
 
 -- any reader that takes no more than the most
 module _ (l : Largest) (most : l .devices ≤ mostDevices) (long : l .intervals ≤ mostIntervals) where
-  pub content-checked : (e : ℕ) → Checked (B.content e l) (Taken e l)
+  pub content-sure : (e : ℕ) → Sure (B.content e l) (Taken e l)
   unfolding B.content
-  content-checked e = held-checked _ _ _ _ _
-      (then-checked (B.counts e l) _ _ _ (counts-checked e l) (λ n ok.
-      pair-checked _ _ _ _ (figure-checked 14 1 10000) (pair-checked _ _ _ _ (figure-checked 14 1 10000)
-      (then-checked (list (n .intervals) (figure 8 1 180)) _ _ _ (list-checked _ _ _ (figure-checked 8 1 180)) (λ halves h.
-      pair-checked _ _ _ _ (some-checked (n .zones) _ ZoneRange KindsRange (zone-checked e (n .intervals)))
-      (some-checked (n .devices) _ (DeviceRange (n .intervals)) DevicePriceRange (device-checked e (n .intervals) (n .zones) _)))))))
+  content-sure e = held-sure _ _ _ _ _
+      (then-sure (B.counts e l) _ _ _ (counts-sure e l) (λ n.
+      pair-sure _ _ _ _ (figure-sure 14 1 10000) (pair-sure _ _ _ _ (figure-sure 14 1 10000)
+      (then-sure (list (n .intervals) (figure 8 1 180)) _ _ _ (list-sure _ _ _ (figure-sure 8 1 180)) (λ halves.
+      pair-sure _ _ _ _ (some-sure (n .zones) _ ZoneRange KindsRange (zone-sure e (n .intervals)))
+      (some-sure (n .devices) _ (DeviceRange (n .intervals)) DevicePriceRange (device-sure e (n .intervals) (n .zones) _)))))))
       (λ v ok. let h = ok .1 .1 .1 .0 in let z = ok .1 .1 .1 .1 .0 in let d = ok .1 .1 .1 .1 .1 in record {
         devices = omega arith;
         intervals = omega arith;
@@ -401,25 +418,22 @@ module _ (l : Largest) (most : l .devices ≤ mostDevices) (long : l .intervals 
         };
       })
 
-  pub stated-checked : Checked (B.caseLayout l) (StatedRange l)
+  pub stated-sure : Sure (B.caseLayout l) (StatedRange l)
   unfolding B.caseLayout
-  stated-checked = held-checked _ _ _ _ _
-      (pair-checked _ _ _ _ (nat-checked _) (then-checked (nat B.editionField) _ _ _ (nat-checked B.editionField) (λ e ok. content-checked e)))
+  stated-sure = held-sure _ _ _ _ _
+      (pair-sure _ _ _ _ (nat-sure _) (then-sure (nat B.editionField) _ _ _ (nat-sure B.editionField) (λ e. content-sure e)))
       (λ v ok. record { edition = ok .1 .0; case = ok .1 .1 })
 
   -- a case that passes reading is within its ranges
   pub stated-range : (s : List ℕ) (x : Stated) → statedIn l s ≡ passes x → StatedRange l x
   unfolding statedIn
-  stated-range s x h = whole-checked (B.caseLayout l) (StatedRange l) stated-checked s x h
+  stated-range s x h = whole-sure (B.caseLayout l) (StatedRange l) stated-sure s x h
 
--- and so is one of edition 1, as it was before there were others
-taken-checked : Checked (M.caseLayout edition1) (Taken 1 batch)
+-- one of edition 1, as it was before there were others, stops or goes on
+pub case-checked : Checked (M.caseLayout edition1) Any
 unfolding first
-taken-checked = as-checked (first-as batch (omega arith) (omega arith)) _ _ (λ c. c) (λ c. refl) (λ c ok. ok)
-    (held-checked _ _ _ _ _ (pair-checked _ _ _ _ (nat-checked _) (pair-checked _ _ _ _ (nat-checked _) (content-checked batch (omega arith) (omega arith) 1))) (λ v ok. ok .1 .1))
-
-pub case-checked : Checked (M.caseLayout edition1) CaseRange
-case-checked = weaken (M.caseLayout edition1) _ _ taken-checked (λ c ok. ok .range)
+case-checked = as-checked (first-as batch (omega arith) (omega arith)) _ _ (λ c. c) (λ c. refl) (λ c ok. ok)
+    (sure-checked _ _ (held-sure _ _ _ _ Any (pair-sure _ _ _ _ (nat-sure _) (pair-sure _ _ _ _ (nat-sure _) (content-sure batch (omega arith) (omega arith) 1))) (λ v ok. tt)))
 
 -- the reactive figures of a plan's setting
 pub record ReactiveRange (x : Reactive) : Type 0 where
@@ -438,33 +452,33 @@ pub record PlanRange (q : System) (p : Plan) : Type 0 where
   pub intervals : length (p .settings) ≡ length (q .halves)
   pub each : All (λ row. (length row ≡ length (q .devices)) × All SettingRange row) (p .settings)
 
-reactive-checked : Checked B.reactive ReactiveRange
+reactive-sure : Sure B.reactive ReactiveRange
 unfolding B.reactive
-reactive-checked = let u = figure-checked 17 0 100000 in held-checked _ _ _ _ _ (pair-checked _ _ _ _ (int-checked 18 100000) (pair-checked _ _ _ _ u u))
+reactive-sure = let u = figure-sure 17 0 100000 in held-sure _ _ _ _ _ (pair-sure _ _ _ _ (int-sure 18 100000) (pair-sure _ _ _ _ u u))
     (λ v ok. record { q = ok .0; qru = ok .1 .0; qrd = ok .1 .1 })
 
-setting-checked : (e : ℕ) → Checked (B.setting e) SettingRange
+setting-sure : (e : ℕ) → Sure (B.setting e) SettingRange
 unfolding M.active B.setting
-setting-checked e = held-checked _ _ _ _ _
-    (pair-checked _ _ _ _ (pair-checked _ _ _ _ (figure-checked 1 0 1) (pair-checked _ _ _ _ (figure-checked 17 0 100000) (eight-checked _ _ (figure-checked 17 0 100000))))
-    (since-checked e 2 noReactive B.reactive _ reactive-checked (record { q = omega arith; qru = omega arith; qrd = omega arith })))
+setting-sure e = held-sure _ _ _ _ _
+    (pair-sure _ _ _ _ (pair-sure _ _ _ _ (figure-sure 1 0 1) (pair-sure _ _ _ _ (figure-sure 17 0 100000) (eight-sure _ _ (figure-sure 17 0 100000))))
+    (since-sure e 2 noReactive B.reactive _ reactive-sure (record { q = omega arith; qru = omega arith; qrd = omega arith })))
     (λ v ok. record { on = ok .0 .0; online = ok .0 .1 .0; reserves = ok .0 .1 .1; reactive = ok .1 })
 
 -- a plan's settings: of so many intervals, each of so many devices
 abbrev pub Settings : ℕ → ℕ → Plan → Type 0
 Settings devices intervals p = (length (p .settings) ≡ intervals) × All (λ row. (length row ≡ devices) × All SettingRange row) (p .settings)
 
-pub settings-in : (e devices intervals : ℕ) → Checked (B.planLayout e devices intervals) (Settings devices intervals)
+pub settings-in : (e devices intervals : ℕ) → Sure (B.planLayout e devices intervals) (Settings devices intervals)
 unfolding B.planLayout
-settings-in e devices intervals = held-checked _ _ _ _ _
-    (pair-checked _ _ _ _ (nat-checked _) (pair-checked _ _ _ _ (nat-checked _) (pair-checked _ _ _ _ (nat-checked _) (pair-checked _ _ _ _ (nat-checked _)
-    (list-checked _ _ _ (list-checked _ (B.setting e) SettingRange (setting-checked e)))))))
+settings-in e devices intervals = held-sure _ _ _ _ _
+    (pair-sure _ _ _ _ (nat-sure _) (pair-sure _ _ _ _ (nat-sure _) (pair-sure _ _ _ _ (nat-sure _) (pair-sure _ _ _ _ (nat-sure _)
+    (list-sure _ _ _ (list-sure _ (B.setting e) SettingRange (setting-sure e)))))))
     (λ v ok. (ok .1 .1 .1 .1 .0, ok .1 .1 .1 .1 .1))
 
-pub planned-checked : (e : ℕ) (q : System) → Checked (B.planLayout e (length (q .devices)) (length (q .halves))) (PlanRange q)
-planned-checked e q = weaken _ (Settings (length (q .devices)) (length (q .halves))) (PlanRange q) (settings-in e (length (q .devices)) (length (q .halves)))
+pub planned-sure : (e : ℕ) (q : System) → Sure (B.planLayout e (length (q .devices)) (length (q .halves))) (PlanRange q)
+planned-sure e q = weaken-sure _ (Settings (length (q .devices)) (length (q .halves))) (PlanRange q) (settings-in e (length (q .devices)) (length (q .halves)))
     (λ p ok. record { intervals = ok .0; each = ok .1 })
 
 pub planned-range : (e : ℕ) (q : System) (s : List ℕ) (p : Plan) → plannedIn e q s ≡ passes p → PlanRange q p
 unfolding plannedIn
-planned-range e q s p h = whole-checked _ (PlanRange q) (planned-checked e q) s p h
+planned-range e q s p h = whole-sure _ (PlanRange q) (planned-sure e q) s p h

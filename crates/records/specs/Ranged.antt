@@ -10,14 +10,15 @@ use native.Mathlib.Decide.{decLe}
 use borrow.Author.Tests.{eq-eqb, ne-eqb}
 use lib.Dec.{eqb}
 use lib.ListN.{length, getD, take, List·getD-eq-default}
+use lib.Seq.{getD-take, length-take-le}
 use lib.IntN.{ℤ, pos, natAbs}
 use Rattle.numbers.specs.Sum.{All}
 use Rattle.bits.specs.Pick.{pick}
 use Rattle.model.specs.Case as M
-use Rattle.model.specs.Case.{System, Plan, Case, noCell, noDevice, noZone, noDevicePrices, noCellPrices, noKinds}
+use Rattle.model.specs.Case.{System, Plan, Case, noBlock, noCell, noDevice, noZone, noDevicePrices, noCellPrices, noKinds}
 use Rattle.model.specs.Forced as F
 use Rattle.model.specs.Completion as C
-use Rattle.ranges.specs.Ranges.{CaseRange, DeviceRange, DevicePriceRange, CellRange, CellPriceRange, SettingRange, ZoneRange, SharesRange, KindsRange, MinimaRange, LinkRange, Eight}
+use Rattle.ranges.specs.Ranges.{CaseRange, DeviceRange, DevicePriceRange, BlockRange, CellRange, CellPriceRange, SettingRange, ZoneRange, SharesRange, KindsRange, MinimaRange, LinkRange, Eight}
 use Rattle.ranges.specs.Kept.{kept-small}
 use Rattle.numbers.specs.Every.{all-at, all-or, all-getD}
 use Rattle.kilowatts.specs.declared.Kw.{Kw}
@@ -28,7 +29,8 @@ use Rattle.row_places.specs.declared.Front.{Front}
 use Rattle.row_places.specs.Figures.{noState, cellOf, settingOf, deviceOf, zoneOf, minimaOf, previousAt}
 use Rattle.numbers.specs.Parts.{part, part-inside, place-inside, part-at, part-long}
 use Rattle.numbers.specs.Ranges.{sum-more, sum-rises}
-use Rattle.records.specs.Views.{less, priceOffset, costOffset, limitsIn, cellIn, cellPricesIn, settingIn, sharesIn, kindsIn, linkIn, deviceIn, devicePricesIn, systemIn, pricesIn, caseIn, planIn}
+use Rattle.records.specs.Views.{less, priceOffset, costOffset, limitsIn, blockIn, fourBlocks, cellIn, cellPricesIn, settingIn, sharesIn, kindsIn, linkIn}
+use Rattle.records.specs.Views.{deviceIn, devicePricesIn, systemIn, pricesIn, caseIn, planIn}
 use Rattle.records.specs.Views.{mostDevices, mostIntervals, mostStates, mostWindows, mostPower, Padded, CaseRows, PlanRows, Ready}
 use Rattle.records.specs.Viewed as W
 use Rattle.records.specs.Viewed.{getD-any}
@@ -159,24 +161,40 @@ module _ {front : Front} {halves : List ℕ} {zones minima devices cells : List 
       prices-long : length (map (less priceOffset) (take (cellOf row .blocks) (cellOf row .prices))) ≡ cellOf row .blocks
       prices-long = W.firsts-long (less priceOffset) 0 (cellOf row .blocks) (cellOf row .prices) (padded-at .few)
 
-      -- the cap of block j, 0 where there is no block
-      pub cap-at : (j : ℕ) → j < 4 → getD (cellOf row .caps) j (kw 0) .0 ≡ F.cap q t i j
-      cap-at j b = sym (ap (λ (c : M.Cell). getD (c .caps) j 0) cell-here ∙ go (decLe (cellOf row .blocks) j))
+      -- block j, neither cap nor floor where there is none
+      pub block-here : (j : ℕ) → j < 4 → getD (F.cell q t i .blocks) j noBlock ≡ blockIn (cellOf row) j
+      block-here j b = ap (λ (c : M.Cell). getD (c .blocks) j noBlock) cell-here ∙ go (decLe (cellOf row .blocks) j)
         where
-          f : Kw → ℕ
-          f x = x .0
+          four : (j : ℕ) → j < 4 → getD (fourBlocks (cellOf row)) j noBlock ≡ blockIn (cellOf row) j
+          four zero h = refl
+          four (suc zero) h = refl
+          four (suc (suc zero)) h = refl
+          four (suc (suc (suc zero))) h = refl
+          four (suc (suc (suc (suc j)))) h = absurd (omega arith)
 
-          go : Dec (cellOf row .blocks ≤ j) → getD (map f (take (cellOf row .blocks) (cellOf row .caps))) j 0 ≡ getD (cellOf row .caps) j (kw 0) .0
-          go (no x) = W.first-at f (kw 0) (cellOf row .blocks) (cellOf row .caps) j (omega arith)
-          go (yes x) =
-              List·getD-eq-default (map f (take (cellOf row .blocks) (cellOf row .caps))) 0 {n = j} (omega (arith, W.firsts-long f (kw 0) (cellOf row .blocks) (cellOf row .caps) (padded-at .few)))
-              ∙ sym (padded-at .absent j x b)
+          none : {c f : ℕ} → c ≡ 0 → f ≡ 0 → noBlock ≡ record { cap = c; floor = f }
+          none c f = rw (c, f) refl
+
+          go : Dec (cellOf row .blocks ≤ j) → getD (take (cellOf row .blocks) (fourBlocks (cellOf row))) j noBlock ≡ blockIn (cellOf row) j
+          go (no x) = getD-take (cellOf row .blocks) (fourBlocks (cellOf row)) j noBlock (omega arith) ∙ four j b
+          go (yes x) = List·getD-eq-default (take (cellOf row .blocks) (fourBlocks (cellOf row))) noBlock {n = j}
+              (omega (arith, length-take-le (cellOf row .blocks) (fourBlocks (cellOf row)) (padded-at .few)))
+              ∙ none (padded-at .absent j x b) (padded-at .no-floor j x b)
+
+      pub cap-at : (j : ℕ) → j < 4 → getD (cellOf row .caps) j (kw 0) .0 ≡ F.cap q t i j
+      cap-at j b = sym (ap (λ (x : M.Block). x .cap) (block-here j b))
+
+      pub floor-at : (j : ℕ) → j < 4 → getD (cellOf row .floors) j (kw 0) .0 ≡ F.floor q t i j
+      floor-at j b = sym (ap (λ (x : M.Block). x .floor) (block-here j b))
+
+      block-range : (j : ℕ) → BlockRange (getD (F.cell q t i .blocks) j noBlock)
+      block-range j = all-or BlockRange noBlock (record { cap = omega arith; floor = omega arith }) (F.cell q t i .blocks) (subst CellRange (sym cell-here) cell-range .each) j
 
       pub cap-small : (j : ℕ) → j < 4 → getD (cellOf row .caps) j (kw 0) .0 ≤ 100000
-      cap-small j b = omega (arith, cap-at j b, caps j)
-        where
-          caps : (j : ℕ) → F.cap q t i j ≤ 100000
-          caps j = all-getD 100000 (F.cell q t i .caps) (subst CellRange (sym cell-here) cell-range .caps) j
+      cap-small j b = omega (arith, cap-at j b, block-range j .cap)
+
+      pub floor-below : (j : ℕ) → j < 4 → getD (cellOf row .floors) j (kw 0) .0 ≤ getD (cellOf row .caps) j (kw 0) .0
+      floor-below j b = omega (arith, cap-at j b, floor-at j b, block-range j .floor)
 
       -- the price of block j, or the block is absent
       pub price-at : (j : ℕ) → j < 4 → (F.cap q t i j ≡ 0) ⊎ (less priceOffset (getD (cellOf row .prices) j 0) ≡ C.blockPrice k t i j)

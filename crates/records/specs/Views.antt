@@ -1,7 +1,7 @@
 -- Which case and plan the rows hold. The counts are the slices' lengths: a table of cells or settings has a part for each device, one of minima a part
 -- for each zone, with an element for each interval.
 use mathlib.Core.Path.{_≡_}
-use mathlib.Core.List.{List, [], map}
+use mathlib.Core.List.{List, [], _∷_, map}
 use Prim.Native.Nat.{ℕ, suc, _+_, _*_, _≤_, _<_}
 use lib.ListN.{length, getD, take}
 use lib.IntN.{ℤ, pos, _-ℤ_}
@@ -60,9 +60,16 @@ reactiveLimitsIn r = record { qmin = less kvarOffset (r .qmin .0); qmax = less k
 abbrev pub reactivePricesIn : ReactiveCell → M.ReactiveReserves
 reactivePricesIn r = record { qru = r .qru; qrd = r .qrd }
 
+-- a cell's four blocks, those absent with cap 0 and floor 0
+abbrev pub blockIn : Cell → ℕ → M.Block
+blockIn c k = record { cap = numberOf (c .caps) k; floor = numberOf (c .floors) k }
+
+abbrev pub fourBlocks : Cell → List M.Block
+fourBlocks c = blockIn c 0 ∷ blockIn c 1 ∷ blockIn c 2 ∷ blockIn c 3 ∷ []
+
 -- the model's cell, and its prices, by the record
 abbrev pub cellSaid : Cell → M.Cell
-cellSaid c = record { status = c .status; pmin = c .pmin .0; pmax = c .pmax .0; caps = map (λ x. x .0) (take (c .blocks) (c .caps)); reactive = reactiveLimitsIn (c .reactive) }
+cellSaid c = record { status = c .status; pmin = c .pmin .0; pmax = c .pmax .0; blocks = take (c .blocks) (fourBlocks c); reactive = reactiveLimitsIn (c .reactive) }
 
 abbrev pub cellPricesSaid : Cell → M.CellPrices
 cellPricesSaid c = record { blocks = map (less priceOffset) (take (c .blocks) (c .prices)); reserves = eightPricesIn (c .reserves); reactive = reactivePricesIn (c .reactive) }
@@ -177,10 +184,11 @@ lastMinute = 34560
 abbrev pub mostPower : ℕ
 mostPower = 10000000
 
--- absent blocks have cap 0
+-- absent blocks have cap 0 and floor 0
 pub record Padded (r : List ℕ) : Type 0 where
   pub few : cellOf r .blocks ≤ 4
-  pub absent : (k : ℕ) → cellOf r .blocks ≤ k → k < 4 → getD (cellOf r .caps) k (record { 0 = 0 }) .0 ≡ 0
+  pub absent : (k : ℕ) → cellOf r .blocks ≤ k → k < 4 → numberOf (cellOf r .caps) k ≡ 0
+  pub no-floor : (k : ℕ) → cellOf r .blocks ≤ k → k < 4 → numberOf (cellOf r .floors) k ≡ 0
 
 -- how many a device's lists hold
 pub record Counted (d : Device) : Type 0 where

@@ -65,6 +65,7 @@ cellOf r = record {
   pmax = kw (at r 2);
   blocks = at r 3;
   caps = kw (at r 4) ∷ kw (at r 5) ∷ kw (at r 6) ∷ kw (at r 7) ∷ [];
+  floors = kw (at r 24) ∷ kw (at r 25) ∷ kw (at r 26) ∷ kw (at r 27) ∷ [];
   prices = at r 8 ∷ at r 9 ∷ at r 10 ∷ at r 11 ∷ [];
   reserves = eightPrices r 12;
   reactive = record { qmin = signedKvar (at r 20); qmax = signedKvar (at r 21); qru = at r 22; qrd = at r 23 };
@@ -159,7 +160,8 @@ cellRow c =
     c .status ∷ c .pmin .0 ∷ c .pmax .0 ∷ c .blocks ∷ kwAt (c .caps) 0 ∷ kwAt (c .caps) 1 ∷ kwAt (c .caps) 2 ∷ kwAt (c .caps) 3
     ∷ at (c .prices) 0 ∷ at (c .prices) 1 ∷ at (c .prices) 2 ∷ at (c .prices) 3
     ∷ c .reserves .rgu ∷ c .reserves .rgd ∷ c .reserves .scr ∷ c .reserves .nsc ∷ c .reserves .rruon ∷ c .reserves .rruoff ∷ c .reserves .rrdon ∷ c .reserves .rrdoff
-    ∷ c .reactive .qmin .0 ∷ c .reactive .qmax .0 ∷ c .reactive .qru ∷ c .reactive .qrd ∷ []
+    ∷ c .reactive .qmin .0 ∷ c .reactive .qmax .0 ∷ c .reactive .qru ∷ c .reactive .qrd
+    ∷ kwAt (c .floors) 0 ∷ kwAt (c .floors) 1 ∷ kwAt (c .floors) 2 ∷ kwAt (c .floors) 3 ∷ []
 
 abbrev pub settingRow : Setting → List ℕ
 settingRow x =

@@ -8,8 +8,8 @@ use kilovars::SignedKvar;
 use kilowatts::Kw;
 
 // A device in one interval: status, pmin, pmax, count of blocks, four caps, four prices kept from −10,000, the prices of the eight; then qmin and qmax, kept
-// from −100,000, and the prices of the two reactive reserves.
-pub type CellRow = [u32; 24];
+// from −100,000, and the prices of the two reactive reserves; then four floors.
+pub type CellRow = [u32; 28];
 
 // The places of its figures; of the prices of the eight and of the two reactive reserves.
 pub const CELL_STATUS: usize = 0;
@@ -59,6 +59,14 @@ pub const CELL_QMAX: usize = 21;
 pub const CELL_QRU: usize = 22;
 
 pub const CELL_QRD: usize = 23;
+
+pub const CELL_FLOOR_1: usize = 24;
+
+pub const CELL_FLOOR_2: usize = 25;
+
+pub const CELL_FLOOR_3: usize = 26;
+
+pub const CELL_FLOOR_4: usize = 27;
 
 // A plan's figures for a device in one interval: on, online power, the eight; q kept from −100,000, its two reserves.
 pub type SettingRow = [u32; 13];
@@ -206,7 +214,7 @@ pub const MINIMA_QRD: usize = 3;
 
 // Rows of zeros, for an owner's tables: what a reader fills.
 pub fn blank_cell() -> CellRow {
-    [0u32; 24]
+    [0u32; 28]
 }
 
 pub fn blank_setting() -> SettingRow {
@@ -257,13 +265,14 @@ pub struct ReactiveCell {
     pub qrd: u32,
 }
 
-// A device in one interval. Block prices are kept from 0: the price and 10,000. Absent blocks have cap 0.
+// A device in one interval. Block prices are kept from 0: the price and 10,000. Absent blocks have cap 0 and floor 0.
 pub struct Cell {
     pub status: u32,
     pub pmin: Kw,
     pub pmax: Kw,
     pub blocks: u32,
     pub caps: [Kw; 4],
+    pub floors: [Kw; 4],
     pub prices: [u32; 4],
     pub reserves: ReservePrices,
     pub reactive: ReactiveCell,

@@ -1,30 +1,31 @@
 -- Item 3's theorem over the figures: ours meets every rule where one can be met, and no completion that meets every rule has a greater surplus.
-use mathlib.Core.Path.{_≡_, refl, _∙_, ap}
+use mathlib.Core.Path.{_≡_, refl, _∙_, ap, ap₂}
 use mathlib.Core.Logic.{inl, inr}
 use mathlib.Core.Bool.{Bool, true, false}
 use mathlib.Core.List.{List, [], _∷_}
-use Prim.Native.Nat.{ℕ, zero, suc, _+_, _*_, _≤_, _<_}
+use Prim.Native.Nat.{ℕ, zero, suc, _+_, _-_, _*_, _≤_, _<_}
 use native.Mathlib.Omega.{arith}
 use lib.Dec.{T, leb, eqb, leb→le, le→leb, eqb→eq}
 use lib.ListN.{length, getD}
-use lib.IntN.{ℤ, pos, _+ℤ_, _*ℤ_}
+use lib.IntN.{ℤ, pos, negℤ, _+ℤ_, _-ℤ_, _*ℤ_}
 use lib.Signed.{_≤ℤ_}
 use Rattle.numbers.specs.Laws as L
-use Rattle.numbers.specs.Sum.{sumℤ, All, all, sum-mono, sumℕ, sumℕ-pos}
+use Rattle.numbers.specs.Z.{whole as whole-numbers, n+, n-, n~}
+use Rattle.numbers.specs.Sum.{sumℤ, All, all, sum-mono, sum-add, sum-sub, sum-cong, sumℕ, sumℕ-add, sumℕ-pos}
 use Rattle.numbers.specs.Threshold.{Within}
 use Rattle.numbers.specs.Blocks.{Asc, asc-range, cheapest-least, dearest-most, cheapest-total, dearest-total, cheapest-cap, dearest-cap}
 use Rattle.numbers.specs.State.{best, Beats, best-beats, best-is}
 use Rattle.bits.specs.Pick.{pick}
 use Rattle.numbers.specs.Base.{range, upTo}
 use Rattle.model.specs.Case.{System, Plan, Case, noKinds}
-use Rattle.model.specs.Forced.{intervals, devices, zones, device, cap, consuming, duration, su, sd, power}
+use Rattle.model.specs.Forced.{intervals, devices, zones, device, cap, least, consuming, duration, su, sd, power}
 use Rattle.model.specs.Rules.{blocks}
 use Rattle.model.specs.Completion as C
-use Rattle.model.specs.Completion.{Completion, Shortfall, shortfalls, Meets, StateAllowed, MayUse, bySide, stateCost, shortfallPrice, blockPrice}
+use Rattle.model.specs.Completion.{Completion, Between, Shortfall, shortfalls, Meets, StateAllowed, MayUse, bySide, stateCost, shortfallPrice, blockPrice}
 use Rattle.model.specs.Completion.{realSurplus, surplusOf, shortfallNeed, mismatchNeed, overrunNeed}
 use Rattle.model.specs.Completion.{ReactiveShortfall, reactiveShortfalls, reactiveNeed, reactiveMismatchNeed, reactivePrice, reactiveCosts}
 use Rattle.model.specs.Breaches.{breaches}
-use Rattle.model.specs.Ours.{filling, lasts, bestState, ours, whole}
+use Rattle.model.specs.Ours.{filling, fillingAbove, lasts, bestState, ours, whole}
 use Rattle.model.specs.Tests.{same}
 use Rattle.model.specs.Named.{none-every, rule19-holds}
 use Rattle.numbers.specs.Every.{all-range, range-all, all-upTo}
@@ -37,6 +38,14 @@ unfolding filling
 filling-total false price cap p h = cheapest-total price cap p blocks (asc-range 0 4) h
 filling-total true price cap p h = dearest-total price cap p blocks (asc-range 0 4) h
 
+pub above-floor : (b : Bool) (price : ℕ → ℤ) (low most : ℕ → ℕ) (p k : ℕ) → low k ≤ fillingAbove b price low most p k
+unfolding fillingAbove
+above-floor b price low most p k = omega arith
+
+-- a difference of naturals
+pos-less : (a b : ℕ) → b ≤ a → pos a -ℤ pos b ≡ pos (a - b)
+pos-less a b h = omega (whole-numbers, n- (pos a) (pos b))
+
 module _ (price : ℕ → ℤ) (most : ℕ → ℕ) (p : ℕ) where
   pub filling-cap : (b : Bool) (k : ℕ) → filling b price most p k ≤ most k
   unfolding filling
@@ -48,6 +57,64 @@ module _ (price : ℕ → ℤ) (most : ℕ → ℕ) (p : ℕ) where
   unfolding filling
   filling-best false h x w e = L.neg-mono (cheapest-least price most p blocks (asc-range 0 4) h x w e)
   filling-best true h x w e = dearest-most price most p blocks (asc-range 0 4) h x w e
+
+-- ---- above the floors
+
+-- from `low`, which is not above `most`, with a power between their sums
+module _ (price : ℕ → ℤ) (low most : ℕ → ℕ) (p : ℕ) (below : (k : ℕ) → k < 4 → low k ≤ most k) where
+  abbrev room : ℕ → ℕ
+  room k = most k - low k
+
+  abbrev left : ℕ
+  left = p - sumℕ low blocks
+
+  pub above-cap : (b : Bool) (k : ℕ) → k < 4 → fillingAbove b price low most p k ≤ most k
+  unfolding fillingAbove
+  above-cap b k h = omega (arith, below k h, filling-cap price room left b k)
+
+  module _ (least : sumℕ low blocks ≤ p) (fits : p ≤ sumℕ most blocks) where
+    left-fits : left ≤ sumℕ room blocks
+    unfolding range
+    left-fits = omega (arith, below 0 (omega arith), below 1 (omega arith), below 2 (omega arith), below 3 (omega arith))
+
+    pub above-total : (b : Bool) → sumℕ (fillingAbove b price low most p) blocks ≡ p
+    unfolding fillingAbove
+    above-total b = sumℕ-add low (filling b price room left) blocks ∙ omega (arith, filling-total b price room left left-fits)
+
+    -- a rival, less the floors
+    module _ (x : ℕ → ℤ) (w : (k : ℕ) → k < 4 → Between (low k) (most k) (x k)) (e : sumℤ x blocks ≡ pos p) where
+      abbrev y : ℕ → ℤ
+      y k = x k -ℤ pos (low k)
+
+      within : (k : ℕ) → k < 4 → Within (room k) (y k)
+      within k h = record {
+        low = L.sub-nonneg (w k h .low);
+        high = L.≤-trans (L.sub-mono (w k h .high) (L.≤-refl (pos (low k)))) (L.≤-of-≡ (pos-less (most k) (low k) (below k h)));
+      }
+
+      left-is : sumℤ y blocks ≡ pos left
+      left-is = sum-sub x (λ k. pos (low k)) blocks ∙ ap₂ (λ (a b : ℤ). a -ℤ b) e (sumℕ-pos low blocks) ∙ pos-less p (sumℕ low blocks) least
+
+      -- what the floors are worth
+      abbrev floors : ℤ
+      floors = sumℤ (λ k. price k *ℤ pos (low k)) blocks
+
+      rival-is : sumℤ (λ k. price k *ℤ y k) blocks ≡ sumℤ (λ k. price k *ℤ x k) blocks -ℤ floors
+      rival-is = sum-cong _ (λ k. price k *ℤ x k -ℤ price k *ℤ pos (low k)) blocks (all (λ k. L.mul-sub (price k) (x k) (pos (low k))) blocks)
+          ∙ sum-sub (λ k. price k *ℤ x k) (λ k. price k *ℤ pos (low k)) blocks
+
+      ours-is : (b : Bool) → sumℤ (λ k. price k *ℤ pos (fillingAbove b price low most p k)) blocks ≡ floors +ℤ sumℤ (λ k. price k *ℤ pos (filling b price room left k)) blocks
+      unfolding fillingAbove
+      ours-is b = sum-cong _ (λ k. price k *ℤ pos (low k) +ℤ price k *ℤ pos (filling b price room left k)) blocks
+          (all (λ k. L.mul-add (price k) (pos (low k)) (pos (filling b price room left k))) blocks)
+          ∙ sum-add (λ k. price k *ℤ pos (low k)) (λ k. price k *ℤ pos (filling b price room left k)) blocks
+
+      pub above-best : (b : Bool) → bySide b (sumℤ (λ k. price k *ℤ x k) blocks) ≤ℤ bySide b (sumℤ (λ k. price k *ℤ pos (fillingAbove b price low most p k)) blocks)
+      above-best b = rw (ours-is b) (go b floors _ _ (rw rival-is at (filling-best price room left b left-fits y (all-upTo (λ k. Within (room k) (y k)) 4 within) left-is)))
+        where
+          go : (b : Bool) (v r o : ℤ) → bySide b (r -ℤ v) ≤ℤ bySide b o → bySide b r ≤ℤ bySide b (v +ℤ o)
+          go true v r o h = omega (whole-numbers, n- r v, n+ v o)
+          go false v r o h = omega (whole-numbers, n- r v, n+ v o, n~ (r -ℤ v), n~ o, n~ r, n~ (v +ℤ o))
 
 -- ---- startup states
 
@@ -101,18 +168,23 @@ module _ (c : Case) (p : Plan) where
   abbrev our : Completion ℤ
   our = whole (ours c p)
 
+  -- no floor that binds is above its cap
+  abbrev pub Floored : Type 0
+  Floored = (t i : ℕ) → t < intervals q → i < devices q → (k : ℕ) → k < 4 → least q p t i k ≤ cap q t i k
+
   -- where no rule is broken, ours meets every rule
-  pub ours-meets : breaches q p ≡ [] → Meets q p our
+  pub ours-meets : Floored → breaches q p ≡ [] → Meets q p our
   unfolding whole ours
-  ours-meets e = let r = none-every q p e in record {
+  ours-meets floored e = let r = none-every q p e in record {
     rules = r;
     started = λ t i l m. refl;
     stopped = λ t i l m. refl;
     within = λ t i k l m n. record {
-      low = L.pos-nonneg (filling (consuming q i) (blockPrice c t i) (cap q t i) (power q p t i) k);
-      high = L.pos-mono (filling-cap (blockPrice c t i) (cap q t i) (power q p t i) (consuming q i) k);
+      low = L.pos-mono (above-floor (consuming q i) (blockPrice c t i) (least q p t i) (cap q t i) (power q p t i) k);
+      high = L.pos-mono (above-cap (blockPrice c t i) (least q p t i) (cap q t i) (power q p t i) (floored t i l m) (consuming q i) k n);
     };
-    filled = λ t i l m. sumℕ-pos _ blocks ∙ ap pos (filling-total (consuming q i) (blockPrice c t i) (cap q t i) (power q p t i) (rule19-holds q p r t i l m));
+    filled = λ t i l m. sumℕ-pos _ blocks
+        ∙ ap pos (above-total (blockPrice c t i) (least q p t i) (cap q t i) (power q p t i) (floored t i l m) (rule19-holds q p r t i l m .floors) (rule19-holds q p r t i l m .caps) (consuming q i));
     state = λ t i l m. our-state-allowed c p t i;
     shortfall = λ t z k l m. record { enough = L.short-meets (shortfallNeed q p t z k); notNegative = L.pos-nonneg (L.maxZero (shortfallNeed q p t z k)) };
     reactiveShortfall = λ t z k l m. record { enough = L.short-meets (reactiveNeed q p t z k); notNegative = L.pos-nonneg (L.maxZero (reactiveNeed q p t z k)) };
@@ -124,9 +196,12 @@ module _ (c : Case) (p : Plan) where
   module _ (x : Completion ℤ) (m : Meets q p x) where
     blocks-best : (t i : ℕ) → t < intervals q → i < devices q → C.blockWorth c p x t i ≤ℤ C.blockWorth c p our t i
     unfolding C.blockWorth whole ours
-    blocks-best t i l k = L.mul-mono (pos (duration q t)) _ _ (L.pos-nonneg (duration q t))
-        (filling-best (blockPrice c t i) (cap q t i) (power q p t i) (consuming q i) (rule19-holds q p (m .rules) t i l k) (x .block t i)
-        (all-upTo (λ n. Within (cap q t i n) (x .block t i n)) 4 (λ n j. m .within t i n l k j)) (m .filled t i l k))
+    blocks-best t i l k =
+        let w : (n : ℕ) → n < 4 → Between (least q p t i n) (cap q t i n) (x .block t i n) = λ n j. m .within t i n l k j in
+        let r = rule19-holds q p (m .rules) t i l k in
+        L.mul-mono (pos (duration q t)) _ _ (L.pos-nonneg (duration q t))
+        (above-best (blockPrice c t i) (least q p t i) (cap q t i) (power q p t i) (λ n j. L.pos-mono⁻ (L.≤-trans (w n j .low) (w n j .high))) (r .floors) (r .caps)
+        (x .block t i) w (m .filled t i l k) (consuming q i))
 
     changes-least : (t i : ℕ) → t < intervals q → i < devices q → C.changeCost c p our t i ≤ℤ C.changeCost c p x t i
     unfolding C.changeCost whole ours

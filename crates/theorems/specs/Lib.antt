@@ -1,5 +1,6 @@
 pub mod Best
 pub mod Plain
+pub mod Floorless
 pub mod Theorem
 pub mod AsBefore
 pub mod Back

@@ -1,4 +1,4 @@
--- Where a case and a plan know no reactive power, nothing of it is short, apart or paid for.
+-- Where a case and a plan know no reactive power, nothing of it is short, apart or paid for, and no rule of it fails.
 use mathlib.Core.Path.{_≡_, refl, ap, _∙_}
 use mathlib.Core.Bool.{Bool, true, false}
 use mathlib.Core.List.{List, [], _∷_, _++_, map, append-nil}
@@ -19,11 +19,12 @@ use Rattle.bits.specs.Pick.{pick}
 use Rattle.model.specs.Case.{System, Plan, Case, ReactiveReserves, noReactive, noReactiveReserves, noReactiveLimits, noSetting, noDevice, noCell, noZone, noMinima, noKinds}
 use Rattle.model.specs.Forced.{intervals, devices, zones, device, cell, zone, consuming, duration, setting, bracket}
 use Rattle.model.specs.Completion as C
-use Rattle.model.specs.Ours.{ours, whole as asWhole}
-use Rattle.model.specs.Judgement.{ourSurplus}
+use Rattle.model.specs.Ours as O
+use Rattle.model.specs.Ours.{whole as asWhole}
+use Rattle.model.specs.BeforeFloors.{realTests, cellBreaches, breaches, ours, ourSurplus}
 use Rattle.model.specs.declared.Breach.{Breach}
-use Rattle.model.specs.Rules.{cellBreach, highest, lowest, onLine, twoLines, equality}
-use Rattle.model.specs.Breaches.{eqZ, failing, realTests, reactiveTests, cellTests, cellBreaches, allWindows, breaches}
+use Rattle.model.specs.Rules.{cellBreach, highest, lowest}
+use Rattle.model.specs.Breaches.{failing, reactiveTests, allWindows}
 use Rattle.model.specs.Named.{failing-append}
 use Rattle.model.specs.Before as P
 use Rattle.ranges.specs.Plain.{SystemPlain, DevicePlain, ZonePlain, PlanPlain}
@@ -91,7 +92,7 @@ module _ (c : Case) (p : Plan) (hs : SystemPlain (c .system)) (hp : PlanPlain p)
       nothing-held a = omega (arith, mul-zero (a .qru), mul-zero (a .qrd))
 
   shortfalls-free : (t z : ℕ) → natAbs (C.reactiveShortfallCost c p our t z) ≤ 0
-  unfolding C.reactiveShortfallCost asWhole ours
+  unfolding C.reactiveShortfallCost asWhole ours O.ours
   shortfalls-free t z = times-none (pos (duration q t)) (sumℤ term C.reactiveShortfalls) (sum-none term C.reactiveShortfalls (λ k.
       times-none (pos (C.reactivePrice (getD (c .prices .zones) z noKinds .reactive) k)) (pos (maxZero (C.reactiveNeed q p t z k))) (omega (arith, none-short q p hs hp t z k))))
     where
@@ -99,7 +100,7 @@ module _ (c : Case) (p : Plan) (hs : SystemPlain (c .system)) (hp : PlanPlain p)
       term k = pos (C.reactivePrice (getD (c .prices .zones) z noKinds .reactive) k) *ℤ our .reactiveShortfall t z k
 
   mismatch-free : (t : ℕ) → natAbs (C.reactiveMismatchCost c p our t) ≤ 0
-  unfolding C.reactiveMismatchCost asWhole ours
+  unfolding C.reactiveMismatchCost asWhole ours O.ours
   mismatch-free t = times-none (pos (duration q t)) (pos (c .prices .mismatch) *ℤ our .reactiveMismatch t)
       (times-none (pos (c .prices .mismatch)) (pos (C.reactiveMismatchNeed q p t)) (omega (arith, none-apart q p hs hp t)))
 
@@ -146,7 +147,7 @@ module _ (q : System) (p : Plan) (hs : SystemPlain q) (hp : PlanPlain p) where
       go false = refl
 
   cells-as-before : (t i : ℕ) → cellBreaches q p t i ≡ P.cellBreaches q p t i
-  unfolding cellBreaches P.cellBreaches cellTests
+  unfolding cellBreaches P.cellBreaches
   cells-as-before t i =
       let ns = failing (realTests q p t i) in
       let e : failing (realTests q p t i ++ reactiveTests q p t i) ≡ ns =

@@ -34,9 +34,10 @@ use Rattle.model.specs.Judgement.{Judged, judged, verdict, bufferAfter, withPla
 use Rattle.layouts.specs.Trip.{Fits, length-bits}
 use Rattle.theorems.specs.Back.{FitsDevice, FitsInterval, FitsSix, FitsKinds, FitsWritten, Countable, completed-back}
 use Rattle.layouts.specs.Since.{has, present, nothing}
+use Rattle.layouts.specs.Sure.{Any, sure-checked}
 use Rattle.ranges.specs.Plain.{SystemPlain, PlanPlain, stated-plain, planned-plain}
-use Rattle.ranges.specs.Ranges.{PricesRange, KindsRange, DevicePriceRange, CellPriceRange, CaseRange, Taken, StatedRange, PlanRange, stated-checked, stated-range, planned-checked, planned-range}
-use Rattle.theorems.specs.Sizes.{PriceRange, mostPrice, mostShortfallPrice, mostChange, mostBlocks, surplusLimit, fits, surplus-size, device-at}
+use Rattle.ranges.specs.Ranges.{PricesRange, KindsRange, DevicePriceRange, CellPriceRange, CaseRange, Taken, StatedRange, PlanRange, stated-sure, stated-range, planned-sure, planned-range}
+use Rattle.theorems.specs.Sizes.{PriceRange, mostPrice, mostShortfallPrice, mostChange, mostBlocks, surplusLimit, fits, surplus-size, device-at, floored}
 use Rattle.numbers.specs.Every.{all-or}
 use Rattle.theorems.specs.Theorem.{Right, right-verdict, apart}
 
@@ -137,9 +138,6 @@ endWidth = mostDevices * mostWindows * 32 + 64
 
 abbrev completionWidth : ℕ → ℕ
 completionWidth e = frontWidth e + (mostIntervals * intervalWidth + endWidth)
-
-abbrev Any : {A : Type 0} → A → Type 0
-Any a = Unit {0}
 
 six-sized : Sized (M.six (any 33)) FitsSix shortfallsWidth
 unfolding M.six
@@ -281,16 +279,19 @@ module _ (x : Stated) (ps : List ℕ) (p : Plan) (g : Sound x) (rp : readPlan x 
   plan-in : PlanRange (c .system) p
   plan-in = planned-range (x .edition) (c .system) ps p rp
 
+  right : Right x p room (verdict x p room)
+  right = right-verdict x p (floored (c .system) p (g .range .system) plan-in) room
+
   -- the bytes of an acceptance read back as our completion
   our-bytes : (z : ℤ) → verdict x p room ≡ Accepted z → readWhole (completionIn (x .edition) (c .system)) (completionBytes x p) ≡ passes (written (c .system) (ours c p) (ourSurplus c p))
   unfolding completionBytes
-  our-bytes z e = our-back c p (g .range) plan-in (right-verdict x p room .meets z e .rules) (x .edition)
+  our-bytes z e = our-back c p (g .range) plan-in (right .meets z e .rules) (x .edition)
       (λ h. (g .plain h, planned-plain (x .edition) h (c .system) ps p rp)) (g .countable)
 
   wrote-by : (z : ℤ) (before after : List ℕ) → verdict x p room ≡ Accepted z → after ≡ completionBytes x p ++ drop (length (completionBytes x p)) before → Wrote x p z before after
   unfolding ourSurplus
   wrote-by z before after e h =
-      let v = right-verdict x p room in
+      let v = right in
       let t : take (length (completionBytes x p)) after ≡ completionBytes x p = ap (take (length (completionBytes x p))) h ∙ take-at (completionBytes x p) _ _ refl in
       record {
         reads = ap (readWhole (completionIn (x .edition) (c .system))) t ∙ our-bytes z e ∙ ap (λ (y : ℤ). passes (written (c .system) (ours c p) y)) (v .surplus z e);
@@ -321,14 +322,14 @@ plan-else x before (fails f) h = refl
 -- what a plan's refusal tells
 plan-tells : (x : Stated) (ps : List ℕ) (f : Fault) → readPlan x ps ≡ fails f → Tells (planOf x) ps f
 unfolding plannedIn
-plan-tells x ps f e = fails-tells (planOf x) (PlanRange (x .case .system)) (planned-checked (x .edition) (x .case .system)) ps f e
+plan-tells x ps f e = fails-tells (planOf x) Any (sure-checked _ _ (planned-sure (x .edition) (x .case .system))) ps f e
 
 -- a plan's bytes against a case within its ranges
 pub plan-promised : (x : Stated) → Sound x → (ps before : List ℕ) → PlanPromise x ps before (withPlan x before (readPlan x ps))
 plan-promised x g ps before = record {
   plan-refused = λ f e. record { verdict = rw e refl; number = plan-tells x ps f e; untouched = rw e refl };
   judges = λ p e. rw e (judged-verdict x p before);
-  right = λ p e. rw (e, judged-verdict x p before) (right-verdict x p (length before));
+  right = λ p e. rw (e, judged-verdict x p before) (right x ps p g e (length before));
   wrote = λ p z e a.
       let j : withPlan x before (readPlan x ps) ≡ judged x p before = rw e refl in
       let v : judged x p before .verdict ≡ Accepted z = ap (λ (j : Judged). j .verdict) (sym j) ∙ a in
@@ -341,7 +342,7 @@ plan-promised x g ps before = record {
 module _ (l : Largest) (most : l .devices ≤ mostDevices) (long : l .intervals ≤ mostIntervals) where
   case-tells : (cs : List ℕ) (f : Fault) → statedIn l cs ≡ fails f → Tells (B.caseLayout l) cs f
   unfolding statedIn
-  case-tells cs f e = fails-tells (B.caseLayout l) (StatedRange l) (stated-checked l most long) cs f e
+  case-tells cs f e = fails-tells (B.caseLayout l) Any (sure-checked _ _ (stated-sure l most long)) cs f e
 
   pub promised : (cs ps before : List ℕ) → Promise l cs ps before (judgement l cs ps before)
   unfolding judgement

@@ -4,7 +4,7 @@ use mathlib.Core.Bool.{Bool, true, false, not, _&&_}
 use mathlib.Core.List.{List, [], map}
 use Prim.Native.Nat.{ℕ, zero, suc, _+_, _-_, _*_, _^_, _≤_, _<_, max}
 use native.Mathlib.Omega.{arith}
-use native.Mathlib.Nat.{mul-le-mul}
+use native.Mathlib.Nat.{mul-le-mul, zero-mul, one-mul}
 use lib.Dec.{T, ltb, leb, eqb}
 use lib.ListN.{length, getD, length-map}
 use lib.IntN.{ℤ, pos, natAbs, _+ℤ_, _-ℤ_, _*ℤ_}
@@ -14,20 +14,20 @@ use Rattle.numbers.specs.Bounds.{bound-sub, bound-add, bound-mul, bound-sum, bo
 use Rattle.numbers.specs.State.{best, best-is}
 use Rattle.bits.specs.Pick.{pick}
 use Rattle.numbers.specs.Base.{range, upTo}
-use Rattle.model.specs.Case.{System, Plan, Case, noDevice, noCell, noZone, Minima, noMinima, noSetting, noEnergyWindow, noKinds, noReactiveReserves}
+use Rattle.model.specs.Case.{System, Plan, Case, noDevice, noBlock, noCell, noZone, Minima, noMinima, noSetting, noEnergyWindow, noKinds, noReactiveReserves}
 use Rattle.layouts.specs.Since.{has, Where}
 use Rattle.ranges.specs.Plain.{SystemPlain, PlanPlain}
 use Rattle.theorems.specs.Plain.{none-short, none-apart}
-use Rattle.model.specs.Forced.{intervals, devices, zones, device, cell, zone, cap, energyWindow, consuming, member, duration, endOf, setting, u, uBefore, su, sd, psu, psd, power}
+use Rattle.model.specs.Forced.{intervals, devices, zones, device, cell, zone, cap, floor, energyWindow, consuming, member, duration, endOf, setting, u, least, uBefore, su, sd, psu, psd, power}
 use Rattle.model.specs.Rules.{blocks, EveryRule}
 use Rattle.model.specs.Named.{rule16-holds, rule18-holds}
 use Rattle.model.specs.Completion as C
-use Rattle.model.specs.Ours.{filling, bestState, lasts, ours, whole}
-use Rattle.ranges.specs.Ranges.{SystemRange, DeviceRange, EnergyRange, CellRange, ZoneRange, MinimaRange, TwoRange, ReactivePriceRange, PlanRange, SettingRange, Eight}
+use Rattle.model.specs.Ours.{fillingAbove, bestState, lasts, ours, whole}
+use Rattle.ranges.specs.Ranges.{SystemRange, DeviceRange, EnergyRange, BlockRange, CellRange, ZoneRange, MinimaRange, TwoRange, ReactivePriceRange, PlanRange, SettingRange, Eight}
 use Rattle.numbers.specs.Every.{all-at, all-or, all-getD, all-gather, length-range, largest-bound, gate-le, bit-le, map-of-all, all-range, all-upTo}
 use Rattle.numbers.specs.Gather.{gather-counted}
 use Rattle.numbers.specs.Ranges.{sum-few}
-use Rattle.theorems.specs.Best.{filling-cap}
+use Rattle.theorems.specs.Best.{above-cap}
 use Rattle.model.specs.Editions.{mostDevices, mostIntervals, mostZones, mostStates, mostWindows}
 use Rattle.model.specs.Judgement.{written, countsOf, energyWindows, ourSurplus}
 use Rattle.layouts.specs.Trip.{Fits}
@@ -151,15 +151,39 @@ shared m (suc (suc v)) a b l h i = absurd (omega arith)
 minima-get : (l : List Minima) → All MinimaRange l → (k : ℕ) → MinimaRange (getD l k noMinima)
 minima-get l h k = all-or MinimaRange noMinima (record { rru = omega arith; rrd = omega arith; reactive = omega arith }) l h k
 
+-- what passes reading
+module _ (q : System) (p : Plan) (rq : SystemRange q) (rp : PlanRange q p) where
+  device-in : (i : ℕ) → i < devices q → DeviceRange (intervals q) (device q i)
+  device-in i l = all-at (DeviceRange (intervals q)) noDevice (q .devices) (rq .eachDevice) i l
+
+  cell-in : (t i : ℕ) → t < intervals q → i < devices q → CellRange (cell q t i)
+  cell-in t i l m = all-at CellRange noCell (device q i .cells) (device-in i m .cells) t (omega (arith, device-in i m .each))
+
+  setting-in : (t i : ℕ) → t < intervals q → i < devices q → SettingRange (setting q p t i)
+  setting-in t i l m = let r = all-at _ [] (p .settings) (rp .each) t (omega (arith, rp .intervals)) in all-at SettingRange noSetting (getD (p .settings) t []) (r .1) i (omega (arith, r .0))
+
+  block-in : (t i k : ℕ) → t < intervals q → i < devices q → BlockRange (getD (cell q t i .blocks) k noBlock)
+  block-in t i k l m = all-or BlockRange noBlock (record { cap = omega arith; floor = omega arith }) (cell q t i .blocks) (cell-in t i l m .each) k
+
+  -- a floor is not above its cap, and one that binds is the floor
+  pub floored : (t i : ℕ) → t < intervals q → i < devices q → (k : ℕ) → k < 4 → least q p t i k ≤ cap q t i k
+  unfolding least u
+  floored t i l m k h = go (setting q p t i .on) (floor q t i k) (setting-in t i l m .on) (block-in t i k l m .floor)
+    where
+      go : (v f : ℕ) → v ≤ 1 → f ≤ cap q t i k → v * f ≤ cap q t i k
+      go zero f a b = omega (arith, zero-mul f)
+      go (suc zero) f a b = omega (arith, one-mul f)
+      go (suc (suc v)) f a b = absurd (omega arith)
+
 module _ (q : System) (p : Plan) (rq : SystemRange q) (rp : PlanRange q p) (ok : EveryRule q p) where
   pub device-at : (i : ℕ) → i < devices q → DeviceRange (intervals q) (device q i)
-  device-at i l = all-at (DeviceRange (intervals q)) noDevice (q .devices) (rq .eachDevice) i l
+  device-at i l = device-in q p rq rp i l
 
   pub cell-at : (t i : ℕ) → t < intervals q → i < devices q → CellRange (cell q t i)
-  cell-at t i l m = all-at CellRange noCell (device q i .cells) (device-at i m .cells) t (omega (arith, device-at i m .each))
+  cell-at t i l m = cell-in q p rq rp t i l m
 
   pub setting-at : (t i : ℕ) → t < intervals q → i < devices q → SettingRange (setting q p t i)
-  setting-at t i l m = let r = all-at _ [] (p .settings) (rp .each) t (omega (arith, rp .intervals)) in all-at SettingRange noSetting (getD (p .settings) t []) (r .1) i (omega (arith, r .0))
+  setting-at t i l m = setting-in q p rq rp t i l m
 
   rule16-most : (t i : ℕ) → t < intervals q → i < devices q → setting q p t i .online ≤ cell q t i .pmax * u q p t i
   rule16-most t i l m = omega (arith, rule16-holds q p ok t i l m)
@@ -280,25 +304,30 @@ module _ (c : Case) (p : Plan) (rq : SystemRange (c .system)) (rp : PlanRange (c
           (all-range (λ k. T (lasts q p t i k) → k ≤ mostStates) 1 _ (λ k a b h. omega (arith, device-at q p rq rp ok i m .states)))
       go false = omega arith
 
-  pub block-bound : (t i k : ℕ) → t < intervals q → i < devices q → filling (consuming q i) (C.blockPrice c t i) (cap q t i) (power q p t i) k ≤ mostPower
-  block-bound t i k l m = omega (
+  pub block-bound : (t i k : ℕ) → t < intervals q → i < devices q → k < 4 → fillingAbove (consuming q i) (C.blockPrice c t i) (least q p t i) (cap q t i) (power q p t i) k ≤ mostPower
+  block-bound t i k l m h = omega (
     arith,
-    filling-cap (C.blockPrice c t i) (cap q t i) (power q p t i) (consuming q i) k,
-    all-getD mostPower (cell q t i .caps) (cell-at q p rq rp ok t i l m .caps) k,
+    above-cap (C.blockPrice c t i) (least q p t i) (cap q t i) (power q p t i) (floored q p rq rp t i l m) (consuming q i) k h,
+    block-in q p rq rp t i k l m .cap,
   )
 
-  block-fits : (t i k : ℕ) → t < intervals q → i < devices q → filling (consuming q i) (C.blockPrice c t i) (cap q t i) (power q p t i) k ≤ 2 ^ 17 - 1
-  block-fits t i k l m = omega (arith, block-bound t i k l m)
+  block-fits : (t i k : ℕ) → t < intervals q → i < devices q → k < 4 → fillingAbove (consuming q i) (C.blockPrice c t i) (least q p t i) (cap q t i) (power q p t i) k ≤ 2 ^ 17 - 1
+  block-fits t i k l m h = omega (arith, block-bound t i k l m h)
 
   pub device-fits : (t i : ℕ) → t < intervals q → i < devices q
-      → FitsDevice (record { started = su q p t i; stopped = sd q p t i; state = bestState c p t i; blocks = map (filling (consuming q i) (C.blockPrice c t i) (cap q t i) (power q p t i)) blocks })
+      → FitsDevice (record {
+        started = su q p t i;
+        stopped = sd q p t i;
+        state = bestState c p t i;
+        blocks = map (fillingAbove (consuming q i) (C.blockPrice c t i) (least q p t i) (cap q t i) (power q p t i)) blocks;
+      })
   unfolding su sd range
   device-fits t i l m = record {
     started = bit-le (ltb (uBefore q p t i) (u q p t i));
     stopped = bit-le (ltb (u q p t i) (uBefore q p t i));
     state = omega (arith, state-bound t i m);
     four = refl;
-    blocks = (block-fits t i 0 l m, (block-fits t i 1 l m, (block-fits t i 2 l m, (block-fits t i 3 l m, tt))));
+    blocks = (block-fits t i 0 l m (omega arith), (block-fits t i 1 l m (omega arith), (block-fits t i 2 l m (omega arith), (block-fits t i 3 l m (omega arith), tt))));
   }
 
   shortfall-fits : (t z : ℕ) (k : C.Shortfall) → t < intervals q → z < zones q → maxZero (C.shortfallNeed q p t z k) ≤ 2 ^ 33 - 1
@@ -400,7 +429,7 @@ module _ (c : Case) (p : Plan) (rq : SystemRange (c .system)) (rp : PlanRange (c
   block-worth t i l m = bound-mul (d t) (C.bySide (consuming sys i) total) mostMinutes (mostBlocks * (mostPrice * mostPower)) (duration-bound sys p rq rp ok t)
       (side-bound (consuming sys i) total (mostBlocks * (mostPrice * mostPower)) (bound-sum term (mostPrice * mostPower) blocks
       (all-upTo (λ k. natAbs (term k) ≤ mostPrice * mostPower) mostBlocks (λ k h.
-      bound-mul (C.blockPrice c t i k) (our .block t i k) mostPrice mostPower (rc .block t i k) (block-bound c p rq rp ok t i k l m)))))
+      bound-mul (C.blockPrice c t i k) (our .block t i k) mostPrice mostPower (rc .block t i k) (block-bound c p rq rp ok t i k l m h)))))
     where
       term : ℕ → ℤ
       term k = C.blockPrice c t i k *ℤ our .block t i k

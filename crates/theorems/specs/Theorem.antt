@@ -25,7 +25,7 @@ use Rattle.model.specs.Breaches.{breaches}
 use Rattle.model.specs.Ours.{ours, whole}
 use Rattle.model.specs.Judgement.{unlessBroken, accepts, verdict, ourSurplus, completionBytes}
 use Rattle.model.specs.Named.{First, first-fails, every-none}
-use Rattle.theorems.specs.Best.{ours-meets, ours-best}
+use Rattle.theorems.specs.Best.{Floored, ours-meets, ours-best}
 
 -- 7 "bytes needed: result buffer too short": of the result buffer, with the bytes needed, and only where they do not fit
 pub record Short (needed room : ℕ) (s : Subject) (f : Fault) : Type 0 where
@@ -89,9 +89,9 @@ right-kept y p room v (short h) m = record {
   short = λ s f e. let g : TooShort (length (completionBytes y p)) ≡ f = cc in record { message = cc; number = rw (sym g) refl; returned = rw (sym g) refl; truly = h };
 }
 
-right-first : (y : Stated) (p : Plan) (room : ℕ) (v : Verdict) → Kept y p room v → (bs : List Breach) → breaches (y .case .system) p ≡ bs → Right y p room (unlessBroken bs v)
-right-first y p room v k [] e = right-kept y p room v k (ours-meets (y .case) p e)
-right-first y p room v k (b ∷ bs) e = record {
+right-first : (y : Stated) (p : Plan) (room : ℕ) (v : Verdict) → Floored (y .case) p → Kept y p room v → (bs : List Breach) → breaches (y .case .system) p ≡ bs → Right y p room (unlessBroken bs v)
+right-first y p room v low k [] e = right-kept y p room v k (ours-meets (y .case) p low e)
+right-first y p room v low k (b ∷ bs) e = record {
   broken-none = λ b' f x n. let g = every-none (y .case .system) p (n .rules) in apart (cc);
   none-broken = λ n. (b, refl);
   named = λ b' f. let g : b ≡ b' = cc in rw (sym g) (first-fails (y .case .system) p b bs e);
@@ -102,6 +102,6 @@ right-first y p room v k (b ∷ bs) e = record {
   short = λ s f e. apart (cc);
 }
 
-pub right-verdict : (y : Stated) (p : Plan) (room : ℕ) → Right y p room (verdict y p room)
+pub right-verdict : (y : Stated) (p : Plan) → Floored (y .case) p → (room : ℕ) → Right y p room (verdict y p room)
 unfolding verdict
-right-verdict y p room = right-first y p room (accepts (ourSurplus (y .case) p) (length (completionBytes y p)) room) (keeps y p room) (breaches (y .case .system) p) refl
+right-verdict y p low room = right-first y p room (accepts (ourSurplus (y .case) p) (length (completionBytes y p)) room) low (keeps y p room) (breaches (y .case .system) p) refl

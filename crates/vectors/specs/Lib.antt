@@ -6,3 +6,6 @@ pub mod Zones
 pub mod Links
 pub mod ReactiveRows
 pub mod ReactiveDay
+pub mod Floors
+pub mod FloorDay
+pub mod FloorRows

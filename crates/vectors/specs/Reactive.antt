@@ -16,7 +16,7 @@ use Rattle.model.specs.Shown.{eqℤ, eqList}
 -- a cell's figures, in the message's order
 cellOf : (pmin pmax : ℕ) (qmin qmax : ℤ) (qru qrd : ℕ) → Cell × CellPrices
 cellOf pmin pmax qmin qmax qru qrd = (
-  record { status = 0; pmin = pmin; pmax = pmax; caps = []; reactive = record { qmin = qmin; qmax = qmax } },
+  record { status = 0; pmin = pmin; pmax = pmax; blocks = []; reactive = record { qmin = qmin; qmax = qmax } },
   record { blocks = []; reserves = noReserves; reactive = record { qru = qru; qrd = qrd } },
 )
 

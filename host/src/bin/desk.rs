@@ -123,8 +123,8 @@ fn meaning(number: u64) -> &'static str {
         3 => "a count out of range, or unlike the case's",
         4 => "a field out of its range",
         5 => {
-            "pmin above pmax, qmin above qmax, a window's start after its end, its end after \
-             the day's, or a zone bit above the zone count"
+            "pmin above pmax, a floor above its cap, qmin above qmax, a window's start after \
+             its end, its end after the day's, or a zone bit above the zone count"
         }
         6 => "a fill bit that is not 0, or a surplus byte",
         _ => "a number without a meaning",

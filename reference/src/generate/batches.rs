@@ -15,8 +15,8 @@ use crate::rng::Rng;
 /// A batch of one case and about `plans` plans.
 pub fn random_batch(rng: &mut Rng, size: Size, plans: usize) -> Vec<u8> {
     match rng.below(40) {
-        0 | 1 => refused_case_batch(rng, size),
-        2 => wild_batch(rng, size, plans),
+        0..=2 => refused_case_batch(rng, size),
+        3 => wild_batch(rng, size, plans),
         _ => {
             let sample = random_sample(rng, size);
             let mut batch = Vec::new();

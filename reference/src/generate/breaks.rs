@@ -1,7 +1,7 @@
 //! Plans broken at a chosen rule, by as little as breaks it or by more.
 
 use crate::bits::HIGHEST_POWER;
-use crate::case::{Device, ReactiveReserves, Reserves, Side};
+use crate::case::{Device, ReactiveReserves, Reserves, Side, Terms};
 use crate::edition::Edition;
 use crate::forced::{commit, Commitment};
 use crate::generate::device::random_commitment;
@@ -212,7 +212,7 @@ impl<'a> Spot<'a> {
             16 => self.above_pmax(rng),
             17 => self.below_pmin(rng),
             18 => self.above_pmax_while_off(),
-            19 => self.above_caps(),
+            19 => self.beyond_either_bound(rng),
             25 if rng.chance(50) => self.beside_equality(rng),
             21..=26 => {
                 let running = self.running(self.setting.online_power);
@@ -241,6 +241,7 @@ impl<'a> Spot<'a> {
         let online = setting.online_power;
         let keeps_others = online >= self.while_on(terms.pmin)
             && online <= self.while_on(terms.pmax)
+            && power >= self.while_on(terms.sum_of_floors())
             && power <= terms.sum_of_caps();
         (keeps_others && self.running(online).breaks(&setting, 25)).then_some(setting)
     }
@@ -329,10 +330,31 @@ impl<'a> Spot<'a> {
         }
     }
 
-    /// Rule 19, with pmax kept.
+    /// Rule 19, by either bound.
+    fn beyond_either_bound(&self, rng: &mut Rng) -> Option<Setting> {
+        let (above, below) = (self.above_caps(), self.below_floors());
+        if rng.chance(50) {
+            above.or(below)
+        } else {
+            below.or(above)
+        }
+    }
+
+    /// Rule 19 by its upper bound, with pmax kept.
     fn above_caps(&self) -> Option<Setting> {
+        let caps = self.device.terms[self.t].sum_of_caps();
+        self.beyond_blocks(caps + self.excess)
+    }
+
+    /// Rule 19 by its lower bound, with pmin kept: only while on, where floors come to more.
+    fn below_floors(&self) -> Option<Setting> {
+        let floors = self.while_on(self.device.terms[self.t].sum_of_floors());
+        self.beyond_blocks(floors - self.excess)
+    }
+
+    /// A power with which rules 16 and 17 are kept without reserves.
+    fn beyond_blocks(&self, power: i128) -> Option<Setting> {
         let terms = &self.device.terms[self.t];
-        let power = terms.sum_of_caps() + self.excess;
         let mut setting = self.with_power(power)?;
         setting.reserves = Reserves::default();
         let online = setting.online_power;
@@ -384,8 +406,8 @@ pub fn metered_plan(rng: &mut Rng, sample: &Sample) -> Plan {
     plan
 }
 
-/// A good plan in which one device follows any commitment at all, at pmin while on; with reactive
-/// power that keeps rules 21 to 26 where it can, or is nudged at one place.
+/// A good plan in which one device follows any commitment at all, at its least power while on; with
+/// reactive power that keeps rules 21 to 26 where it can, or is nudged at one place.
 pub fn recommitted_plan(rng: &mut Rng, sample: &Sample) -> Plan {
     let mut plan = good_plan(rng, sample);
     let j = rng.below(sample.case.devices.len());
@@ -406,15 +428,20 @@ pub fn recommitted_plan(rng: &mut Rng, sample: &Sample) -> Plan {
     plan
 }
 
-/// Settings of a device that is switched by chance, at pmin while on.
+/// Settings of a device that is switched by chance, while on at the least power that pmin and
+/// floors leave.
 fn settings_of_any_commitment(rng: &mut Rng, device: &Device, intervals: usize) -> Vec<Setting> {
     let restless = rng.chance(50);
     let (_, commitment) = random_commitment(rng, intervals);
+    let least = |t: usize| {
+        let Terms { pmin, pmax, .. } = device.terms[t];
+        device.terms[t].sum_of_floors().clamp(pmin, pmax)
+    };
     let mut setting = |(t, calm_on): (usize, bool)| {
         let on = if restless { rng.chance(50) } else { calm_on };
         Setting {
             on,
-            online_power: if on { device.terms[t].pmin } else { 0 },
+            online_power: if on { least(t) } else { 0 },
             ..Setting::default()
         }
     };

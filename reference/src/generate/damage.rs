@@ -1,7 +1,7 @@
 //! Messages damaged in every way that numbers 1 to 6 name.
 
 use crate::bits::{overwrite, HIGHEST_POWER};
-use crate::case::{Case, StartupState, Terms, MOST_STATES};
+use crate::case::{Block, Case, StartupState, Terms, MOST_STATES};
 use crate::edition::Edition;
 use crate::encode::{Class, Encoded, Field};
 use crate::rng::Rng;
@@ -102,7 +102,8 @@ pub fn with_other_edition(rng: &mut Rng, message: &Encoded) -> Vec<u8> {
     bytes
 }
 
-/// The kinds of contradiction that number 5 names, and "A qmin above qmax is a contradiction".
+/// The kinds of contradiction that number 5 names, "A qmin above qmax is a contradiction" and "A
+/// floor above its cap is a contradiction".
 #[derive(Clone, Copy, PartialEq, Eq, Debug)]
 pub enum Contradiction {
     PminAbovePmax,
@@ -112,10 +113,11 @@ pub enum Contradiction {
     EnergyWindowBeyondDay,
     ZoneBitAboveCount,
     QminAboveQmax,
+    FloorAboveCap,
 }
 
-/// Every kind, those of edition 1 first.
-const CONTRADICTIONS: [Contradiction; 7] = [
+/// Every kind, those of older editions first.
+const CONTRADICTIONS: [Contradiction; 8] = [
     Contradiction::PminAbovePmax,
     Contradiction::StartWindowBackward,
     Contradiction::StartWindowBeyondDay,
@@ -123,14 +125,15 @@ const CONTRADICTIONS: [Contradiction; 7] = [
     Contradiction::EnergyWindowBeyondDay,
     Contradiction::ZoneBitAboveCount,
     Contradiction::QminAboveQmax,
+    Contradiction::FloorAboveCap,
 ];
 
 /// The kinds of contradiction that a case of an edition can hold.
 pub fn contradictions(edition: Edition) -> &'static [Contradiction] {
-    if edition.has_reactive_power() {
-        &CONTRADICTIONS
-    } else {
-        &CONTRADICTIONS[..6]
+    match edition {
+        Edition::One => &CONTRADICTIONS[..6],
+        Edition::Two => &CONTRADICTIONS[..7],
+        Edition::Three => &CONTRADICTIONS,
     }
 }
 
@@ -161,6 +164,10 @@ pub fn contradict(rng: &mut Rng, case: &mut Case, contradiction: Contradiction) 
             .map(|member| *member = true)
             .is_some(),
         Contradiction::QminAboveQmax => part_qmin_and_qmax(rng, &mut device.terms[t]),
+        Contradiction::FloorAboveCap => match any_of(rng, &mut device.terms[t].blocks) {
+            Some(block) => part_floor_and_cap(rng, block),
+            None => false,
+        },
     }
 }
 
@@ -219,6 +226,16 @@ fn part_qmin_and_qmax(rng: &mut Rng, terms: &mut Terms) -> bool {
         terms.qmax = rng.pick(&[terms.qmin - 1, -HIGHEST_POWER]);
     }
     terms.qmin > terms.qmax
+}
+
+/// Puts a floor above its cap; false where the floor is the least and the cap the greatest power.
+fn part_floor_and_cap(rng: &mut Rng, block: &mut Block) -> bool {
+    if block.cap < HIGHEST_POWER {
+        block.floor = rng.pick(&[block.cap + 1, HIGHEST_POWER]);
+    } else if block.floor > 0 {
+        block.cap = rng.pick(&[block.floor - 1, 0]);
+    }
+    block.floor > block.cap
 }
 
 /// Damages a message in one of the ways of numbers 1, 2, 3, 4 and 6, or several at once, or by

@@ -10,6 +10,7 @@ use crate::clock::Span;
 use crate::edition::Edition;
 use crate::energy::EnergyRule;
 use crate::forced::{commit, Commitment};
+use crate::generate::floors::{lower_floors_to_pmin, set_floors};
 use crate::generate::reactive::{random_grid, set_reactive_power, snap_to_grid};
 use crate::generate::schedule::{schedule, Schedule, Waived};
 use crate::generate::shape::{Shape, Size};
@@ -52,6 +53,9 @@ pub fn random_device(
         1
     };
     set_powers(rng, shape, &mut device, scale);
+    if edition.has_floors() {
+        set_floors(rng, &on, &mut device);
+    }
     snap_to_grid(&mut device, grid);
     set_ramps(rng, spans, &on, &mut device);
     snap_to_grid(&mut device, grid);
@@ -219,10 +223,7 @@ fn random_blocks(rng: &mut Rng, count: usize, pmin: i128, pmax: i128, scale: Sca
             };
             let cap = share.min(100_000);
             left -= cap;
-            Block {
-                cap,
-                price: block_price(rng, scale),
-            }
+            Block::plain(cap, block_price(rng, scale))
         })
         .collect();
     if rng.chance(50) {
@@ -338,13 +339,17 @@ fn initial_power_while_off(rng: &mut Rng, device: &Device, spans: &[Span], on: &
     power.clamp(0, 100_000)
 }
 
-/// Loosens ramps, initial power and at last pmin until the commitment can be followed.
+/// Loosens ramps, floors and at last pmin until the commitment can be followed.
 fn make_followable(spans: &[Span], on: &[bool], device: &mut Device) {
     let can_follow = |device: &Device| schedule(device, spans, on.to_vec(), Waived::None).is_some();
     if can_follow(device) {
         return;
     }
     (device.ramps.up, device.ramps.down) = (100_000, 100_000);
+    if can_follow(device) {
+        return;
+    }
+    lower_floors_to_pmin(device);
     if can_follow(device) {
         return;
     }
@@ -355,6 +360,7 @@ fn make_followable(spans: &[Span], on: &[bool], device: &mut Device) {
     for terms in &mut device.terms {
         terms.pmin = 0;
     }
+    lower_floors_to_pmin(device);
     assert!(can_follow(device), "a device that may idle can follow all");
 }
 
@@ -365,6 +371,7 @@ fn tighten_caps_while_off(commitment: &Commitment, device: &mut Device) {
             let mut left = commitment.trajectory(t);
             for block in &mut terms.blocks {
                 block.cap = block.cap.min(left);
+                block.floor = block.floor.min(block.cap);
                 left -= block.cap;
             }
         }

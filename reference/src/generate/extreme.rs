@@ -15,8 +15,9 @@ const HIGHEST_PRICE: i128 = 10_000;
 const HIGHEST_POWER: i128 = 100_000;
 
 /// Every price and every need as great as it can be, no reserve anywhere: 16 consuming devices that
-/// pay for their power, in all four zones, each with four energy minima over nothing. In edition 2
-/// also every reactive need, and 100,000 kvar of each device that nothing produces.
+/// pay for their power, in all four zones, each with four energy minima over nothing. From edition
+/// 2 on also every reactive need, and 100,000 kvar of each device that nothing produces; in edition
+/// 3 all power in the last block, whose floor asks for it.
 pub fn very_low_surplus_day(edition: Edition) -> Day {
     let unmet = EnergyWindow {
         kind: EnergyKind::Minimum,
@@ -44,10 +45,22 @@ pub fn very_low_surplus_day(edition: Edition) -> Day {
         zones: vec![zone; MOST_ZONES],
         devices: vec![device; MOST_DEVICES],
     });
-    if edition.has_reactive_power() {
+    let mut day = if edition.has_reactive_power() {
         with_greatest_reactive_needs(edition, day)
     } else {
         day
+    };
+    if edition.has_floors() {
+        set_greatest_floors(&mut day.case);
+    }
+    day
+}
+
+/// The greatest floor in the last block of each device and interval.
+fn set_greatest_floors(case: &mut Case) {
+    let terms = case.devices.iter_mut().flat_map(|device| &mut device.terms);
+    for last in terms.filter_map(|terms| terms.blocks.last_mut()) {
+        last.floor = HIGHEST_POWER;
     }
 }
 
@@ -125,8 +138,8 @@ pub fn very_high_surplus_day() -> Day {
 
 /// The most breaches that a plan can have: 16 devices that are switched in every interval, so that
 /// each breaks 15 rules in each of 48 intervals, rule 2 in the 24 in which it is on, rule 3 or 4 in
-/// all but the first, and rule 20 in four windows. In edition 2 four rules more in each interval:
-/// 21 to 24, or, of a device whose link is an equality, 21, 22, 25 and 26.
+/// all but the first, and rule 20 in four windows. From edition 2 on four rules more in each
+/// interval: 21 to 24, or, of a device whose link is an equality, 21, 22, 25 and 26.
 ///
 /// No plan has more. Rules 5 and 6 are never broken at one place, nor rules 3 and 4; each interval
 /// more away from the initial state breaks rule 2 once more and is two switches less. No link is of
@@ -222,10 +235,7 @@ fn never_allowed(side: Side, terms: Vec<Terms>) -> Device {
 
 /// Initially off, without costs; every block at one price, every state at one cost.
 fn device(side: Side, price: i128, state_cost: i128) -> Device {
-    let block = Block {
-        cap: HIGHEST_POWER,
-        price,
-    };
+    let block = Block::plain(HIGHEST_POWER, price);
     let terms = Terms {
         status: Status::On,
         pmin: HIGHEST_POWER,

@@ -5,6 +5,7 @@
 //! - [`sample`]: a case with the schedules that its devices can and cannot follow.
 //! - [`schedule`]: the dispatch that a commitment leaves open.
 //! - [`reactive`]: reactive power of devices and plans.
+//! - [`floors`]: floors of blocks.
 //! - [`plans`]: plans that keep every rule, and wild ones.
 //! - [`breaks`]: plans broken at a chosen rule.
 //! - [`damage`]: messages damaged in every way that numbers 1 to 6 name.
@@ -16,6 +17,7 @@ pub mod breaks;
 pub mod damage;
 pub mod device;
 pub mod extreme;
+pub mod floors;
 pub mod plans;
 pub mod reactive;
 pub mod sample;

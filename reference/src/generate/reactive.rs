@@ -94,7 +94,7 @@ pub fn snap_to_grid(device: &mut Device, grid: i128) {
     for terms in &mut device.terms {
         (terms.pmin, terms.pmax) = (down(terms.pmin), up(terms.pmax));
         for block in &mut terms.blocks {
-            block.cap = up(block.cap);
+            (block.cap, block.floor) = (up(block.cap), down(block.floor));
         }
     }
     device.initial_power = down(device.initial_power);

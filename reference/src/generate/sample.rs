@@ -8,6 +8,7 @@ use crate::clock::{spans, Span};
 use crate::edition::Edition;
 use crate::forced::{commit, Commitment};
 use crate::generate::device::{random_commitment, random_device, Scale};
+use crate::generate::floors::scramble_floors;
 use crate::generate::reactive::{can_be_kept, scramble_reactive_power};
 use crate::generate::schedule::{schedule, Schedule, Waived};
 use crate::generate::shape::{Shape, Size};
@@ -38,7 +39,7 @@ pub struct Spoilt {
     pub schedule: Schedule,
 }
 
-/// A case of either edition whose devices can each follow some schedule.
+/// A case of any edition whose devices can each follow some schedule.
 pub fn random_sample(rng: &mut Rng, size: Size) -> Sample {
     let edition = rng.pick(&Edition::ALL);
     sample_in(rng, edition, size)
@@ -56,9 +57,14 @@ pub fn sample_in(rng: &mut Rng, edition: Edition, size: Size) -> Sample {
     sample_of(rng, edition, &shape, scale)
 }
 
-/// A case of a given edition, shape and scale; now and then with the content of edition 1.
+/// A case of a given edition, shape and scale; now and then with the content of an older edition.
 pub fn sample_of(rng: &mut Rng, edition: Edition, shape: &Shape, scale: Scale) -> Sample {
-    let content = if rng.chance(6) { Edition::One } else { edition };
+    let older: Vec<Edition> = edition.older().collect();
+    let content = if !older.is_empty() && rng.chance(6) {
+        rng.pick(&older)
+    } else {
+        edition
+    };
     Sample {
         edition,
         ..sample_with(rng, content, shape, scale)
@@ -291,6 +297,9 @@ pub fn wild_case(rng: &mut Rng, size: Size) -> (Edition, Case) {
         if edition.has_reactive_power() {
             scramble_reactive_power(rng, device);
         }
+        if edition.has_floors() {
+            scramble_floors(rng, device);
+        }
     }
     (edition, case)
 }
@@ -314,10 +323,7 @@ fn scramble(rng: &mut Rng, device: &mut Device, zones: usize) {
         terms.pmax = rng.from_to(0, 100_000);
         terms.pmin = rng.from_to(0, terms.pmax);
         terms.blocks = (0..rng.below(MOST_ITEMS + 1))
-            .map(|_| Block {
-                cap: rng.from_to(0, 100_000),
-                price: rng.from_to(-10_000, 10_000),
-            })
+            .map(|_| Block::plain(rng.from_to(0, 100_000), rng.from_to(-10_000, 10_000)))
             .collect();
     }
 }

@@ -99,9 +99,14 @@ fn powers_in_limits(
     };
     let off_limit = if commitment.on[t] { 0 } else { terms.pmax };
     let keeps_18 = waived == Waived::Rule18 || trajectory <= off_limit;
-    let high = match waived {
-        Waived::Rule19 => high,
-        _ => high.min(terms.sum_of_caps()),
+    let floors = if commitment.on[t] {
+        terms.sum_of_floors()
+    } else {
+        0
+    };
+    let (low, high) = match waived {
+        Waived::Rule19 => (low, high),
+        _ => (low.max(floors), high.min(terms.sum_of_caps())),
     };
     (keeps_18 && low <= high).then_some((low, high))
 }

@@ -328,7 +328,7 @@ fn mismatch_rows() -> Vec<Row> {
 }
 
 /// The draft's case with fields overwritten, each as first bit, width and value.
-fn with_fields(draft: &Draft, about: &str, fields: &[(usize, usize, i128)]) -> Row {
+pub(super) fn with_fields(draft: &Draft, about: &str, fields: &[(usize, usize, i128)]) -> Row {
     let mut row = draft.row(about);
     for &(place, width, value) in fields {
         overwrite(&mut row.case, place, width, value);
@@ -348,7 +348,7 @@ fn refused_case_rows() -> Vec<Row> {
     let equal = plain.clone().with_link(Link::Equality(level));
     vec![
         with_fields(&plain, "edition 0", &[(4, 4, 0)]),
-        with_fields(&plain, "edition 3", &[(4, 4, 3)]),
+        with_fields(&plain, "edition 15", &[(4, 4, 15)]),
         with_fields(&plain, "link kind 3", &[(419, 2, 3)]),
         with_fields(&lined, "upper offset 100,001", &[(421, 18, 100_001)]),
         with_fields(&lined, "upper slope −10,001", &[(439, 15, -10_001)]),

@@ -1,25 +1,22 @@
 use borrow.Author.Needs.{needs}
-use Rattle.blocks_reader.proofs.Blocks.{no-cap, no-price, block-done}
+use Rattle.blocks_reader.proofs.Blocks.{no-bounds, no-price, block-done}
 use Rattle.blocks_reader.proofs.read_block.Statement.{statement}
 use Rattle.blocks_reader.proofs.read_block.Tie as tie
 
-read-figure-requires : tie.Need-read-figure-requires
-read-figure-requires c κs = search needs
+read-bounds-requires : tie.Need-read-bounds-requires
+read-bounds-requires c κs = search needs
 
-enum-known-cap : tie.Need-enum-known-cap
-enum-known-cap c = search needs
+enum-known-bounded : tie.Need-enum-known-bounded
+enum-known-bounded c = search needs
 
 enum-told : tie.Need-enum-told
 enum-told c = search needs
-
-place-of-requires : tie.Need-place-of-requires
-place-of-requires c κs = search needs
 
 no-block-requires : tie.Need-no-block-requires
 no-block-requires c κs = search needs
 
 returns : tie.Need-returns
-returns c = search no-cap
+returns c = search no-bounds
 
 read-offset-requires : tie.Need-read-offset-requires
 read-offset-requires c κs = search needs
@@ -30,8 +27,8 @@ enum-known-price c = search needs
 enum-told-2 : tie.Need-enum-told-2
 enum-told-2 c = search needs
 
-place-of-requires-2 : tie.Need-place-of-requires-2
-place-of-requires-2 c κs = search needs
+place-of-requires : tie.Need-place-of-requires
+place-of-requires c κs = search needs
 
 no-block-requires-2 : tie.Need-no-block-requires-2
 no-block-requires-2 c κs = search needs
@@ -46,16 +43,15 @@ pub read-block-spec : {M : Type 1} → statement M
 read-block-spec =
     tie.close
     (tie.spec
-    read-figure-requires
-    enum-known-cap
+    read-bounds-requires
+    enum-known-bounded
     enum-told
-    place-of-requires
     no-block-requires
     returns
     read-offset-requires
     enum-known-price
     enum-told-2
-    place-of-requires-2
+    place-of-requires
     no-block-requires-2
     returns-2
     returns-3)

@@ -32,8 +32,8 @@ sub-roof-kept c = search needs
 roof-kept-requires-2 : tie.Need-roof-kept-requires-2
 roof-kept-requires-2 c κs = search needs
 
-room-kept-requires : tie.Need-room-kept-requires
-room-kept-requires c κs = search needs
+blocks-kept-requires : tie.Need-blocks-kept-requires
+blocks-kept-requires c κs = search needs
 
 bit-unless-requires : tie.Need-bit-unless-requires
 bit-unless-requires c κs = search needs
@@ -59,15 +59,17 @@ add-result-6 c = search needs
 returns : tie.Need-returns
 unfolding powerTests
 returns c = (
-  more-bits 19 _ (more-bits 18 _
-      (more-bits 17 _ (one-bit 16 (c .before .before .before .bit-unless .ensures .0)
-      (c .before .before .before .before .before .before .before .before .before .roof-kept .ensures)) (c .before .before .bit-unless2 .ensures .0)
-      (c .before .before .before .before .before .before .before .before .floor-kept .ensures)) (c .before .bit-unless3 .ensures .0)
-      (rw (c .before .before .before .before .before .before .before .before .before .before .less .ensures) at
-      (c .before .before .before .before .before .before .roof-kept2 .ensures))) (c .bit-unless4 .ensures .0) (c .before .before .before .before .room-kept .ensures),
+  (let at-lid : _ = c .before .before .before .before .before .before .before in
+      let at-floor : _ = at-lid .before .before in
+      let at-roof : _ = at-floor .before in
+      let at-less : _ = at-roof .before in
+      more-bits 19 _ (more-bits 18 _
+      (more-bits 17 _ (one-bit 16 (c .before .before .before .bit-unless .ensures .0) (at-roof .roof-kept .ensures)) (c .before .before .bit-unless2 .ensures .0)
+      (at-floor .floor-kept .ensures)) (c .before .bit-unless3 .ensures .0) (rw (at-less .less .ensures) at (at-lid .roof-kept2 .ensures)))
+      (c .bit-unless4 .ensures .0) (c .before .before .before .before .blocks-kept .ensures)),
   search needs,
 )
 
 pub power-rules-spec : {M : Type 1} → statement M
 power-rules-spec = tie.close (tie.spec add-result add-result-2 add-roof-kept add-result-3 less-requires roof-kept-requires floor-kept-requires sub-roof-kept
-    roof-kept-requires-2 room-kept-requires bit-unless-requires bit-unless-requires-2 add-result-4 bit-unless-requires-3 add-result-5 bit-unless-requires-4 add-result-6 returns)
+    roof-kept-requires-2 blocks-kept-requires bit-unless-requires bit-unless-requires-2 add-result-4 bit-unless-requires-3 add-result-5 bit-unless-requires-4 add-result-6 returns)

@@ -1,4 +1,4 @@
--- Rule 19 with the sum of the caps.
+-- Against the sum of the caps.
 use mathlib.Core.Path.{ap}
 use Prim.Native.Nat.{ℕ}
 use lib.Dec.{leb}
@@ -6,11 +6,11 @@ use borrow.Author.Needs.{needs}
 use Rattle.cell_tests.proofs.room_kept.Statement.{statement}
 use Rattle.cell_tests.proofs.room_kept.Tie as tie
 
-room-of-requires : tie.Need-room-of-requires
-room-of-requires c κs = search needs
+sum-of-requires : tie.Need-sum-of-requires
+sum-of-requires c κs = search needs
 
 returns : tie.Need-returns
-returns c = ap (λ (room : ℕ). leb (c .before .before .before .args .power .0) room) (c .before .before .room-of .ensures)
+returns c = ap (λ (room : ℕ). leb (c .before .before .before .args .power .0) room) (c .before .before .sum-of .ensures)
 
 pub room-kept-spec : {M : Type 1} → statement M
-room-kept-spec = tie.close (tie.spec room-of-requires returns)
+room-kept-spec = tie.close (tie.spec sum-of-requires returns)

@@ -12,7 +12,7 @@ use Rattle.money.specs.Unbroken.{Unbroken, part-of}
 use Rattle.completion_size.specs.Size.{deviceWidth}
 use Rattle.progress.specs.Advances.{advances-none, advances-next, advances-done}
 use Rattle.interval_completions.specs.Advances.{DevicesAdvance}
-use Rattle.interval_completions.specs.Steps.{place-of, cell-of, device-fits, ruled, cell-paid, held-of, device-done}
+use Rattle.interval_completions.specs.Steps.{place-of, cell-of, floors-of, device-fits, ruled, cell-paid, held-of, device-done}
 use borrow.Author.Needs.{needs}
 use Rattle.interval_completions.proofs.complete_devices.Statement.{statement}
 use Rattle.interval_completions.proofs.complete_devices.Tie as tie
@@ -84,6 +84,8 @@ choose-requires c κs =
     let start : _ = turn .before .before .before .before .before .before .before in (
       at-loop-test .loop-test .taken,
       cell-of (start .pre .0 .0) (start .args .t) (turn .loop .i) (turn .loop .a) (start .pre .0 .1) (at-loop-test .loop-test .taken) (turn .loop .inv .1)
+          (at-cell-at .cell-at .ensures),
+      floors-of (start .pre .0 .0) (start .args .t) (turn .loop .i) (turn .loop .a) (start .pre .0 .1) (at-loop-test .loop-test .taken) (turn .loop .inv .1)
           (at-cell-at .cell-at .ensures),
     )
 
