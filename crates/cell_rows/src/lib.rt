@@ -4,6 +4,7 @@ ghost use mathlib.Core.List.{[]};
 ghost use Prim.Native.Nat.{_<_};
 ghost use lib.ListN.{getD, length, set};
 ghost use Rattle.row_places.specs.Figures.{cellRow, cellOf, pminAt, reactiveCellAt};
+use kilovars::KvarPrice;
 use kilovars::SignedKvar;
 use kilowatts::Kw;
 use row_places::CELL_BLOCKS;
@@ -64,8 +65,8 @@ pub fn cell_at(cells: &[CellRow], k: usize) -> Cell
     let reactive = ReactiveCell {
         qmin: SignedKvar(r[CELL_QMIN]),
         qmax: SignedKvar(r[CELL_QMAX]),
-        qru: r[CELL_QRU],
-        qrd: r[CELL_QRD],
+        qru: KvarPrice(r[CELL_QRU]),
+        qrd: KvarPrice(r[CELL_QRD]),
     };
     Cell {
         status: r[CELL_STATUS],
@@ -110,8 +111,8 @@ pub fn reactive_cell_at(cells: &[CellRow], k: usize) -> ReactiveCell
     ReactiveCell {
         qmin: SignedKvar(cells[k][CELL_QMIN]),
         qmax: SignedKvar(cells[k][CELL_QMAX]),
-        qru: cells[k][CELL_QRU],
-        qrd: cells[k][CELL_QRD],
+        qru: KvarPrice(cells[k][CELL_QRU]),
+        qrd: KvarPrice(cells[k][CELL_QRD]),
     }
 }
 
@@ -146,8 +147,8 @@ fn cell_row(c: Cell) -> CellRow
         reserves.rrdoff,
         reactive.qmin.0,
         reactive.qmax.0,
-        reactive.qru,
-        reactive.qrd,
+        reactive.qru.0,
+        reactive.qrd.0,
         floors[0].0,
         floors[1].0,
         floors[2].0,

@@ -24,6 +24,11 @@ pub const NO_KVAR: SignedKvar = SignedKvar(MOST_KVAR as u32);
 // Reactive power in thousandths of a kvar.
 pub struct Var(pub u64);
 
+// Prices, in grains per kvar·min and in grains per var·min.
+pub struct KvarPrice(pub u32);
+
+pub struct VarPrice(pub u32);
+
 fn wide(x: u32) -> u64
     ensures { λ r. ⌜ r ≡ x ⌝ }
 {
@@ -58,11 +63,11 @@ impl Kvar {
         Kvar(apart_in_32(self.0, other.0))
     }
 
-    // What it is worth each minute, at a price in grains per kvar·min.
-    pub fn at(self, price: u32) -> Rate
-        ensures { λ r. ⌜ r .0 ≡ price * self .0 ⌝ }
+    // What it is worth each minute, at a price.
+    pub fn at(self, price: KvarPrice) -> Rate
+        ensures { λ r. ⌜ r .0 ≡ price .0 * self .0 ⌝ }
     {
-        Rate(product(price, self.0))
+        Rate(product(price.0, self.0))
     }
 
     // The same reactive power.
@@ -81,11 +86,11 @@ impl Var {
         Var(above(self.0, other.0))
     }
 
-    // Over some minutes, at a price in grains per var·min.
-    pub fn priced(self, price: u32, minutes: u32) -> Grains
-        requires { ⌜ (self .0 < 2 ^ 36) × (price < 2 ^ 14) × (minutes < 2 ^ 14) ⌝ }
-        ensures { λ r. ⌜ r .0 ≡ minutes * (price * self .0) ⌝ }
+    // Over some minutes, at a price.
+    pub fn priced(self, price: VarPrice, minutes: u32) -> Grains
+        requires { ⌜ (self .0 < 2 ^ 36) × (price .0 < 2 ^ 14) × (minutes < 2 ^ 14) ⌝ }
+        ensures { λ r. ⌜ r .0 ≡ minutes * (price .0 * self .0) ⌝ }
     {
-        Grains(wide(minutes) * (wide(price) * self.0))
+        Grains(wide(minutes) * (wide(price.0) * self.0))
     }
 }

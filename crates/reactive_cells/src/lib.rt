@@ -12,6 +12,7 @@ use fields::Figure;
 use fields::Went;
 use kilovars::KVAR_BITS;
 use kilovars::KVAR_HALF;
+use kilovars::KvarPrice;
 use kilovars::MOST_KVAR;
 use kilovars::NO_KVAR;
 use kilovars::SignedKvar;
@@ -29,8 +30,8 @@ const MOST_PRICE: u32 = 10000;
 pub const NEUTRAL: ReactiveCell = ReactiveCell {
     qmin: NO_KVAR,
     qmax: NO_KVAR,
-    qru: 0,
-    qrd: 0,
+    qru: KvarPrice(0),
+    qrd: KvarPrice(0),
 };
 
 struct LimitsRead {
@@ -150,8 +151,8 @@ pub fn read_reactive(s: &[u8], p: Place, edition: u32) -> ReactiveRead
         figures: ReactiveCell {
             qmin,
             qmax,
-            qru: prices.qru,
-            qrd: prices.qrd,
+            qru: KvarPrice(prices.qru),
+            qrd: KvarPrice(prices.qrd),
         },
     }
 }

@@ -47,15 +47,15 @@ pub record HeldOf (cells settings : List (List ℕ)) (k minutes : ℕ) : Type 0 
 
 -- each of the two times its price
 abbrev pub twoCost : ReactiveCell → Reactive → ℕ
-twoCost b a = b .qru * a .qru .0 + b .qrd * a .qrd .0
+twoCost b a = b .qru .0 * a .qru .0 + b .qrd .0 * a .qrd .0
 
 pub record AmountsBelow (a : Reactive) : Type 0 where
   pub qru : a .qru .0 ≤ powerMost
   pub qrd : a .qrd .0 ≤ powerMost
 
 pub record PricesBelow (b : ReactiveCell) : Type 0 where
-  pub qru : b .qru ≤ priceMost
-  pub qrd : b .qrd ≤ priceMost
+  pub qru : b .qru .0 ≤ priceMost
+  pub qrd : b .qrd .0 ≤ priceMost
 
 module _ {cells settings : List (List ℕ)} {k minutes : ℕ} (w : HeldOf cells settings k minutes) where
   abbrev m : ℕ
@@ -126,7 +126,7 @@ none-entered cells settings k minutes {x} {h} l e f g =
 
 -- both at their prices, as the code reads them
 pub two-rate : {cells settings : List (List ℕ)} {k minutes : ℕ} → HeldOf cells settings k minutes → {b : ReactiveCell} {a : Reactive} {x y z : ℕ}
-    → b ≡ reactiveCellAt cells k → a ≡ reactiveAt settings k → x ≡ b .qru * a .qru .0 → y ≡ b .qrd * a .qrd .0 → z ≡ x + y
+    → b ≡ reactiveCellAt cells k → a ≡ reactiveAt settings k → x ≡ b .qru .0 * a .qru .0 → y ≡ b .qrd .0 * a .qrd .0 → z ≡ x + y
     → (z ≡ twoCost (reactiveCellAt cells k) (reactiveAt settings k)) × (z ≤ 2 * (priceMost * powerMost))
 two-rate w eb ea ex ey ez =
     let h = amounts-small w in
@@ -164,7 +164,7 @@ pub record ReactiveZoneOf (zone : Zone) (minutes qru qrd : ℕ) : Type 0 where
   pub down : qrd ≡ maxZero (reactiveNeed (system day) (plan day) t z C.qrd)
 
 abbrev pub shortCost : Zone → ℕ → ℕ → ℕ
-shortCost zone qru qrd = zone .qru * qru + zone .qrd * qrd
+shortCost zone qru qrd = zone .qru .0 * qru + zone .qrd .0 * qrd
 
 module _ {zone : Zone} {minutes qru qrd : ℕ} (w : ReactiveZoneOf zone minutes qru qrd) where
   abbrev need : ReactiveShortfall → ℕ
@@ -178,10 +178,10 @@ module _ {zone : Zone} {minutes qru qrd : ℕ} (w : ReactiveZoneOf zone minutes 
       let ready = w .day .unbroken .ready in
       reactive-shortfall-bound (system (w .day)) (plan (w .day)) (system-range ready) (plan-range ready) (w .day .unbroken .rules) (w .t) (w .z) k (in-zones (w .day) (w .z) (w .known))
 
-  pub up-small : (qru ≤ reactiveShortfallMost) × (zone .qru ≤ shortPriceMost)
+  pub up-small : (qru ≤ reactiveShortfallMost) × (zone .qru .0 ≤ shortPriceMost)
   up-small = (omega (arith, w .up, need-small C.qru), rw (w .is) (Ranged.zone-prices-small (w .day .unbroken .ready .case-rows) (w .z) (w .known) .reactive .qru))
 
-  pub down-small : (qrd ≤ reactiveShortfallMost) × (zone .qrd ≤ shortPriceMost)
+  pub down-small : (qrd ≤ reactiveShortfallMost) × (zone .qrd .0 ≤ shortPriceMost)
   down-small = (omega (arith, w .down, need-small C.qrd), rw (w .is) (Ranged.zone-prices-small (w .day .unbroken .ready .case-rows) (w .z) (w .known) .reactive .qrd))
 
   -- each price times its need, as the definition adds them
@@ -204,7 +204,7 @@ pub record ReactiveZoneEntered (zone : Zone) (minutes qru qrd : ℕ) (l r : Ledg
       → Entered l r (negℤ (reactiveShortfallCost (case (w .day)) (plan (w .day)) (our (case (w .day)) (plan (w .day))) (w .t) (w .z))) reactiveZoneMost
 
 pub zone-entered : (zone : Zone) (minutes qru qrd : ℕ) {l r : Ledger} {a b g : ℕ}
-    → Ledgered r (l .credit .0) (l .debit .0 + g) → (a ≡ minutes * (zone .qru * qru)) × (a ≤ shortMost) → (b ≡ minutes * (zone .qrd * qrd)) × (b ≤ shortMost) → g ≡ a + b
+    → Ledgered r (l .credit .0) (l .debit .0 + g) → (a ≡ minutes * (zone .qru .0 * qru)) × (a ≤ shortMost) → (b ≡ minutes * (zone .qrd .0 * qrd)) × (b ≤ shortMost) → g ≡ a + b
     → ReactiveZoneEntered zone minutes qru qrd l r
 zone-entered zone minutes qru qrd {a = a} {b = b} {g = g} h e f s =
     let n : g ≡ minutes * shortCost zone qru qrd = s ∙ rw (e .0, f .0) (omega arith) in

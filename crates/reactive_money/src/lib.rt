@@ -3,7 +3,9 @@ use cell_rows::reactive_cell_at;
 use grains::Grains;
 use grains::Ledger;
 use kilovars::Kvar;
+use kilovars::KvarPrice;
 use kilovars::Var;
+use kilovars::VarPrice;
 use row_places::CellRow;
 use row_places::SettingRow;
 use row_places::Zone;
@@ -37,9 +39,9 @@ pub fn reactive_reserves_money(
 }
 
 // A reactive shortfall over some minutes at its price.
-fn short_cost(x: Var, price: u32, minutes: u32) -> Grains
-    requires { ⌜ (x .0 ≤ reactiveShortfallMost) × (price ≤ shortPriceMost) × (minutes ≤ minutesMost) ⌝ }
-    ensures { λ r. ⌜ (r .0 ≡ minutes * (price * x .0)) × (r .0 ≤ shortMost) ⌝ }
+fn short_cost(x: Var, price: VarPrice, minutes: u32) -> Grains
+    requires { ⌜ (x .0 ≤ reactiveShortfallMost) × (price .0 ≤ shortPriceMost) × (minutes ≤ minutesMost) ⌝ }
+    ensures { λ r. ⌜ (r .0 ≡ minutes * (price .0 * x .0)) × (r .0 ≤ shortMost) ⌝ }
 {
     x.priced(price, minutes)
 }
@@ -59,5 +61,5 @@ pub fn reactive_mismatch_money(l: Ledger, m: Kvar, price: u32, minutes: u32) -> 
     requires { ⌜ Room 0 l × ReactiveIntervalOf price minutes (m .0) ⌝ }
     ensures { λ r. ⌜ ReactiveMismatchEntered price minutes (m .0) l r ⌝ }
 {
-    l.spend(m.at(price).over(minutes))
+    l.spend(m.at(KvarPrice(price)).over(minutes))
 }

@@ -58,7 +58,7 @@ abbrev pub reactiveLimitsIn : ReactiveCell → M.ReactiveLimits
 reactiveLimitsIn r = record { qmin = less kvarOffset (r .qmin .0); qmax = less kvarOffset (r .qmax .0) }
 
 abbrev pub reactivePricesIn : ReactiveCell → M.ReactiveReserves
-reactivePricesIn r = record { qru = r .qru; qrd = r .qrd }
+reactivePricesIn r = record { qru = r .qru .0; qrd = r .qrd .0 }
 
 -- a cell's four blocks, those absent with cap 0 and floor 0
 abbrev pub blockIn : Cell → ℕ → M.Block
@@ -115,7 +115,7 @@ sixIn l = record { rgu = getD l 0 0; rgd = getD l 1 0; scr = getD l 2 0; nsc = g
 
 -- the prices of a zone's shortfalls
 abbrev pub kindsIn : Zone → M.Kinds
-kindsIn z = record { six = sixIn (z .prices); reactive = record { qru = z .qru; qrd = z .qrd } }
+kindsIn z = record { six = sixIn (z .prices); reactive = record { qru = z .qru .0; qrd = z .qrd .0 } }
 
 abbrev pub lineIn : Line → M.Line
 lineIn l = record { offset = less kvarOffset (l .offset .0); slope = less slopeOffset (l .slope) }

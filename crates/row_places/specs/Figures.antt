@@ -12,7 +12,7 @@ use Rattle.model.specs.Editions.{mostStates, mostWindows}
 use Rattle.kilowatts.specs.declared.Kw.{Kw}
 use Rattle.grains.specs.declared.Grains.{Grains}
 use Rattle.kilowatts.specs.Power.{kw}
-use Rattle.kilovars.specs.Reactive.{kvar, signedKvar}
+use Rattle.kilovars.specs.Reactive.{kvar, signedKvar, kvarPrice, varPrice}
 use Rattle.energy.specs.Energy.{kwMin}
 use Rattle.grains.specs.Money.{grains}
 use Rattle.row_places.specs.declared.Reserves.{Reserves}
@@ -68,7 +68,7 @@ cellOf r = record {
   floors = kw (at r 24) ∷ kw (at r 25) ∷ kw (at r 26) ∷ kw (at r 27) ∷ [];
   prices = at r 8 ∷ at r 9 ∷ at r 10 ∷ at r 11 ∷ [];
   reserves = eightPrices r 12;
-  reactive = record { qmin = signedKvar (at r 20); qmax = signedKvar (at r 21); qru = at r 22; qrd = at r 23 };
+  reactive = record { qmin = signedKvar (at r 20); qmax = signedKvar (at r 21); qru = kvarPrice (at r 22); qrd = kvarPrice (at r 23) };
 }
 
 abbrev pub reactiveOf : List ℕ → Reactive
@@ -145,7 +145,7 @@ abbrev pub deviceOf : List ℕ → Device
 deviceOf r = deviceWith r (grains (at r 12)) (grains (at r 13)) (limitsOf r) (at r statesFrom) (statesOf r) (at r startsFrom) (startsOf r) (at r energiesFrom) (energiesOf r)
 
 abbrev pub zoneOf : List ℕ → Zone
-zoneOf r = record { rgu = at r 0; rgd = at r 1; scr = at r 2; nsc = at r 3; prices = at r 4 ∷ at r 5 ∷ at r 6 ∷ at r 7 ∷ at r 8 ∷ at r 9 ∷ []; qru = at r 10; qrd = at r 11 }
+zoneOf r = record { rgu = at r 0; rgd = at r 1; scr = at r 2; nsc = at r 3; prices = at r 4 ∷ at r 5 ∷ at r 6 ∷ at r 7 ∷ at r 8 ∷ at r 9 ∷ []; qru = varPrice (at r 10); qrd = varPrice (at r 11) }
 
 abbrev pub minimaOf : List ℕ → Minima
 minimaOf r = record { rru = kw (at r 0); rrd = kw (at r 1); qru = kvar (at r 2); qrd = kvar (at r 3) }
@@ -160,7 +160,7 @@ cellRow c =
     c .status ∷ c .pmin .0 ∷ c .pmax .0 ∷ c .blocks ∷ kwAt (c .caps) 0 ∷ kwAt (c .caps) 1 ∷ kwAt (c .caps) 2 ∷ kwAt (c .caps) 3
     ∷ at (c .prices) 0 ∷ at (c .prices) 1 ∷ at (c .prices) 2 ∷ at (c .prices) 3
     ∷ c .reserves .rgu ∷ c .reserves .rgd ∷ c .reserves .scr ∷ c .reserves .nsc ∷ c .reserves .rruon ∷ c .reserves .rruoff ∷ c .reserves .rrdon ∷ c .reserves .rrdoff
-    ∷ c .reactive .qmin .0 ∷ c .reactive .qmax .0 ∷ c .reactive .qru ∷ c .reactive .qrd
+    ∷ c .reactive .qmin .0 ∷ c .reactive .qmax .0 ∷ c .reactive .qru .0 ∷ c .reactive .qrd .0
     ∷ kwAt (c .floors) 0 ∷ kwAt (c .floors) 1 ∷ kwAt (c .floors) 2 ∷ kwAt (c .floors) 3 ∷ []
 
 abbrev pub settingRow : Setting → List ℕ
@@ -235,7 +235,7 @@ device-row-is d e f g h i j k l = cc
 abbrev pub zoneRow : Zone → List ℕ
 zoneRow z =
     z .rgu ∷ z .rgd ∷ z .scr ∷ z .nsc
-    ∷ at (z .prices) 0 ∷ at (z .prices) 1 ∷ at (z .prices) 2 ∷ at (z .prices) 3 ∷ at (z .prices) 4 ∷ at (z .prices) 5 ∷ z .qru ∷ z .qrd ∷ []
+    ∷ at (z .prices) 0 ∷ at (z .prices) 1 ∷ at (z .prices) 2 ∷ at (z .prices) 3 ∷ at (z .prices) 4 ∷ at (z .prices) 5 ∷ z .qru .0 ∷ z .qrd .0 ∷ []
 
 abbrev pub minimaRow : Minima → List ℕ
 minimaRow x = x .rru .0 ∷ x .rrd .0 ∷ x .qru .0 ∷ x .qrd .0 ∷ []

@@ -4,7 +4,9 @@
 use energy::KwMin;
 use grains::Grains;
 use kilovars::Kvar;
+use kilovars::KvarPrice;
 use kilovars::SignedKvar;
+use kilovars::VarPrice;
 use kilowatts::Kw;
 
 // A device in one interval: status, pmin, pmax, count of blocks, four caps, four prices kept from −10,000, the prices of the eight; then qmin and qmax, kept
@@ -257,12 +259,12 @@ pub struct ReservePrices {
     pub rrdoff: u32,
 }
 
-// What a device has of reactive power in one interval: "qmin and qmax in kvar"; the prices of the two reserves, in grains per kvar·min.
+// What a device has of reactive power in one interval: "qmin and qmax in kvar"; the prices of the two reserves.
 pub struct ReactiveCell {
     pub qmin: SignedKvar,
     pub qmax: SignedKvar,
-    pub qru: u32,
-    pub qrd: u32,
+    pub qru: KvarPrice,
+    pub qrd: KvarPrice,
 }
 
 // A device in one interval. Block prices are kept from 0: the price and 10,000. Absent blocks have cap 0 and floor 0.
@@ -350,15 +352,15 @@ pub struct Device {
     pub link: Link,
 }
 
-// Shares in thousandths; prices of the six shortfalls in grains per W·min, of the two of reactive reserves in grains per var·min.
+// Shares in thousandths; prices of the six shortfalls in grains per W·min, then of the two of reactive reserves.
 pub struct Zone {
     pub rgu: u32,
     pub rgd: u32,
     pub scr: u32,
     pub nsc: u32,
     pub prices: [u32; 6],
-    pub qru: u32,
-    pub qrd: u32,
+    pub qru: VarPrice,
+    pub qrd: VarPrice,
 }
 
 pub struct Minima {

@@ -1,6 +1,7 @@
 // A zone of a case: its shares and prices by value, its minima in its part of the table. What edition 2 added to it is read by `reactive_zones`.
 use fields::Went;
 use kilovars::Kvar;
+use kilovars::VarPrice;
 use kilowatts::Kw;
 use layouts::Place;
 use reactive_zones::NEUTRAL_PRICE;
@@ -57,8 +58,8 @@ fn zone_of(shares: [u32; 4], prices: [u32; 6]) -> Zone
         scr: shares[2],
         nsc: shares[3],
         prices,
-        qru: NEUTRAL_PRICE,
-        qrd: NEUTRAL_PRICE,
+        qru: VarPrice(NEUTRAL_PRICE),
+        qrd: VarPrice(NEUTRAL_PRICE),
     }
 }
 
@@ -73,8 +74,8 @@ fn zone_with(z: Zone, qru: u32, qrd: u32) -> Zone
         scr: z.scr,
         nsc: z.nsc,
         prices,
-        qru,
-        qrd,
+        qru: VarPrice(qru),
+        qrd: VarPrice(qrd),
     }
 }
 

@@ -5,6 +5,7 @@ ghost use Prim.Native.Nat.{_<_};
 ghost use lib.ListN.{getD, length, set};
 ghost use Rattle.row_places.specs.Figures.{zoneRow, minimaRow, zoneOf, minimaOf};
 use kilovars::Kvar;
+use kilovars::VarPrice;
 use kilowatts::Kw;
 use row_places::MINIMA_QRD;
 use row_places::MINIMA_QRU;
@@ -45,8 +46,8 @@ pub fn zone_at(zones: &[ZoneRow], z: usize) -> Zone
             r[ZONE_RRU_PRICE],
             r[ZONE_RRD_PRICE],
         ],
-        qru: r[ZONE_QRU_PRICE],
-        qrd: r[ZONE_QRD_PRICE],
+        qru: VarPrice(r[ZONE_QRU_PRICE]),
+        qrd: VarPrice(r[ZONE_QRD_PRICE]),
     }
 }
 
@@ -78,8 +79,8 @@ fn zone_row(z: Zone) -> ZoneRow
         prices[3],
         prices[4],
         prices[5],
-        z.qru,
-        z.qrd,
+        z.qru.0,
+        z.qrd.0,
     ]
 }
 

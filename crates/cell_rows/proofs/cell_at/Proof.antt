@@ -21,56 +21,56 @@ array-read-t15 c = search needs
 array-read-t19 : tie.Need-array-read-t19
 array-read-t19 c = search needs
 
-array-read-t22 : tie.Need-array-read-t22
-array-read-t22 c = search needs
+array-read-t23 : tie.Need-array-read-t23
+array-read-t23 c = search needs
 
 array-read-t11-2 : tie.Need-array-read-t11-2
 array-read-t11-2 c = search needs
 
-array-read-t22-2 : tie.Need-array-read-t22-2
-array-read-t22-2 c = search needs
+array-read-t15-2 : tie.Need-array-read-t15-2
+array-read-t15-2 c = search needs
+
+array-read-t23-2 : tie.Need-array-read-t23-2
+array-read-t23-2 c = search needs
 
 array-read-t19-2 : tie.Need-array-read-t19-2
 array-read-t19-2 c = search needs
 
-array-read-t15-2 : tie.Need-array-read-t15-2
-array-read-t15-2 c = search needs
+array-read-t37 : tie.Need-array-read-t37
+array-read-t37 c = search needs
 
-array-read-t35 : tie.Need-array-read-t35
-array-read-t35 c = search needs
+array-read-t41 : tie.Need-array-read-t41
+array-read-t41 c = search needs
 
-array-read-t39 : tie.Need-array-read-t39
-array-read-t39 c = search needs
+array-read-t45 : tie.Need-array-read-t45
+array-read-t45 c = search needs
 
-array-read-t43 : tie.Need-array-read-t43
-array-read-t43 c = search needs
+array-read-t49 : tie.Need-array-read-t49
+array-read-t49 c = search needs
 
-array-read-t47 : tie.Need-array-read-t47
-array-read-t47 c = search needs
+array-read-t54 : tie.Need-array-read-t54
+array-read-t54 c = search needs
 
-array-read-t52 : tie.Need-array-read-t52
-array-read-t52 c = search needs
+array-read-t58 : tie.Need-array-read-t58
+array-read-t58 c = search needs
 
-array-read-t56 : tie.Need-array-read-t56
-array-read-t56 c = search needs
+array-read-t62 : tie.Need-array-read-t62
+array-read-t62 c = search needs
 
-array-read-t60 : tie.Need-array-read-t60
-array-read-t60 c = search needs
+array-read-t66 : tie.Need-array-read-t66
+array-read-t66 c = search needs
 
-array-read-t64 : tie.Need-array-read-t64
-array-read-t64 c = search needs
+array-read-t71 : tie.Need-array-read-t71
+array-read-t71 c = search needs
 
-array-read-t69 : tie.Need-array-read-t69
-array-read-t69 c = search needs
+array-read-t74 : tie.Need-array-read-t74
+array-read-t74 c = search needs
 
-array-read-t72 : tie.Need-array-read-t72
-array-read-t72 c = search needs
+array-read-t77 : tie.Need-array-read-t77
+array-read-t77 c = search needs
 
-array-read-t75 : tie.Need-array-read-t75
-array-read-t75 c = search needs
-
-array-read-t78 : tie.Need-array-read-t78
-array-read-t78 c = search needs
+array-read-t80 : tie.Need-array-read-t80
+array-read-t80 c = search needs
 
 returns : tie.Need-returns
 returns c = search cell-made
@@ -85,21 +85,21 @@ cell-at-spec =
     array-read-t11
     array-read-t15
     array-read-t19
-    array-read-t22
+    array-read-t23
     array-read-t11-2
-    array-read-t22-2
-    array-read-t19-2
     array-read-t15-2
-    array-read-t35
-    array-read-t39
-    array-read-t43
-    array-read-t47
-    array-read-t52
-    array-read-t56
-    array-read-t60
-    array-read-t64
-    array-read-t69
-    array-read-t72
-    array-read-t75
-    array-read-t78
+    array-read-t23-2
+    array-read-t19-2
+    array-read-t37
+    array-read-t41
+    array-read-t45
+    array-read-t49
+    array-read-t54
+    array-read-t58
+    array-read-t62
+    array-read-t66
+    array-read-t71
+    array-read-t74
+    array-read-t77
+    array-read-t80
     returns)

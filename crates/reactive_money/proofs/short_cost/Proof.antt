@@ -8,7 +8,7 @@ priced-requires : tie.Need-priced-requires
 priced-requires c κs = search needs
 
 returns : tie.Need-returns
-returns c = let a : _ = c .before .args in (c .priced .ensures, short-small (a .minutes) (a .price) (a .x .0) (c .before .pre .2) (c .before .pre .1) (c .before .pre .0) (c .priced .ensures))
+returns c = let a : _ = c .before .args in (c .priced .ensures, short-small (a .minutes) (a .price .0) (a .x .0) (c .before .pre .2) (c .before .pre .1) (c .before .pre .0) (c .priced .ensures))
 
 pub short-cost-spec : {M : Type 1} → statement M
 short-cost-spec = tie.close (tie.spec priced-requires returns)
