@@ -99,7 +99,7 @@ fn stops_above(
     n
 }
 
-// "overlapping curves count each"
+// Overlapping curves count each.
 fn all_of(on: u32, rising: u32, falling: u32) -> u32
     requires { ⌜ (on ≤ 1) × (rising ≤ mostIntervals) × (falling ≤ mostIntervals) ⌝ }
     ensures { λ n. ⌜ n ≡ on + rising + falling ⌝ }
