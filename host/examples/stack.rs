@@ -1,15 +1,15 @@
-//! The smallest stack, in steps of 4 KB, in which a thread judges a batch's first plan: `stack BATCH`.
-//! Each size is tried in a process of its own, which ends by a signal where the stack is too small.
+//! The smallest stack, in steps of 4 KB, in which a thread judges a batch's first plan, which is
+//! accepted, and lists its breaches: `stack BATCH`. Each size is tried in a process of its own, which
+//! ends by a signal where the stack is too small.
 
 use std::env;
 use std::fs;
 use std::process::{Command, ExitCode, Stdio};
 use std::thread;
 
-use host::judge;
-use reference::batch::messages;
+use host::{breaches, judge, messages, LONGEST_COMPLETION};
 
-const LARGEST: usize = 1024;
+const LARGEST: usize = 1536;
 
 fn main() -> ExitCode {
     let words: Vec<String> = env::args().skip(1).collect();
@@ -43,17 +43,23 @@ fn search(batch: &str) -> ExitCode {
 
 fn attempt(batch: &str, kilobytes: usize) -> ExitCode {
     let bytes = fs::read(batch).expect("a batch");
-    let [case, plan, ..] = messages(&bytes)[..] else {
-        panic!("a batch of a case and a plan");
-    };
-    let (case, plan) = (case.to_vec(), plan.to_vec());
-    let mut result = vec![0; 65_536];
+    let mut messages = messages(&bytes).map(|message| message.expect("a message").to_vec());
+    let (case, plan) = messages
+        .next()
+        .zip(messages.next())
+        .expect("a case and a plan");
+    let mut result = vec![0; LONGEST_COMPLETION];
     let judging = thread::Builder::new()
         .stack_size(kilobytes * 1024)
-        .spawn(move || judge(&case, &plan, &mut result).word)
+        .spawn(move || {
+            [
+                judge(&case, &plan, &mut result),
+                breaches(&case, &plan, &mut []),
+            ]
+        })
         .expect("a thread");
     match judging.join() {
-        Ok(0) => ExitCode::SUCCESS,
+        Ok(told) if told.iter().all(|told| told.word == 0) => ExitCode::SUCCESS,
         _ => ExitCode::FAILURE,
     }
 }

@@ -1,5 +1,6 @@
 /* The plan unit for hosts in C. A slice is a pointer and then a length; no two slices of a call overlap.
-   Cases of editions 1 to 3 are judged, with plans of their own edition; a completion has its case's. */
+   Cases of editions 1 to 4 are judged, with plans of their own edition; a completion has its case's. A case has up
+   to 64 devices and 96 intervals in edition 4, up to 16 and 48 in editions 1 to 3. */
 #ifndef KADUNFO_H
 #define KADUNFO_H
 
@@ -7,22 +8,32 @@
 #include <stdint.h>
 
 enum kadunfo_word {
-    KADUNFO_ACCEPTED = 0,       /* figures: surplus in two's complement */
-    KADUNFO_LISTED = 0,         /* the same word from kadunfo_breaches; figures: number of breaches, 0, 0, 0 */
-    KADUNFO_BROKEN = 1,         /* figures: rule, interval, device, window */
-    KADUNFO_CASE_REFUSED = 2,   /* figures: number, bit */
-    KADUNFO_PLAN_REFUSED = 3,   /* figures: number, bit */
-    KADUNFO_RESULT_REFUSED = 4, /* result or list is too short; figures: 7, bytes needed */
-    KADUNFO_FIGURES_SHORT = 5   /* figures has fewer than four places; nothing was done */
+    KADUNFO_ACCEPTED = 0,        /* figures: surplus in two's complement */
+    KADUNFO_LISTED = 0,          /* the same word from kadunfo_breaches; figures: number of breaches, 0, 0, 0 */
+    KADUNFO_MESSAGE = 0,         /* the same word from kadunfo_split; figures: from, until, 0, 0 */
+    KADUNFO_BROKEN = 1,          /* figures: rule, interval, device, window */
+    KADUNFO_END = 1,             /* the same word from kadunfo_split; figures: 0, 0, 0, 0 */
+    KADUNFO_CASE_REFUSED = 2,    /* figures: number, bit */
+    KADUNFO_FRAMING_REFUSED = 2, /* the same word from kadunfo_split; figures: number, bit, 0, 0 */
+    KADUNFO_PLAN_REFUSED = 3,    /* figures: number, bit */
+    KADUNFO_RESULT_REFUSED = 4,  /* result or list is too short; figures: 7, bytes needed */
+    KADUNFO_FIGURES_SHORT = 5    /* figures has fewer than four places; nothing was done */
 };
 
-/* Bytes that hold every list of breaches: four for each of 25 rules of 16 devices in 48 intervals, and of 4 windows
+/* Bytes that hold every list of breaches: four for each of 25 rules of 64 devices in 96 intervals, and of 4 windows
    of each device. */
-#define KADUNFO_LONGEST_LIST 77056 /* 4 * (16 * 48 * 25 + 16 * 4) */
+#define KADUNFO_LONGEST_LIST 615424 /* 4 * (64 * 96 * 25 + 64 * 4) */
 
-/* Bytes that hold every completion: that of edition 2 or 3 with 16 devices, 48 intervals, 4 zones and 4 energy
-   windows of each device. */
-#define KADUNFO_LONGEST_COMPLETION 13887
+/* Bytes that hold every completion: that of edition 4 with 64 devices, 96 intervals, 4 zones and 4 energy windows
+   of each device. */
+#define KADUNFO_LONGEST_COMPLETION 70324
+
+/* The most bytes of a message in a batch. */
+#define KADUNFO_LONGEST_MESSAGE 1048576
+
+/* Bytes of stack that a call takes at most. It fits a thread as glibc (8 MB) and Rust (2 MB) make it unless told
+   otherwise; a thread with a smaller stack needs to be given this much. */
+#define KADUNFO_STACK 1500000
 
 /* Judges one plan against one case. Only acceptance writes to result: the completion's bytes, the rest
    stays. A completion never needs more than KADUNFO_LONGEST_COMPLETION bytes. */
@@ -42,5 +53,12 @@ uint64_t kadunfo_breaches(const uint8_t *kase, size_t case_length,
 /* A case's devices, intervals and zones (word 0), or its refusal (word 2: number, bit). */
 uint64_t kadunfo_inspect(const uint8_t *kase, size_t case_length,
                          uint64_t *figures, size_t figures_length);
+
+/* The message whose 24-bit length starts at byte `at` of a batch. KADUNFO_MESSAGE: it stands in the bytes from..until
+   of the batch, and the next length starts at until. KADUNFO_END: no byte is left at `at`, or it is past the batch.
+   KADUNFO_FRAMING_REFUSED, at bit 8 * at: number 1 where the length is cut short, 4 where it is above
+   KADUNFO_LONGEST_MESSAGE, 1 where the message is cut short, tested in that sequence. */
+uint64_t kadunfo_split(const uint8_t *batch, size_t batch_length, uint64_t at,
+                       uint64_t *figures, size_t figures_length);
 
 #endif

@@ -5,8 +5,11 @@ mod comparison;
 pub mod day;
 pub mod describe;
 pub mod explain;
+mod frames;
 pub mod message;
 mod reactive;
+
+pub use frames::{messages, Fault, Messages};
 
 extern "C" {
     fn kadunfo_judge(
@@ -35,6 +38,13 @@ extern "C" {
         figures: *mut u64,
         figures_length: usize,
     ) -> u64;
+    fn kadunfo_split(
+        batch: *const u8,
+        batch_length: usize,
+        at: u64,
+        figures: *mut u64,
+        figures_length: usize,
+    ) -> u64;
 }
 
 /// The words of the header.
@@ -44,20 +54,32 @@ pub mod word {
     pub const LISTED: u64 = 0;
     /// The same word from `inspect`; the header has no name of its own for it.
     pub const INSPECTED: u64 = 0;
+    /// The same word from `split`.
+    pub const MESSAGE: u64 = 0;
     pub const BROKEN: u64 = 1;
+    /// The same word from `split`.
+    pub const END: u64 = 1;
     pub const CASE_REFUSED: u64 = 2;
+    /// The same word from `split`.
+    pub const FRAMING_REFUSED: u64 = 2;
     pub const PLAN_REFUSED: u64 = 3;
     pub const RESULT_REFUSED: u64 = 4;
     pub const FIGURES_SHORT: u64 = 5;
 }
 
-/// Bytes that hold every list of breaches: four for each of 25 rules of 16 devices in 48 intervals,
-/// and of 4 windows of each device.
-pub const LONGEST_LIST: usize = 4 * (16 * 48 * 25 + 16 * 4);
+/// The most bytes of a message in a batch.
+pub const LONGEST_MESSAGE: usize = 1_048_576;
 
-/// Bytes that hold every completion: that of edition 2 or 3 with 16 devices, 48 intervals, 4 zones
-/// and 4 energy windows of each device.
-pub const LONGEST_COMPLETION: usize = 13_887;
+/// Bytes that hold every list of breaches: four for each of 25 rules of 64 devices in 96 intervals,
+/// and of 4 windows of each device.
+pub const LONGEST_LIST: usize = 4 * (64 * 96 * 25 + 64 * 4);
+
+/// Bytes that hold every completion: that of edition 4 with 64 devices, 96 intervals, 4 zones and 4
+/// energy windows of each device.
+pub const LONGEST_COMPLETION: usize = 70_324;
+
+/// Bytes of stack that a call takes at most; a thread has 2 MB of it unless told otherwise.
+pub const STACK: usize = 1_500_000;
 
 /// A word and four numbers, as the header lists them.
 #[derive(Clone, Copy, PartialEq, Eq, Debug)]
@@ -115,6 +137,23 @@ pub fn inspect(case: &[u8]) -> Told {
         kadunfo_inspect(
             case.as_ptr(),
             case.len(),
+            figures.as_mut_ptr(),
+            figures.len(),
+        )
+    };
+    Told { word, figures }
+}
+
+/// The message behind the length at byte `at` of a batch, by the bytes from and until which it
+/// stands; the end; or the refusal of the length.
+pub fn split(batch: &[u8], at: u64) -> Told {
+    let mut figures = [0u64; 4];
+    // SAFETY: as above.
+    let word = unsafe {
+        kadunfo_split(
+            batch.as_ptr(),
+            batch.len(),
+            at,
             figures.as_mut_ptr(),
             figures.len(),
         )

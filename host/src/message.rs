@@ -7,11 +7,13 @@
 const CASE: i64 = 1;
 const PLAN: i64 = 2;
 /// The newest edition whose fields stand here.
-const NEWEST_EDITION: i64 = 3;
+const NEWEST_EDITION: i64 = 4;
 /// The edition that brought reactive power.
 const REACTIVE: i64 = 2;
 /// The edition that brought floors.
 const FLOORS: i64 = 3;
+/// The edition that brought larger days.
+const LARGER: i64 = 4;
 
 const COUNT: usize = 3;
 const POWER: usize = 17;
@@ -267,9 +269,18 @@ impl<'a> Fields<'a> {
         self.list(8, |fields| fields.take(POWER))?.try_into().ok()
     }
 
+    /// A width of the edition, before larger days and since.
+    fn width(&self, before: usize, since: usize) -> usize {
+        if self.edition < LARGER {
+            before
+        } else {
+            since
+        }
+    }
+
     /// The counts of devices and intervals.
     fn counts(&mut self) -> Option<(usize, usize)> {
-        Some((self.count(5)?, self.count(6)?))
+        Some((self.count(self.width(5, 7))?, self.count(self.width(6, 7))?))
     }
 
     fn list<T>(
@@ -370,7 +381,7 @@ fn read_start_windows(fields: &mut Fields) -> Option<Vec<StartWindow>> {
         Some(StartWindow {
             start: fields.take(MINUTES)?,
             end: fields.take(MINUTES)?,
-            most_starts: fields.take(6)?,
+            most_starts: fields.take(fields.width(6, 7))?,
         })
     })
 }

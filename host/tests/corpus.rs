@@ -1,13 +1,20 @@
-//! The corpus through the static library, beside the reference: every verdict and every completion's
-//! bytes, every list of breaches, and the rest of the buffers.
+//! The corpora through the static library, beside the reference: every verdict and every
+//! completion's bytes, every list of breaches, the rest of the buffers, and every split.
 
 mod common;
+#[path = "../examples/packed/lines.rs"]
+mod lines;
 
-use common::{each_batch, each_pair};
-use host::{breaches, inspect, judge, word, Told, LONGEST_COMPLETION, LONGEST_LIST};
+use std::fs;
+
+use common::{each_batch, each_case, each_pair};
+use host::{breaches, inspect, judge, split, word, Told, LONGEST_COMPLETION, LONGEST_LIST};
+use reference::batch::{split as expected_split, Split};
 use reference::breaches::breaches as expected_list;
 use reference::case::read_case;
+use reference::form::Form;
 use reference::judge::{judge as expected, Refusal, Verdict};
+use reference::packed::unpack;
 
 /// Longer than any completion, so that bytes behind it are seen to stay.
 const ROOM: usize = LONGEST_COMPLETION + 3;
@@ -58,7 +65,7 @@ fn agree(case: &[u8], plan: &[u8], room: usize) -> Told {
 #[test]
 fn corpus_agrees_in_every_verdict_and_byte() {
     let (mut pairs, mut accepted, mut short) = (0u32, 0u32, 0u32);
-    each_batch(|case, plans| {
+    each_case(|case, plans| {
         let counts = inspect(case);
         match read_case(case) {
             Ok((_, read)) => {
@@ -124,12 +131,12 @@ fn corpus_agrees_in_every_list() {
     each_pair(|case, plan| {
         let (answer, list) = agree_in_list(case, plan, LONGEST_LIST);
         if answer.word != word::LISTED {
-            assert_eq!(answer, judge(case, plan, &mut [0; ROOM]));
+            assert_eq!(answer, judge(case, plan, &mut vec![0; ROOM]));
             refused += 1;
         } else if answer.figures[0] == 0 {
             // An empty list fits where there is no room at all.
             assert_eq!(agree_in_list(case, plan, 0).0.word, word::LISTED);
-            assert_eq!(judge(case, plan, &mut [0; ROOM]).word, word::ACCEPTED);
+            assert_eq!(judge(case, plan, &mut vec![0; ROOM]).word, word::ACCEPTED);
             none += 1;
         } else {
             let length = 4 * answer.figures[0] as usize;
@@ -140,5 +147,60 @@ fn corpus_agrees_in_every_list() {
     });
     println!("{none} without a breach, {listed} with, {refused} refused; longest {longest} bytes");
     assert!(none > 500 && listed > 1_000 && refused > 500);
-    assert!(longest > 50_000 && longest <= LONGEST_LIST);
+    assert!(longest > 500_000 && longest <= LONGEST_LIST);
+}
+
+/// The larger days as the output beside them has them, line for line.
+#[test]
+fn larger_days_agree_in_every_line() {
+    let path = concat!(env!("CARGO_MANIFEST_DIR"), "/corpus");
+    let [stream, expected] = ["stdin", "stdout"]
+        .map(|name| fs::read(format!("{path}/{name}")).expect("it is committed"));
+    let batches = unpack(&stream).expect("a packed stream");
+    let output: String = (0..)
+        .zip(batches)
+        .map(|(number, batch)| lines::of_batch(number, batch))
+        .collect();
+    let expected = String::from_utf8(expected).expect("text");
+    for (line, expected) in output.lines().zip(expected.lines()) {
+        assert_eq!(line, expected);
+    }
+    assert_eq!(output.len(), expected.len());
+}
+
+/// Both splitters at one place of a batch: one answer, and the place behind a message.
+fn agree_in_split(batch: &[u8], at: usize) -> Option<usize> {
+    let (word, figures, behind) = match expected_split(Form::HOST, batch, at) {
+        Split::End => (word::END, [0; 2], None),
+        Split::Message { message, next } => {
+            let bounds = [(next - message.len()) as u64, next as u64];
+            (word::MESSAGE, bounds, Some(next))
+        }
+        Split::Refused(fault) => {
+            let figures = [u64::from(fault.number.figure()), fault.bit as u64];
+            (word::FRAMING_REFUSED, figures, None)
+        }
+    };
+    let [first, second] = figures;
+    let expected = Told {
+        word,
+        figures: [first, second, 0, 0],
+    };
+    assert_eq!(split(batch, at as u64), expected);
+    behind
+}
+
+#[test]
+fn corpus_agrees_in_every_split() {
+    let (mut batches, mut split) = (0, 0);
+    each_batch(|batch| {
+        let mut at = 0;
+        while let Some(behind) = agree_in_split(batch, at) {
+            at = behind;
+            split += 1;
+        }
+        batches += 1;
+    });
+    println!("{batches} batches, {split} messages");
+    assert!(batches > 1_500 && split > 5_000);
 }

@@ -10,12 +10,13 @@ use std::process::Command;
 use common::each_pair;
 use reference::breaches::breaches_of;
 use reference::case::{
-    read_case, Link, LinkLine, ReactiveReserves, Reserves, StartWindow, Status, Zone,
+    read_case, Device, Link, LinkLine, ReactiveReserves, Reserves, Side, StartWindow, Status,
+    Terms, Zone,
 };
 use reference::edition::Edition;
 use reference::judge::judge;
 use reference::plan::{read_plan, Setting};
-use reference::worked_day::{floor_days, lettered_days, reactive_days, two_set_day, Day};
+use reference::worked_day::{floor_days, lettered_days, reactive_days, two_set_day, Day, ToldDay};
 
 /// What a run left: text of both outputs, exit status.
 #[derive(Debug)]
@@ -111,43 +112,84 @@ fn judge_prints_the_verdict() {
     }
 }
 
+/// The verdicts of told days, in their order.
+fn hold_verdicts(test: &str, days: &[ToldDay], verdicts: &[&str]) {
+    let scratch = Scratch::new(test);
+    assert_eq!(days.len(), verdicts.len());
+    for ((about, day), verdict) in days.iter().zip(verdicts) {
+        let [case, plan] = scratch.day(day);
+        let status = i32::from(verdict.starts_with("broken"));
+        let line = format!("{verdict}\n");
+        assert_eq!(answer(&["judge", &case, &plan], status), line, "{about}");
+    }
+}
+
 /// The days of edition 2 that were worked by hand, in their order.
 #[test]
 fn judge_prints_the_verdict_in_edition_2() {
-    let scratch = Scratch::new("judge-2");
     let verdicts = [
-        "accepted 107860\n",
-        "accepted 167860\n",
-        "broken 21 1 2 0\n",
-        "accepted 107440\n",
-        "accepted -372560\n",
-        "accepted 164920\n",
-        "broken 23 2 1 0\n",
-        "broken 23 2 1 0\n",
-        "accepted 165580\n",
-        "broken 25 1 1 0\n",
+        "accepted 107860",
+        "accepted 167860",
+        "broken 21 1 2 0",
+        "accepted 107440",
+        "accepted -372560",
+        "accepted 164920",
+        "broken 23 2 1 0",
+        "broken 23 2 1 0",
+        "accepted 165580",
+        "broken 25 1 1 0",
     ];
-    let days = reactive_days();
-    assert_eq!(days.len(), verdicts.len());
-    for ((about, day), line) in days.iter().zip(verdicts) {
-        let [case, plan] = scratch.day(day);
-        let status = i32::from(line.starts_with("broken"));
-        assert_eq!(answer(&["judge", &case, &plan], status), line, "{about}");
-    }
+    hold_verdicts("judge-2", &reactive_days(), &verdicts);
 }
 
 /// The days of edition 3 that were worked by hand, in their order.
 #[test]
 fn judge_prints_the_verdict_in_edition_3() {
-    let scratch = Scratch::new("judge-3");
-    let verdicts = ["accepted 164260\n", "broken 19 2 1 0\n"];
-    let days = floor_days();
-    assert_eq!(days.len(), verdicts.len());
-    for ((about, day), line) in days.iter().zip(verdicts) {
-        let [case, plan] = scratch.day(day);
-        let status = i32::from(line.starts_with("broken"));
-        assert_eq!(answer(&["judge", &case, &plan], status), line, "{about}");
+    let verdicts = ["accepted 164260", "broken 19 2 1 0"];
+    hold_verdicts("judge-3", &floor_days(), &verdicts);
+}
+
+/// The worked day as the last two of 64 devices in the last two of 96 intervals. Before them the load
+/// is on at 0 kW; all else is off all day.
+fn large_day() -> Day {
+    let mut day = in_edition(Edition::Four, two_set_day());
+    let intervals = 96;
+    day.case.durations = vec![60; intervals];
+    for device in &mut day.case.devices {
+        device.terms = vec![device.terms[0].clone(); intervals];
     }
+    let idle = Device::plain(Side::Producing, vec![Terms::default(); intervals]);
+    let idle = vec![idle; 64 - day.case.devices.len()];
+    day.case.devices = [idle, day.case.devices].concat();
+    let off = Setting::default();
+    let quiet = vec![off, Setting { on: true, ..off }];
+    let quiet = vec![quiet; intervals - day.plan.intervals.len()];
+    day.plan.intervals = [quiet, day.plan.intervals].concat();
+    for row in &mut day.plan.intervals {
+        *row = [vec![off; 64 - row.len()], row.clone()].concat();
+    }
+    day
+}
+
+fn in_edition(edition: Edition, day: Day) -> Day {
+    Day { edition, ..day }
+}
+
+/// The worked day; the large one, where device 63 starts after 600 and 5,700 minutes off, longer than
+/// any state lasts: 216,000 of load, less 5,400 and 33,000 of blocks, 240 while on and 10,000 of the
+/// start.
+#[test]
+fn judge_prints_the_verdict_in_edition_4() {
+    let worked = in_edition(Edition::Four, two_set_day());
+    let mut broken = large_day();
+    broken.plan.intervals[95][62].online_power = 151;
+    let days = [
+        ("the worked day", worked),
+        ("the large day", large_day()),
+        ("the large day with 151 kW at its start", broken),
+    ];
+    let verdicts = ["accepted 167860", "accepted 167360", "broken 5 96 63 0"];
+    hold_verdicts("judge-4", &days, &verdicts);
 }
 
 /// The completion that `judge` writes to a file is the reference's, of so many bytes.
@@ -161,8 +203,8 @@ fn hold_completion(scratch: &Scratch, day: &Day, bytes: usize) {
     assert_eq!(fs::read(&result).expect("a completion"), expected);
 }
 
-/// A header of 22 bits; in each interval 73 for a device, 198 for a zone and 23, from edition 2 on 66
-/// for a zone and 23 more; 64 of surplus.
+/// A header of 22 bits, from edition 4 on 25; in each interval 73 for a device, 198 for a zone and 23,
+/// from edition 2 on 66 for a zone and 23 more; 64 of surplus.
 #[test]
 fn judge_writes_the_completion_of_an_accepted_plan_alone() {
     let scratch = Scratch::new("result");
@@ -171,6 +213,7 @@ fn judge_writes_the_completion_of_an_accepted_plan_alone() {
     hold_completion(&scratch, &reactive_days()[0].1, 59);
     hold_completion(&scratch, &reactive_days()[4].1, 125);
     hold_completion(&scratch, &floor_days()[0].1, 59);
+    hold_completion(&scratch, &large_day(), 56_628);
     let [case, plan] = scratch.day(&lettered('b'));
     let other = scratch.path("other");
     answer(&["judge", "--result", &other, &case, &plan], 1);
@@ -197,7 +240,8 @@ fn lines_after(test: &str, change: impl Fn(&mut Day)) -> Vec<String> {
 
 #[test]
 fn no_breaches_of_an_accepted_plan() {
-    let later = [reactive_days()[4].1.clone(), floor_days()[0].1.clone()];
+    let reactive = reactive_days()[4].1.clone();
+    let later = [reactive, floor_days()[0].1.clone(), large_day()];
     for day in [two_set_day()].into_iter().chain(later) {
         let [case, plan] = Scratch::new("none").day(&day);
         assert_eq!(answer(&["breaches", &case, &plan], 0), "no breaches\n");
@@ -373,10 +417,7 @@ fn a_startup_in_words() {
 
 /// The worked day in edition 3.
 fn floored_day() -> Day {
-    Day {
-        edition: Edition::Three,
-        ..two_set_day()
-    }
+    in_edition(Edition::Three, two_set_day())
 }
 
 /// 150 kW of device 1 below floors of 71 and 80; 30 kW of device 2 below one of 31, then 150 kW
@@ -424,10 +465,7 @@ fn floors_and_trajectories_in_words() {
 
 /// The worked day in edition 2, with limits of −9 and 11 kvar on both devices.
 fn reactive_day() -> Day {
-    let mut day = Day {
-        edition: Edition::Two,
-        ..two_set_day()
-    };
+    let mut day = in_edition(Edition::Two, two_set_day());
     for device in &mut day.case.devices {
         for terms in &mut device.terms {
             (terms.qmin, terms.qmax) = (-9, 11);
@@ -565,6 +603,29 @@ fn reserves_beside_an_equality_in_words() {
     assert_eq!(lines_of("beside", &day), expected);
 }
 
+/// In the last interval of the large day device 63 gives 1 kW more than its start allows, and device
+/// 64 takes 1 kW more than its pmax and its block; device 63 may not start in the day's last hour.
+#[test]
+fn a_large_day_in_words() {
+    let mut day = large_day();
+    day.case.devices[62].start_windows = [(0, 5_700, 0), (5_700, 5_760, 0), (0, 5_760, 96)]
+        .map(|(start, end, most_starts)| StartWindow {
+            start,
+            end,
+            most_starts,
+        })
+        .to_vec();
+    day.plan.intervals[95][62].online_power = 151;
+    day.plan.intervals[95][63].online_power = 201;
+    let expected = [
+        "5 96 63 0 rule 5 (ramp up) at interval 96, device 63: power rises by 121 kW (from 30 to 151), at most 120 kW (60 min at 2 kW/min starting)",
+        "16 96 64 0 rule 16 (highest online power) at interval 96, device 64: online power with down reserves is 201 kW (online 201), at most 200 kW (pmax)",
+        "19 96 64 0 rule 19 (block caps) at interval 96, device 64: power is 201 kW (online 201), at most 200 kW (blocks 200)",
+        "20 0 63 2 rule 20 (starts in a window) at device 63, window 2: has 1 start (from minute 5700 before minute 5760), at most 0 starts",
+    ];
+    assert_eq!(lines_of("large", &day), expected);
+}
+
 #[test]
 fn inspect_prints_what_a_case_holds() {
     let mut day = lettered('h');
@@ -649,6 +710,31 @@ device 2: consuming; in no zone; initially on for 600 min at 30 kW; minimum up 0
     assert_eq!(answer(&["inspect", &case], 0), expected);
 }
 
+/// The first lines, one of the devices that are off all day, and the load's.
+#[test]
+fn inspect_prints_what_a_large_case_holds() {
+    let [case, _] = Scratch::new("inspect-4").day(&large_day());
+    let text = answer(&["inspect", &case], 0);
+    let lines: Vec<&str> = text.lines().collect();
+    let expected = [
+        "case 64 96 0",
+        "edition 4",
+        "devices 64",
+        "intervals 96: 96 x 60 min; 5760 min in all",
+        "zones 0",
+        "mismatch price 1000 grains per kW min and kvar min",
+        "overrun price 1 grains per kW min",
+    ];
+    assert_eq!(lines[..7], expected);
+    assert_eq!(lines.len(), 7 + 64);
+    assert!(
+        lines[7].starts_with("device 1: producing; in no zone; initially off for 0 min at 0 kW; ")
+    );
+    let last = "device 64: consuming; in no zone; initially on for 600 min at 30 kW; ";
+    assert!(lines[70].starts_with(last));
+    assert!(lines[70].ends_with("; no link; block floors to 0 kW in an interval"));
+}
+
 /// Plans of the worked day that are damaged, and how each is refused behind `refused`; `{}` is the
 /// file.
 fn refused_plans(whole: &[u8]) -> [(Vec<u8>, &'static str); 5] {
@@ -713,35 +799,83 @@ fn another_edition_is_told() {
     let scratch = Scratch::new("editions");
     let meaning = "wrong kind, or an edition that is unknown or unlike the case's";
     let messages = Edition::ALL.map(|edition| {
-        let day = Day {
-            edition,
-            ..two_set_day()
-        };
-        let (case, plan) = day.messages();
+        let (case, plan) = in_edition(edition, two_set_day()).messages();
         let name = |kind: &str| format!("{kind}-{edition:?}");
         [
             scratch.file(&name("case"), &case),
             scratch.file(&name("plan"), &plan),
         ]
     });
-    let pairs = (0..9).map(|pair| (pair / 3, pair % 3));
-    for (k, other) in pairs.filter(|(k, other)| k != other) {
-        let (case, plan) = (&messages[k][0], &messages[other][1]);
-        let expected = format!("refused 2 4: plan {plan}: {meaning}");
-        assert_eq!(complaint(&["judge", case, plan], 2), expected);
-        assert_eq!(complaint(&["breaches", case, plan], 2), expected);
+    for [case, own] in &messages {
+        for [_, plan] in messages.iter().filter(|[_, plan]| plan != own) {
+            let expected = format!("refused 2 4: plan {plan}: {meaning}");
+            assert_eq!(complaint(&["judge", case, plan], 2), expected);
+            assert_eq!(complaint(&["breaches", case, plan], 2), expected);
+        }
     }
-    let mut case = fs::read(&messages[2][0]).expect("a case");
-    case[0] = 0x14;
+    let [.., [newest, _]] = &messages;
+    let mut case = fs::read(newest).expect("a case");
+    case[0] = 0x15;
     let unknown = scratch.file("unknown", &case);
     let expected = format!("refused 2 4: case {unknown}: {meaning}");
     assert_eq!(complaint(&["inspect", &unknown], 2), expected);
 }
 
+/// More devices or intervals than an edition has: the count of devices stands at bit 8, that of
+/// intervals 5 bits later, in edition 4 it is 7.
+#[test]
+fn a_day_that_is_too_large_is_told() {
+    let scratch = Scratch::new("too-large");
+    let large = |edition, devices: usize, intervals: usize| {
+        let mut day = in_edition(edition, two_set_day());
+        day.case.durations = vec![2; intervals];
+        let idle = Device::plain(Side::Producing, vec![Terms::default(); intervals]);
+        day.case.devices = vec![idle; devices];
+        day.plan.intervals = vec![vec![Setting::default(); devices]; intervals];
+        scratch.day(&day)
+    };
+    for (edition, devices, intervals, bit) in [
+        (Edition::Three, 17, 48, 8),
+        (Edition::Three, 16, 49, 13),
+        (Edition::Four, 65, 96, 8),
+        (Edition::Four, 64, 97, 15),
+    ] {
+        let [case, plan] = large(edition, devices, intervals);
+        let meaning = "a count out of range, or unlike the case's";
+        let expected = format!("refused 3 {bit}: case {case}: {meaning}");
+        assert_eq!(complaint(&["inspect", &case], 2), expected);
+        assert_eq!(complaint(&["judge", &case, &plan], 2), expected);
+    }
+    for (edition, devices, intervals) in [(Edition::Three, 16, 48), (Edition::Four, 64, 96)] {
+        let [case, plan] = large(edition, devices, intervals);
+        assert_eq!(answer(&["judge", &case, &plan], 0), "accepted 0\n");
+    }
+}
+
+/// The 7 bits of most starts end with byte 69: 53 + 16 of the front, 352, 97 and 3 of device 1, and 32.
+#[test]
+fn most_starts_above_96_are_told() {
+    let scratch = Scratch::new("most-starts");
+    let mut day = in_edition(Edition::Four, two_set_day());
+    day.case.devices[0].start_windows = vec![StartWindow {
+        start: 60,
+        end: 120,
+        most_starts: 96,
+    }];
+    let [case, plan] = scratch.day(&day);
+    assert_eq!(answer(&["judge", &case, &plan], 0), "accepted 167860\n");
+    let mut bytes = fs::read(&case).expect("a case");
+    assert_eq!(bytes[69], 96);
+    bytes[69] = 97;
+    let above = scratch.file("above", &bytes);
+    let expected = format!("refused 4 553: case {above}: a field out of its range");
+    assert_eq!(complaint(&["judge", &above, &plan], 2), expected);
+}
+
 /// Behind pmin 201 and pmax 200 of device 2 in interval 2 of edition 1: 50 + 16 of the front, 455 and
 /// 430 of device 1, 361 and 183 of device 2, and 19. qmin 12 and qmax 11 of device 1 in interval 1
 /// of edition 2: 66, 457 and 215, and 18. The floor of its first block in edition 3: 66, 457, 39 and
-/// 17.
+/// 17; in edition 4 the front has 3 bits more.
 #[test]
 fn a_contradiction_in_a_case_is_told() {
     let scratch = Scratch::new("contradiction");
@@ -751,7 +885,13 @@ fn a_contradiction_in_a_case_is_told() {
     reactive.case.devices[0].terms[0].qmin = 12;
     let mut floored = floored_day();
     floored.case.devices[0].terms[0].blocks[0].floor = 101;
-    for (day, bit) in [(real, 1_514), (reactive, 756), (floored, 579)] {
+    let larger = in_edition(Edition::Four, floored.clone());
+    for (day, bit) in [
+        (real, 1_514),
+        (reactive, 756),
+        (floored, 579),
+        (larger, 582),
+    ] {
         let [case, plan] = scratch.day(&day);
         let expected = format!(
             "refused 5 {bit}: case {case}: pmin above pmax, a floor above its cap, qmin above qmax, a \

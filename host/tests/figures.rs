@@ -3,7 +3,7 @@
 
 mod common;
 
-use common::{each_batch, each_pair};
+use common::{each_case, each_pair};
 use host::day::Day;
 use host::explain::{explain, Breach};
 use host::message::{
@@ -142,8 +142,8 @@ fn plan_of(plan: &plan::Plan) -> Plan {
 #[test]
 fn messages_hold_the_references_figures() {
     // Of each edition.
-    let (mut cases, mut plans) = ([0; 3], [0; 3]);
-    each_batch(|message, messages| {
+    let (mut cases, mut plans) = ([0; Edition::ALL.len()], [0; Edition::ALL.len()]);
+    each_case(|message, messages| {
         let Ok((edition, case)) = case::read_case(message) else {
             return;
         };
@@ -158,8 +158,8 @@ fn messages_hold_the_references_figures() {
             }
         }
     });
-    assert!(cases.iter().all(|&count| count > 150), "{cases:?}");
-    assert!(plans.iter().all(|&count| count > 1_000), "{plans:?}");
+    assert!(cases.iter().all(|&count| count > 100), "{cases:?}");
+    assert!(plans.iter().all(|&count| count > 500), "{plans:?}");
 }
 
 /// Calls `visit` with every pair of the corpus that passes reading, read by both sides.
@@ -250,7 +250,7 @@ fn places_outside_the_day_are_not_told() {
 #[test]
 fn what_does_not_pass_reading_has_no_figures() {
     let (mut cut, mut longer) = (0, 0);
-    each_batch(|message, _| {
+    each_case(|message, _| {
         if case::read_case(message).is_err() {
             return;
         }
@@ -258,7 +258,7 @@ fn what_does_not_pass_reading_has_no_figures() {
         cut += 1;
         assert_eq!(read_case(&[message, &[0]].concat()), None);
         longer += 1;
-        for first in [0x10, 0x14, 0x1f, 0x21, 0x01] {
+        for first in [0x10, 0x15, 0x1f, 0x21, 0x01] {
             assert_eq!(read_case(&[&[first], &message[1..]].concat()), None);
         }
     });

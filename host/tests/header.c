@@ -1,4 +1,5 @@
-/* Calls each function of the header on a case and a plan in files, and prints what it tells. */
+/* Prints what the functions of the header tell of files: of a case and a plan each of those that take a case, of a
+   batch the splitter. */
 #include "kadunfo.h"
 
 #include <inttypes.h>
@@ -7,9 +8,9 @@
 #include <string.h>
 
 #define BEFORE 0xa5
-#define LONGEST_FILE 65536
+#define LONGEST_FILE (2 * KADUNFO_LONGEST_MESSAGE)
 
-static uint8_t kase[LONGEST_FILE], plan[LONGEST_FILE];
+static uint8_t kase[LONGEST_FILE], plan[LONGEST_FILE], batch[LONGEST_FILE];
 static uint8_t result[KADUNFO_LONGEST_COMPLETION], list[KADUNFO_LONGEST_LIST];
 static uint64_t figures[4];
 
@@ -36,6 +37,13 @@ static void tell_list(size_t breaches) {
         printf("%d %d %d %d\n", list[4 * i], list[4 * i + 1], list[4 * i + 2], list[4 * i + 3]);
 }
 
+static int figures_untouched(void) {
+    for (int i = 0; i < 4; i++)
+        if (figures[i] != UINT64_C(0xa5a5a5a5a5a5a5a5))
+            return 0;
+    return 1;
+}
+
 /* With three figures nothing is done: neither the list nor the figures change. */
 static int untouched_when_short(size_t case_length, size_t plan_length) {
     memset(list, BEFORE, sizeof list);
@@ -45,16 +53,10 @@ static int untouched_when_short(size_t case_length, size_t plan_length) {
     for (size_t i = 0; i < sizeof list; i++)
         if (list[i] != BEFORE)
             return 0;
-    for (int i = 0; i < 4; i++)
-        if (figures[i] != UINT64_C(0xa5a5a5a5a5a5a5a5))
-            return 0;
-    return 1;
+    return figures_untouched();
 }
 
-int main(int count, char **words) {
-    if (count != 3)
-        return 1;
-    size_t case_length = load(words[1], kase), plan_length = load(words[2], plan);
+static int tell_pair(size_t case_length, size_t plan_length) {
     tell("inspect", kadunfo_inspect(kase, case_length, figures, 4));
     tell("judge", kadunfo_judge(kase, case_length, plan, plan_length, result, sizeof result, figures, 4));
     tell("short", kadunfo_breaches(kase, case_length, plan, plan_length, list, 3, figures, 4));
@@ -62,5 +64,24 @@ int main(int count, char **words) {
     tell("breaches", word);
     if (word == KADUNFO_LISTED)
         tell_list((size_t)figures[0]);
-    return untouched_when_short(case_length, plan_length) ? 0 : 2;
+    return untouched_when_short(case_length, plan_length);
+}
+
+static int tell_batch(size_t length) {
+    uint64_t at = 0, word;
+    do {
+        word = kadunfo_split(batch, length, at, figures, 4);
+        tell("split", word);
+        at = figures[1];
+    } while (word == KADUNFO_MESSAGE);
+    memset(figures, BEFORE, sizeof figures);
+    return kadunfo_split(batch, length, 0, figures, 3) == KADUNFO_FIGURES_SHORT && figures_untouched();
+}
+
+int main(int count, char **words) {
+    if (count == 2)
+        return tell_batch(load(words[1], batch)) ? 0 : 2;
+    if (count == 3)
+        return tell_pair(load(words[1], kase), load(words[2], plan)) ? 0 : 2;
+    return 1;
 }

@@ -4,17 +4,22 @@
 use std::fs;
 use std::path::{Path, PathBuf};
 use std::process::Command;
+use std::sync::LazyLock;
 
-use host::{LONGEST_COMPLETION, LONGEST_LIST};
+use host::{LONGEST_COMPLETION, LONGEST_LIST, LONGEST_MESSAGE, STACK};
 use reference::batch;
 use reference::busiest::busiest_batch;
 use reference::case::read_case;
 use reference::completion::completion_bits;
 use reference::edition::Edition;
-use reference::worked_day::{floor_days, lettered_days, reactive_days};
+use reference::worked_day::{
+    example_batch, floor_days, lettered_days, reactive_days, two_set_day, Day,
+};
 
 const HOST: &str = env!("CARGO_MANIFEST_DIR");
 const SCRATCH: &str = env!("CARGO_TARGET_TMPDIR");
+
+static PROGRAM: LazyLock<PathBuf> = LazyLock::new(compile);
 
 fn compile() -> PathBuf {
     let program = Path::new(SCRATCH).join("header");
@@ -39,16 +44,15 @@ fn compile() -> PathBuf {
     program
 }
 
-/// What the program prints of a pair.
-fn run(program: &Path, case: &[u8], plan: &[u8]) -> String {
-    let [case_file, plan_file] = ["case", "plan"].map(|name| {
-        let path = Path::new(SCRATCH).join(format!("header.{name}"));
-        let bytes = if name == "case" { case } else { plan };
+/// What the program prints of files with these contents.
+fn run(test: &str, contents: &[&[u8]]) -> String {
+    let files = contents.iter().enumerate().map(|(number, bytes)| {
+        let path = Path::new(SCRATCH).join(format!("header.{test}.{number}"));
         fs::write(&path, bytes).expect("a scratch file");
         path
     });
-    let done = Command::new(program)
-        .args([case_file, plan_file])
+    let done = Command::new(&*PROGRAM)
+        .args(files)
         .output()
         .expect("the program runs");
     assert!(done.status.success(), "{done:?}");
@@ -56,76 +60,143 @@ fn run(program: &Path, case: &[u8], plan: &[u8]) -> String {
 }
 
 #[test]
-fn header_serves_a_program_in_c() {
-    let program = compile();
+fn edition_1_in_c() {
+    let tell = |case: &[u8], plan: &[u8]| run("edition-1", &[case, plan]);
     let days = lettered_days();
     let (case, plan_a) = days[0].1.messages();
     let (_, plan_b) = days[1].1.messages();
     assert_eq!(
-        run(&program, &case, &plan_a),
+        tell(&case, &plan_a),
         "inspect 0 2 2 0 0\njudge 0 167860 0 0 0\nshort 0 0 0 0 0\nbreaches 0 0 0 0 0\n"
     );
     assert_eq!(
-        run(&program, &case, &plan_b),
+        tell(&case, &plan_b),
         "inspect 0 2 2 0 0\njudge 1 5 2 1 0\nshort 4 7 4 0 0\nbreaches 0 1 0 0 0\n5 2 1 0\n"
     );
     assert_eq!(
-        run(&program, &case, &plan_a[..1]),
+        tell(&case, &plan_a[..1]),
         "inspect 0 2 2 0 0\njudge 3 1 8 0 0\nshort 3 1 8 0 0\nbreaches 3 1 8 0 0\n"
     );
     assert_eq!(
-        run(&program, &case[..1], &plan_a[..1]),
+        tell(&case[..1], &plan_a[..1]),
         "inspect 2 1 8 0 0\njudge 2 1 8 0 0\nshort 2 1 8 0 0\nbreaches 2 1 8 0 0\n"
     );
-    // Edition 2: q 1 of device 2 in interval 1 at qmax 1, then qrd 1 besides; a plan of edition 1.
+}
+
+/// q 1 of device 2 in interval 1 at qmax 1, then qrd 1 besides; a plan of edition 1.
+#[test]
+fn edition_2_in_c() {
+    let tell = |case: &[u8], plan: &[u8]| run("edition-2", &[case, plan]);
     let days = reactive_days();
     let (case, accepted) = days[0].1.messages();
     let (_, broken) = days[2].1.messages();
     assert_eq!(
-        run(&program, &case, &accepted),
+        tell(&case, &accepted),
         "inspect 0 2 2 0 0\njudge 0 107860 0 0 0\nshort 0 0 0 0 0\nbreaches 0 0 0 0 0\n"
     );
     assert_eq!(
-        run(&program, &case, &broken),
+        tell(&case, &broken),
         "inspect 0 2 2 0 0\njudge 1 21 1 2 0\nshort 4 7 4 0 0\nbreaches 0 1 0 0 0\n21 1 2 0\n"
     );
+    let (_, of_edition_1) = two_set_day().messages();
     assert_eq!(
-        run(&program, &case, &plan_a),
+        tell(&case, &of_edition_1),
         "inspect 0 2 2 0 0\njudge 3 2 4 0 0\nshort 3 2 4 0 0\nbreaches 3 2 4 0 0\n"
     );
-    // Edition 3: floors 0 and 80 of device 1, then 71 and 80.
+}
+
+/// Floors 0 and 80 of device 1, then 71 and 80.
+#[test]
+fn edition_3_in_c() {
+    let tell = |day: &Day| {
+        let (case, plan) = day.messages();
+        run("edition-3", &[&case, &plan])
+    };
     let days = floor_days();
-    let (case, plan) = days[0].1.messages();
     assert_eq!(
-        run(&program, &case, &plan),
+        tell(&days[0].1),
         "inspect 0 2 2 0 0\njudge 0 164260 0 0 0\nshort 0 0 0 0 0\nbreaches 0 0 0 0 0\n"
     );
-    let (case, plan) = days[1].1.messages();
     assert_eq!(
-        run(&program, &case, &plan),
+        tell(&days[1].1),
         "inspect 0 2 2 0 0\njudge 1 19 2 1 0\nshort 4 7 4 0 0\nbreaches 0 1 0 0 0\n19 2 1 0\n"
     );
 }
 
-/// The header and the wrappers name one length, that of the largest case of the newest edition.
+/// Plans (a) and (b), and a plan that ends inside its count of devices.
 #[test]
-fn longest_completion_is_the_headers() {
+fn edition_4_in_c() {
+    let tell = |case: &[u8], plan: &[u8]| run("edition-4", &[case, plan]);
+    let days = lettered_days().into_iter().take(2);
+    let mut messages = days.map(|(_, day)| {
+        let edition = Edition::Four;
+        Day { edition, ..day }.messages()
+    });
+    let (case, plan_a) = messages.next().expect("day (a)");
+    let (_, plan_b) = messages.next().expect("day (b)");
+    assert_eq!(
+        tell(&case, &plan_a),
+        "inspect 0 2 2 0 0\njudge 0 167860 0 0 0\nshort 0 0 0 0 0\nbreaches 0 0 0 0 0\n"
+    );
+    assert_eq!(
+        tell(&case, &plan_b),
+        "inspect 0 2 2 0 0\njudge 1 5 2 1 0\nshort 4 7 4 0 0\nbreaches 0 1 0 0 0\n5 2 1 0\n"
+    );
+    assert_eq!(
+        tell(&case, &plan_a[..1]),
+        "inspect 0 2 2 0 0\njudge 3 1 8 0 0\nshort 3 1 8 0 0\nbreaches 3 1 8 0 0\n"
+    );
+}
+
+/// The example batch has a case of 210 bytes (66, 455 and 430, 361 and 366 bits), two plans of 80
+/// (19 and 616) and one of 1.
+#[test]
+fn split_in_c() {
+    let tell = |batch: &[u8]| run("split", &[batch]);
+    assert_eq!(
+        tell(&example_batch()),
+        "split 0 3 213 0 0\nsplit 0 216 296 0 0\nsplit 0 299 379 0 0\nsplit 0 382 383 0 0\n\
+         split 1 0 0 0 0\n"
+    );
+    assert_eq!(tell(&[]), "split 1 0 0 0 0\n");
+    assert_eq!(tell(&[0x10, 0, 1]), "split 2 4 0 0 0\n");
+    assert_eq!(
+        tell(&[0, 0, 1, 7, 0, 0]),
+        "split 0 3 4 0 0\nsplit 2 1 32 0 0\n"
+    );
+    assert_eq!(
+        tell(&[0, 0, 1, 7, 0, 0, 1]),
+        "split 0 3 4 0 0\nsplit 2 1 32 0 0\n"
+    );
+}
+
+/// The header and the wrappers have the same figures, worked by hand.
+#[test]
+fn figures_are_the_headers() {
     let header = fs::read_to_string(format!("{HOST}/include/kadunfo.h")).expect("the header");
-    let defined = format!("#define KADUNFO_LONGEST_COMPLETION {LONGEST_COMPLETION}\n");
-    assert!(header.contains(&defined));
+    let defined = |name: &str| -> Option<usize> {
+        let (_, behind) = header.split_once(&format!("#define KADUNFO_{name} "))?;
+        behind.split_whitespace().next()?.parse().ok()
+    };
+    for (name, wrapper, by_hand) in [
+        ("LONGEST_LIST", LONGEST_LIST, 615_424),
+        ("LONGEST_COMPLETION", LONGEST_COMPLETION, 70_324),
+        ("LONGEST_MESSAGE", LONGEST_MESSAGE, 1_048_576),
+        ("STACK", STACK, 1_500_000),
+    ] {
+        assert_eq!(wrapper, by_hand, "{name}");
+        assert_eq!(defined(name), Some(by_hand), "{name}");
+    }
+}
+
+/// The length of the largest case's completion, by edition.
+#[test]
+fn longest_completion_is_that_of_the_largest_case() {
     let longest = Edition::ALL.map(|edition| {
-        let largest = busiest_batch(edition, 1, 16, 48);
+        let most = edition.largest();
+        let largest = busiest_batch(edition, 1, most.devices, most.intervals);
         let (_, case) = read_case(batch::messages(&largest)[0]).expect("it passes reading");
         completion_bits(edition, &case).div_ceil(8)
     });
-    assert_eq!(longest, [12_165, LONGEST_COMPLETION, LONGEST_COMPLETION]);
-}
-
-/// The header and the wrappers name one length.
-#[test]
-fn longest_list_is_the_headers() {
-    let header = fs::read_to_string(format!("{HOST}/include/kadunfo.h")).expect("the header");
-    let defined = format!("#define KADUNFO_LONGEST_LIST {LONGEST_LIST} ");
-    assert_eq!(LONGEST_LIST, 77_056);
-    assert!(header.contains(&defined));
+    assert_eq!(longest, [12_165, 13_887, 13_887, LONGEST_COMPLETION]);
 }

@@ -1,6 +1,10 @@
 //! Command lines of the programs: words, `--name value` and `--name`.
 
+use std::fs;
 use std::process::ExitCode;
+
+use crate::edition::Edition;
+use crate::form::Largest;
 
 /// Success, or failure with its message on standard error.
 pub fn exit_code(result: Result<(), String>) -> ExitCode {
@@ -76,4 +80,32 @@ impl Arguments {
             (None, None) => Ok(()),
         }
     }
+}
+
+/// Makes a batch of a day of an edition, its plan so many times, of so many devices and intervals.
+pub type MakeDay = fn(Edition, usize, usize, usize) -> Vec<u8>;
+
+/// Writes a day as a batch: `TIMES FILE [--devices N] [--intervals N] [--edition E]`, of edition 1
+/// and the most devices and intervals of the batch form unless told.
+pub fn write_day(program: &str, make: MakeDay) -> Result<(), String> {
+    let usage = format!("usage: {program} TIMES FILE [--devices N] [--intervals N] [--edition E]");
+    let mut arguments = Arguments::of_program();
+    let (times, file) = (arguments.word(), arguments.word());
+    let devices = arguments.number("--devices");
+    let intervals = arguments.number("--intervals");
+    let edition = arguments.number("--edition").unwrap_or(1);
+    arguments
+        .finish()
+        .map_err(|complaint| format!("{complaint}\n{usage}"))?;
+    let times = times.and_then(|word| word.parse().ok()).ok_or(&usage)?;
+    let file = file.ok_or(&usage)?;
+    let edition = Edition::numbered(i128::from(edition)).ok_or("there is no such edition")?;
+    let count = |told: Option<u64>, most| told.map_or(most, |count| count as usize);
+    let devices = count(devices, Largest::SMALL.devices);
+    let intervals = count(intervals, Largest::SMALL.intervals);
+    if devices == 0 || intervals == 0 || !edition.largest().holds(devices, intervals) {
+        return Err("the edition has no such day".to_string());
+    }
+    fs::write(&file, make(edition, times, devices, intervals))
+        .map_err(|error| format!("{file}: {error}"))
 }

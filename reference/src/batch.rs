@@ -1,16 +1,17 @@
-//! The splitter and the batch program ("Messages", paragraph **Batch**, and "A two-set day").
+//! The splitter and the batch program ("Messages", paragraph **Batch**, and "A two-set day"), in
+//! either form.
 
 use std::fmt;
 
 use crate::breaches::{breaches_of, bytes_of};
-use crate::case::{read_case, Case};
+use crate::case::{read_case_in, Case};
 use crate::edition::Edition;
 use crate::fault::{Fault, Number};
+use crate::form::Form;
 use crate::judge::{find, Finding};
 use crate::plan::read_plan;
 use crate::rules::Place;
 
-pub const LONGEST_MESSAGE: usize = 65_536;
 const LENGTH_BYTES: usize = 3;
 
 /// What the splitter answers.
@@ -25,9 +26,9 @@ pub enum Split<'a> {
 }
 
 /// Takes the message whose length starts at byte `at`: "1 for a length cut short, 4 for a length
-/// above 65,536, 1 for a message cut short, tested in that sequence." A place past the end is
-/// answered like the end itself.
-pub fn split(batch: &[u8], at: usize) -> Split<'_> {
+/// above" the form's longest, "1 for a message cut short, tested in that sequence." A place past the
+/// end is answered like the end itself.
+pub fn split(form: Form, batch: &[u8], at: usize) -> Split<'_> {
     let rest = batch.get(at..).unwrap_or(&[]);
     if rest.is_empty() {
         return Split::End;
@@ -39,7 +40,7 @@ pub fn split(batch: &[u8], at: usize) -> Split<'_> {
     let length = length
         .iter()
         .fold(0, |length, &byte| 256 * length + usize::from(byte));
-    if length > LONGEST_MESSAGE {
+    if length > form.longest_message {
         return refused(Number::Range);
     }
     if length > rest.len() {
@@ -51,11 +52,11 @@ pub fn split(batch: &[u8], at: usize) -> Split<'_> {
     }
 }
 
-/// A batch's messages, up to its end or to what the splitter refuses.
+/// A batch's messages, up to its end or to what the host splitter refuses.
 pub fn messages(batch: &[u8]) -> Vec<&[u8]> {
     let mut messages = Vec::new();
     let mut at = 0;
-    while let Split::Message { message, next } = split(batch, at) {
+    while let Split::Message { message, next } = split(Form::HOST, batch, at) {
         messages.push(message);
         at = next;
     }
@@ -122,14 +123,15 @@ impl fmt::Display for Line {
     }
 }
 
-/// Runs the batch program on a batch, "case first".
-pub fn run(batch: &[u8]) -> Vec<Line> {
+/// Runs the batch program on a batch, "case first"; in the host form, what its lines would be with
+/// the host library.
+pub fn run(form: Form, batch: &[u8]) -> Vec<Line> {
     let mut lines = Vec::new();
     let mut case = None;
     let mut at = 0;
     loop {
         let index = lines.len();
-        match split(batch, at) {
+        match split(form, batch, at) {
             Split::End => return lines,
             Split::Refused(fault) => {
                 lines.push(Line::Framing {
@@ -142,7 +144,7 @@ pub fn run(batch: &[u8]) -> Vec<Line> {
                     Some((edition, case)) => {
                         lines.push(judge_message(*edition, case, index, message));
                     }
-                    None => match read_case(message) {
+                    None => match read_case_in(form, message) {
                         Ok((edition, read)) => {
                             lines.push(case_line(index, edition, &read));
                             case = Some((edition, read));

@@ -14,7 +14,7 @@ pub const BREACH_BYTES: usize = 4;
 /// "Write every broken rule into a lent buffer as four bytes (rule, interval, device, window), each
 /// breach exactly once, in document 01's order, the rest of the buffer unchanged, and return how
 /// many. [...] Reading refusals come first. It then refuses with 7 when the buffer can't hold the
-/// list, and writes nothing."
+/// list, and writes nothing." Reading is that of the host form.
 pub fn breaches(
     case_message: &[u8],
     plan_message: &[u8],

@@ -1,7 +1,7 @@
 //! The busiest day that a plan unit can be given: every count at its largest, each device a member
 //! of every zone, and a plan that starts or stops every device in every interval. From edition 2 on
-//! each device has two link lines and every reactive price, and reactive reserves while on; in
-//! edition 3 each block has a floor.
+//! each device has two link lines and every reactive price, and reactive reserves while on;
+//! from edition 3 on each block has a floor.
 
 use crate::batch::join;
 use crate::case::{

@@ -1,12 +1,11 @@
-//! The case: its figures and its reading ("Messages", paragraph **Case**, A.1 and A.6).
+//! The case: its figures and its reading ("Messages", paragraph **Case**, A.1, A.6 and A.8).
 
 use crate::bits::FieldReader;
-use crate::edition::{read_edition, CountField, Edition};
+use crate::edition::{read_edition, Edition};
 use crate::fault::Fault;
+use crate::form::Form;
 
 pub const KIND_CASE: i128 = 1;
-pub const MOST_DEVICES: usize = 16;
-pub const MOST_INTERVALS: usize = 48;
 pub const MOST_ZONES: usize = 4;
 /// Startup states of a device: "Three becomes the limit in every edition." (A.4)
 pub const MOST_STATES: usize = 3;
@@ -315,23 +314,26 @@ impl Case {
     }
 }
 
-/// Reads a case and its edition, or gives back its first fault.
+/// Reads a case and its edition in the host form, or gives back its first fault.
 pub fn read_case(message: &[u8]) -> Result<(Edition, Case), Fault> {
+    read_case_in(Form::HOST, message)
+}
+
+/// The same in a form, which takes no larger day than it can hold.
+pub fn read_case_in(form: Form, message: &[u8]) -> Result<(Edition, Case), Fault> {
     let mut fields = FieldReader::new(message);
     fields.fixed(4, KIND_CASE)?;
     let edition = read_edition(&mut fields)?;
-    let case = read_content(&mut fields, edition)?;
+    let case = read_content(&mut fields, form, edition)?;
     fields.finish()?;
     Ok((edition, case))
 }
 
-fn read_content(fields: &mut FieldReader, edition: Edition) -> Result<Case, Fault> {
-    let count = |fields: &mut FieldReader, field: CountField, least| {
-        fields.count(field.width, least, field.most)
-    };
-    let devices = count(fields, edition.devices(), 1)?;
-    let intervals = count(fields, edition.intervals(), 1)?;
-    let zones = count(fields, edition.zones(), 0)?;
+fn read_content(fields: &mut FieldReader, form: Form, edition: Edition) -> Result<Case, Fault> {
+    let largest = edition.largest().within(form.largest);
+    let devices = fields.count(edition.devices().width, 1, largest.devices)?;
+    let intervals = fields.count(edition.intervals().width, 1, largest.intervals)?;
+    let zones = fields.count(edition.zones().width, 0, edition.zones().most)?;
     let mismatch_price = fields.figure(14, 1, 10_000)?;
     let overrun_price = fields.figure(14, 1, 10_000)?;
     let durations = list(intervals, || Ok(2 * fields.figure(8, 1, 180)?))?;

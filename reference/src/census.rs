@@ -5,15 +5,16 @@ use std::fmt;
 use crate::batch::Line;
 use crate::breaches::BREACH_BYTES;
 use crate::edition::Edition;
+use crate::form::Largest;
 
 /// One more than the greatest number of a rule.
 const RULES: usize = 27;
 /// One more than the greatest number of an edition.
 const EDITIONS: usize = Edition::ALL.len() + 1;
 
-/// Counts of one edition's cases and of plans for them.
+/// Counts of cases of one kind and of plans for them.
 #[derive(Clone, Copy, PartialEq, Eq, Debug, Default)]
-pub struct EditionCounts {
+pub struct CaseCounts {
     pub cases: usize,
     pub accepted: usize,
     pub broken: usize,
@@ -41,8 +42,24 @@ pub struct Census {
     pub greatest: [usize; 3],
     pub least_surplus: Option<i128>,
     pub greatest_surplus: Option<i128>,
-    /// By the number of the edition, 1 and 2.
-    by_edition: [EditionCounts; EDITIONS],
+    /// Days with more devices or intervals than the batch form takes.
+    pub large: CaseCounts,
+    /// By the number of the edition.
+    by_edition: [CaseCounts; EDITIONS],
+}
+
+impl CaseCounts {
+    fn add(&mut self, plans: &[Line]) {
+        self.cases += 1;
+        for line in plans {
+            match line {
+                Line::Accepted { .. } => self.accepted += 1,
+                Line::Broken { .. } => self.broken += 1,
+                Line::Refused { .. } => self.refused += 1,
+                Line::Case { .. } | Line::Framing { .. } => {}
+            }
+        }
+    }
 }
 
 impl Census {
@@ -53,27 +70,24 @@ impl Census {
         for line in lines {
             self.add_line(line);
         }
-        if let Some(Line::Case { edition, .. }) = lines.first() {
-            self.add_to_edition(*edition, &lines[1..]);
+        if let Some(Line::Case {
+            edition,
+            devices,
+            intervals,
+            ..
+        }) = lines.first()
+        {
+            let plans = &lines[1..];
+            self.by_edition[edition.figure() as usize].add(plans);
+            if !Largest::SMALL.holds(*devices, *intervals) {
+                self.large.add(plans);
+            }
         }
     }
 
     /// Counts of an edition.
-    pub fn of(&self, edition: Edition) -> &EditionCounts {
+    pub fn of(&self, edition: Edition) -> &CaseCounts {
         &self.by_edition[edition.figure() as usize]
-    }
-
-    fn add_to_edition(&mut self, edition: Edition, plans: &[Line]) {
-        let counts = &mut self.by_edition[edition.figure() as usize];
-        counts.cases += 1;
-        for line in plans {
-            match line {
-                Line::Accepted { .. } => counts.accepted += 1,
-                Line::Broken { .. } => counts.broken += 1,
-                Line::Refused { .. } => counts.refused += 1,
-                Line::Case { .. } | Line::Framing { .. } => {}
-            }
-        }
     }
 
     fn add_line(&mut self, line: &Line) {
@@ -128,7 +142,7 @@ impl Census {
     }
 }
 
-impl fmt::Display for EditionCounts {
+impl fmt::Display for CaseCounts {
     fn fmt(&self, out: &mut fmt::Formatter) -> fmt::Result {
         write!(
             out,
@@ -151,6 +165,7 @@ impl fmt::Display for Census {
         for edition in Edition::ALL {
             writeln!(out, "edition {}: {}", edition.figure(), self.of(edition))?;
         }
+        writeln!(out, "beyond the batch form: {}", self.large)?;
         writeln!(out, "accepted {}", self.accepted)?;
         writeln!(out, "broken by rule: {}", numbered(&self.broken[1..]))?;
         writeln!(

@@ -6,6 +6,7 @@ use std::thread;
 
 use crate::batch::{run, Line};
 use crate::census::Census;
+use crate::form::Form;
 use crate::generate::batches::{random_batch, random_size};
 use crate::generate::shape::Size;
 use crate::packed::{append_batch, append_output, pack};
@@ -14,6 +15,8 @@ use crate::rng::Rng;
 /// What a run compares.
 #[derive(Clone, Copy, PartialEq, Eq, Debug)]
 pub struct Settings {
+    /// The form that both sides judge in.
+    pub form: Form,
     pub seed: u64,
     /// The number of the first batch of the seed.
     pub first_batch: u64,
@@ -52,19 +55,23 @@ const CHUNK_BATCHES: usize = 256;
 const CHUNK_BYTES: usize = 8 << 20;
 /// Batches of the greatest sizes are kept to about so many bytes of plans.
 const PLAN_BYTES_PER_BATCH: usize = 1 << 20;
-/// The length of the largest plan of the newest edition.
-const LARGEST_PLAN_BYTES: usize = 19_779;
 
-/// Batch `number` of a seed.
-pub fn numbered_batch(seed: u64, number: u64, plans_per_batch: usize) -> Vec<u8> {
+/// About how long the plans of a size are at most.
+fn plan_bytes(size: Size) -> usize {
+    match size {
+        Size::Tiny | Size::Small | Size::Medium => 1,
+        Size::Large | Size::Full => 20_000,
+        Size::Beyond => 40_000,
+        Size::Greatest => 160_000,
+    }
+}
+
+/// Batch `number` of a seed, for a form.
+pub fn numbered_batch(form: Form, seed: u64, number: u64, plans_per_batch: usize) -> Vec<u8> {
     let mut rng = Rng::numbered(seed, number);
-    let size = random_size(&mut rng);
-    let largest_plan_bytes = match size {
-        Size::Large | Size::Full => LARGEST_PLAN_BYTES,
-        _ => 1,
-    };
-    let plans = plans_per_batch.min(PLAN_BYTES_PER_BATCH / largest_plan_bytes);
-    random_batch(&mut rng, size, plans)
+    let size = random_size(&mut rng, form);
+    let plans = plans_per_batch.min(PLAN_BYTES_PER_BATCH / plan_bytes(size));
+    random_batch(&mut rng, form, size, plans)
 }
 
 /// Compares until the settings are met or the first difference; counts what was compared.
@@ -100,6 +107,12 @@ struct Chunk {
 }
 
 fn next_chunk(settings: &Settings, next: &mut u64, census: &mut Census) -> Chunk {
+    let &Settings {
+        form,
+        seed,
+        plans_per_batch,
+        ..
+    } = settings;
     let mut chunk = Chunk {
         first_batch: *next,
         batches: Vec::new(),
@@ -110,8 +123,8 @@ fn next_chunk(settings: &Settings, next: &mut u64, census: &mut Census) -> Chunk
         && chunk.batches.len() < CHUNK_BATCHES
         && bytes < CHUNK_BYTES
     {
-        let batch = numbered_batch(settings.seed, *next, settings.plans_per_batch);
-        let lines = run(&batch);
+        let batch = numbered_batch(form, seed, *next, plans_per_batch);
+        let lines = run(form, &batch);
         census.add(&lines);
         bytes += batch.len();
         chunk.batches.push(batch);

@@ -1,20 +1,23 @@
 //! The corpus: batches that reach every rule, every refusal and every framing number, with the
-//! output that both sides are held to. All of it follows from a seed.
+//! output that both sides are held to, and a smaller set of days that the host form alone takes.
+//! All of it follows from a seed.
 
 use std::fs;
 use std::path::Path;
 
-use crate::batch::{append_length, append_message, join, run, LONGEST_MESSAGE};
-use crate::case::{Case, Link, Status, MOST_DEVICES, MOST_INTERVALS, MOST_STATES, MOST_ZONES};
+use crate::batch::{append_length, append_message, join, run};
+use crate::case::{Case, Link, Status, MOST_STATES, MOST_ZONES};
 use crate::census::Census;
 use crate::edges::Edges;
-use crate::edition::Edition;
+use crate::edition::{CountField, Edition};
 use crate::encode::{encode_case, encode_plan, Encoded, Field};
+use crate::form::{Form, Largest};
 use crate::generate::batches::{plan_of_another_edition, random_batch, spoil_framing};
 use crate::generate::breaks::{break_at, metered_plan, plan_breaking};
 use crate::generate::damage::{
-    contradict, contradictions, cut_at, give_states, values_out_of_range, with_fill_bit,
-    with_other_edition, with_surplus_bytes, with_value, Contradiction, MOST_STATES_SAID,
+    contradict, contradictions, cut_at, give_devices, give_intervals, give_states,
+    values_out_of_range, with_fill_bit, with_other_edition, with_surplus_bytes, with_value,
+    Contradiction, MOST_STATES_SAID,
 };
 use crate::generate::device::Scale;
 use crate::generate::extreme::{
@@ -30,6 +33,8 @@ use crate::rng::Rng;
 use crate::tables;
 use crate::worked_day::{example_batch, floor_days, lettered_days, reactive_days, Day};
 
+mod host;
+
 pub const DEFAULT_SEED: u64 = 20_260;
 
 /// The files of a corpus.
@@ -41,13 +46,14 @@ pub struct Corpus {
     pub readme: String,
 }
 
-/// The corpus of a seed.
-pub fn corpus_of(seed: u64) -> Corpus {
-    let parts = parts_of(seed);
+/// The corpus of a form and a seed.
+pub fn corpus_of(form: Form, seed: u64) -> Corpus {
+    let set = Set::of(form);
+    let parts = set.parts_of(seed);
     let batches: Vec<&Vec<u8>> = parts.iter().flat_map(|part| &part.batches).collect();
     let stdin = pack(&batches);
-    let stdout = output(&batches);
-    let readme = readme(seed, &parts, &stdin, &stdout);
+    let stdout = output(form, &batches);
+    let readme = readme(set, seed, &parts, &stdin, &stdout);
     Corpus {
         stdin,
         stdout,
@@ -55,9 +61,9 @@ pub fn corpus_of(seed: u64) -> Corpus {
     }
 }
 
-/// Writes the corpus of a seed to a directory.
-pub fn write(directory: &Path, seed: u64) -> Result<(), String> {
-    let corpus = corpus_of(seed);
+/// Writes the corpus of a form and a seed to a directory.
+pub fn write(directory: &Path, form: Form, seed: u64) -> Result<(), String> {
+    let corpus = corpus_of(form, seed);
     fs::create_dir_all(directory).map_err(|error| format!("{}: {error}", directory.display()))?;
     for (name, bytes) in corpus.files() {
         let path = directory.join(name);
@@ -68,22 +74,22 @@ pub fn write(directory: &Path, seed: u64) -> Result<(), String> {
 
 /// Holds the reference to the files of a directory: that it gives the expected output for the
 /// stored batches, and that the seed makes every file again byte for byte.
-pub fn check(directory: &Path, seed: u64) -> Result<Census, String> {
+pub fn check(directory: &Path, form: Form, seed: u64) -> Result<Census, String> {
     let read = |name: &str| {
         let path = directory.join(name);
         fs::read(&path).map_err(|error| format!("{}: {error}", path.display()))
     };
     let stdin = read("stdin")?;
     let batches = unpack(&stdin)?;
-    if output(&batches).as_bytes() != read("stdout")? {
+    if output(form, &batches).as_bytes() != read("stdout")? {
         return Err("the reference does not give the stored output".to_string());
     }
-    for (name, bytes) in corpus_of(seed).files() {
+    for (name, bytes) in corpus_of(form, seed).files() {
         if read(name)? != bytes {
             return Err(format!("seed {seed} does not make {name} again"));
         }
     }
-    Ok(census_of(&batches))
+    Ok(census_of(form, &batches))
 }
 
 impl Corpus {
@@ -104,9 +110,29 @@ struct Part {
 
 type Maker = fn(&mut Rng) -> Vec<Vec<u8>>;
 
-/// Every part, made from its own random numbers so that none depends on the others. Each has
-/// batches of every edition.
-const PARTS: [(&str, Maker); 13] = [
+/// What a corpus is made of.
+struct Set {
+    form: Form,
+    /// What it is, for its readme.
+    head: &'static str,
+    /// Behind its table of numbers.
+    numbers_note: &'static str,
+    /// What asks a program for it.
+    option: &'static str,
+    /// Every part, made from its own random numbers so that none depends on the others.
+    parts: &'static [(&'static str, Maker)],
+}
+
+const BATCH_SET: Set = Set {
+    form: Form::BATCH,
+    head: HEAD,
+    numbers_note: NUMBERS_NOTE,
+    option: "",
+    parts: &PARTS,
+};
+
+/// Each part has batches of every edition.
+const PARTS: [(&str, Maker); 14] = [
     (
         "the paper's example batch, days (a) to (m), worked days of editions 2 and 3",
         |_| worked_days(),
@@ -135,17 +161,31 @@ const PARTS: [(&str, Maker); 13] = [
     ),
     ("metered days: plans with many breaches", metered_days),
     ("plans and cases of another edition", mixed_editions),
+    (
+        "days with as many devices or intervals as may be, and with more",
+        days_with_many_devices_or_intervals,
+    ),
 ];
 
-fn parts_of(seed: u64) -> Vec<Part> {
-    PARTS
-        .iter()
-        .zip(0..)
-        .map(|(&(about, make), index)| Part {
-            about,
-            batches: make(&mut Rng::numbered(seed, index)),
-        })
-        .collect()
+impl Set {
+    fn of(form: Form) -> &'static Set {
+        if form == Form::HOST {
+            &host::HOST_SET
+        } else {
+            &BATCH_SET
+        }
+    }
+
+    fn parts_of(&self, seed: u64) -> Vec<Part> {
+        self.parts
+            .iter()
+            .zip(0..)
+            .map(|(&(about, make), index)| Part {
+                about,
+                batches: make(&mut Rng::numbered(seed, index)),
+            })
+            .collect()
+    }
 }
 
 /// A batch of a case and plans of it.
@@ -178,8 +218,8 @@ fn edge_days() -> Vec<Vec<u8>> {
 }
 
 /// A case with every kind of field that the edition's devices can have together, as small as that
-/// allows: from edition 2 on one device with two lines and one with an equality, in edition 3 some
-/// floor above 0.
+/// allows: from edition 2 on one device with two lines and one with an equality, from edition 3 on
+/// some floor above 0.
 fn case_with_every_field(rng: &mut Rng, edition: Edition) -> Sample {
     let shape = Shape {
         size: Size::Small,
@@ -210,6 +250,7 @@ fn framing_batches(rng: &mut Rng) -> Vec<Vec<u8>> {
     let case = encode_case(sample.edition, &sample.case).bytes;
     let plan = encode_plan(sample.edition, &good_plan(rng, &sample)).bytes;
     let whole = join(&[&case, &plan]);
+    let longest_message = Form::BATCH.longest_message;
     let mut batches = vec![
         Vec::new(),
         vec![0],
@@ -226,14 +267,14 @@ fn framing_batches(rng: &mut Rng) -> Vec<Vec<u8>> {
     for trail in [&[0][..], &[0, 0], &[255, 255]] {
         batches.push([&whole, trail].concat());
     }
-    for length in [LONGEST_MESSAGE + 1, LONGEST_MESSAGE + 256, (1 << 24) - 1] {
+    for length in [longest_message + 1, longest_message + 256, (1 << 24) - 1] {
         for start in [&[][..], &whole] {
             let mut batch = start.to_vec();
             append_length(&mut batch, length);
             batches.push(batch);
         }
     }
-    for length in [1, 2, LONGEST_MESSAGE] {
+    for length in [1, 2, longest_message] {
         let mut batch = whole.clone();
         append_length(&mut batch, length);
         batches.push(batch.clone());
@@ -241,18 +282,18 @@ fn framing_batches(rng: &mut Rng) -> Vec<Vec<u8>> {
         batches.push(batch);
     }
     // As long as may be, all there: surplus bytes behind a plan. One byte longer, all there: 4.
-    let mut longest = plan.clone();
-    longest.resize(LONGEST_MESSAGE, 0);
-    batches.push(join(&[&case, &longest, &plan]));
-    longest.push(0);
-    batches.push(join(&[&case, &longest, &plan]));
+    for length in [longest_message, longest_message + 1] {
+        let mut longest = plan.clone();
+        longest.resize(length, 0);
+        batches.push(join(&[&case, &longest, &plan]));
+    }
     // A refused case ends the run before any framing behind it.
     let mut ended = join(&[&case[1..]]);
-    append_length(&mut ended, LONGEST_MESSAGE + 1);
+    append_length(&mut ended, longest_message + 1);
     batches.push(ended);
     for _ in 0..6 {
-        let mut batch = random_batch(rng, Size::Small, 4);
-        spoil_framing(rng, &mut batch);
+        let mut batch = random_batch(rng, Form::BATCH, Size::Small, 4);
+        spoil_framing(rng, Form::BATCH, &mut batch);
         batches.push(batch);
     }
     batches
@@ -294,8 +335,14 @@ fn can_be_cut(field: &Field) -> bool {
     (field.place..field.end()).any(|bit| bit % 8 == 0)
 }
 
-/// Fields of a case that no byte ends before or inside: bits 4 to 7 and 19 to 21.
-const NEVER_CUT: [&str; 2] = ["case edition", "zones"];
+/// Fields of a case that no byte ends before or inside: bits 4 to 7 and, up to edition 3, 19 to 21.
+fn never_cut(edition: Edition) -> &'static [&'static str] {
+    if edition.has_large_counts() {
+        &["case edition"]
+    } else {
+        &["case edition", "zones"]
+    }
+}
 
 /// What is made of each edition, one behind the other.
 fn of_each_edition(
@@ -325,7 +372,7 @@ fn cut_cases_in(rng: &mut Rng, edition: Edition) -> Vec<Vec<u8>> {
                 cut_names.push(field.name);
             }
         }
-        if cut_names.len() + NEVER_CUT.len() == names_of(&message).len() {
+        if cut_names.len() + never_cut(edition).len() == names_of(&message).len() {
             return batches;
         }
     }
@@ -415,7 +462,7 @@ fn several_contradictions(rng: &mut Rng, edition: Edition) -> Vec<Vec<u8>> {
 
 /// Batches of one case and many damaged plans, a good one at the end.
 fn damaged_plans(rng: &mut Rng) -> Vec<Vec<u8>> {
-    const BATCHES_PER_EDITION: usize = 3;
+    const BATCHES_PER_EDITION: usize = 2;
     of_each_edition(rng, |rng, edition| {
         (0..BATCHES_PER_EDITION)
             .map(|_| damaged_plans_of_a_case(rng, edition))
@@ -434,8 +481,8 @@ fn damaged_plans_of_a_case(rng: &mut Rng, edition: Edition) -> Vec<u8> {
     batch
 }
 
-/// A plan cut in each kind of field, out of range in each kind, with every other count, with fill
-/// bits and with surplus bytes.
+/// A plan cut in each kind of field, out of range in each kind, with other counts, with fill bits
+/// and with surplus bytes.
 fn damaged_forms(rng: &mut Rng, message: &Encoded) -> Vec<Vec<u8>> {
     let mut forms = Vec::new();
     for field in one_field_of_each_name(rng, message, can_be_cut) {
@@ -451,14 +498,23 @@ fn damaged_forms(rng: &mut Rng, message: &Encoded) -> Vec<Vec<u8>> {
         .iter()
         .filter(|field| field.name.starts_with("plan "))
     {
-        let (least, greatest) = field.sayable();
-        let others = (least..=greatest).filter(|value| !(field.low..=field.high).contains(value));
+        let others = other_counts(field);
         forms.extend(others.map(|value| with_value(message, field, value)));
     }
     forms.extend(with_fill_bit(rng, message));
     forms.extend(with_fill_bit(rng, message).map(|filled| with_surplus_bytes(rng, &filled)));
     forms.push(with_surplus_bytes(rng, &message.bytes));
     forms
+}
+
+/// Every value of a count but its own; where its bits can say a hundred, those up to what an older
+/// edition can say with a bit less, and those around the limits.
+fn other_counts(field: &Field) -> impl Iterator<Item = i128> {
+    let (own, (least, greatest)) = (field.low, field.sayable());
+    let edges = [47, 48, 49, 63, 64, 65, 95, 96, 97, greatest];
+    (least..=greatest)
+        .filter(move |value| greatest < 100 || *value < 20 || edges.contains(value))
+        .filter(move |&value| value != own)
 }
 
 /// For each rule, batches of one case of each edition that has the rule, a good plan and plans
@@ -498,19 +554,21 @@ fn batch_broken_at(rng: &mut Rng, edition: Edition, rule: u8) -> Option<Vec<u8>>
     Some(batch_of(edition, &sample.case, &plans))
 }
 
-const LAST_INTERVAL: usize = MOST_INTERVALS - 1;
-const LAST_DEVICE: usize = MOST_DEVICES - 1;
+const LAST_INTERVAL: usize = Largest::SMALL.intervals - 1;
+const LAST_DEVICE: usize = Largest::SMALL.devices - 1;
 
 /// Plans of the largest counts that keep every rule until device 16 in interval 48: there they are
 /// broken at one of rules 5 to 19 or 21 to 26, or switched off, which breaks rule 1 where the
-/// device must be on. In edition 3 at rules 17 to 19 alone, rule 19 several times.
+/// device must be on. In edition 3 at rules 17 to 19 alone, rule 19 several times; in edition 4 at
+/// few.
 fn broken_at_the_end(rng: &mut Rng) -> Vec<Vec<u8>> {
     let all = |edition: Edition| (5..=edition.last_rule()).collect();
-    let endings: [(Edition, bool, Vec<u8>); 4] = [
+    let endings: [(Edition, bool, Vec<u8>); 5] = [
         (Edition::One, true, all(Edition::One)),
         (Edition::One, false, all(Edition::One)),
         (Edition::Two, true, all(Edition::Two)),
         (Edition::Three, true, vec![17, 18, 19, 19, 19, 19]),
+        (Edition::Four, true, vec![5, 19, 21]),
     ];
     endings
         .map(|(edition, on, rules)| batch_broken_at_the_end(rng, edition, on, &rules))
@@ -571,7 +629,7 @@ fn random_batches(rng: &mut Rng) -> Vec<Vec<u8>> {
         (Size::Full, 2, 5),
     ] {
         for _ in 0..count {
-            batches.push(random_batch(rng, size, plans));
+            batches.push(random_batch(rng, Form::BATCH, size, plans));
         }
     }
     batches.extend(extreme_days().iter().map(batch_of_day));
@@ -586,15 +644,15 @@ fn random_batches(rng: &mut Rng) -> Vec<Vec<u8>> {
     batches
 }
 
-/// The lowest and the highest surpluses.
+/// The lowest surpluses of every edition, and the highest.
 fn extreme_days() -> Vec<Day> {
-    vec![
-        very_low_surplus_day(Edition::One),
-        very_low_surplus_day(Edition::Two),
-        very_low_surplus_day(Edition::Three),
-        very_high_surplus_day(),
-        costly_reactive_reserves_day(),
-    ]
+    let small = Largest::SMALL;
+    let mut days = Edition::ALL
+        .map(|edition| very_low_surplus_day(edition, small))
+        .to_vec();
+    days.push(very_high_surplus_day(Edition::One, small));
+    days.push(costly_reactive_reserves_day());
+    days
 }
 
 /// Cases of up to three states at a device, with a plan, and of four to seven, which are refused
@@ -615,8 +673,8 @@ fn cases_with_many_states(rng: &mut Rng) -> Vec<Vec<u8>> {
         }
     }
     // The largest case that could be stored: four states at each of 16 devices.
-    let mut largest = very_low_surplus_day(Edition::One);
-    for j in 0..MOST_DEVICES {
+    let mut largest = very_low_surplus_day(Edition::One, Largest::SMALL);
+    for j in 0..largest.case.devices.len() {
         give_states(&mut largest.case, j, MOST_STATES + 1);
     }
     batches.push(batch_of_day(&largest));
@@ -642,7 +700,7 @@ fn metered_days(rng: &mut Rng) -> Vec<Vec<u8>> {
         }
     }
     for edition in Edition::ALL {
-        batches.push(batch_of_day(&most_breaches_day(edition)));
+        batches.push(batch_of_day(&most_breaches_day(edition, Largest::SMALL)));
     }
     batches
 }
@@ -677,24 +735,76 @@ fn mixed_editions(rng: &mut Rng) -> Vec<Vec<u8>> {
     batches
 }
 
-fn census_of<B: AsRef<[u8]>>(batches: &[B]) -> Census {
+/// Days of one device or one interval with as many of the other as the batch form takes, and with
+/// more: one more, as many as the edition takes, one more again. More of both are refused at the
+/// devices' count.
+fn days_with_many_devices_or_intervals(rng: &mut Rng) -> Vec<Vec<u8>> {
+    let mut batches = Vec::new();
+    for edition in Edition::ALL {
+        let small = Largest::SMALL;
+        for devices in many(edition.devices(), small.devices) {
+            batches.push(grown_day(rng, edition, devices, 1));
+        }
+        for intervals in many(edition.intervals(), small.intervals) {
+            batches.push(grown_day(rng, edition, 1, intervals));
+        }
+    }
+    let (devices, intervals) = (Largest::SMALL.devices + 1, Largest::SMALL.intervals + 1);
+    batches.push(grown_day(rng, Edition::Four, devices, intervals));
+    batches
+}
+
+/// The counts at the edges of what the batch form and an edition allow, each once.
+fn many(field: CountField, small: usize) -> Vec<usize> {
+    let mut counts = vec![small, small + 1, field.most, field.most + 1];
+    counts.sort();
+    counts.dedup();
+    counts
+}
+
+/// A day of one device in one interval, over and over.
+fn grown_day(rng: &mut Rng, edition: Edition, devices: usize, intervals: usize) -> Vec<u8> {
+    let shape = Shape {
+        size: Size::Tiny,
+        devices: 1,
+        intervals: 1,
+        zones: rng.below(2),
+    };
+    let sample = sample_of(rng, edition, &shape, Scale::Low);
+    let mut day = Day {
+        edition,
+        plan: good_plan(rng, &sample),
+        case: sample.case,
+    };
+    give_devices(&mut day, devices);
+    give_intervals(&mut day, intervals);
+    batch_of_day(&day)
+}
+
+fn census_of<B: AsRef<[u8]>>(form: Form, batches: &[B]) -> Census {
     let mut census = Census::default();
     for batch in batches {
-        census.add(&run(batch.as_ref()));
+        census.add(&run(form, batch.as_ref()));
     }
     census
 }
 
-fn readme(seed: u64, parts: &[Part], stdin: &[u8], stdout: &str) -> String {
-    let batches: Vec<&Vec<u8>> = parts.iter().flat_map(|part| &part.batches).collect();
-    let census = census_of(&batches);
-    let mut edges = Edges::default();
-    for batch in &batches {
+/// Every edge with the number of plans that show it.
+fn edges_of(form: Form, batches: &[&Vec<u8>]) -> Vec<(&'static str, usize)> {
+    let mut edges = Edges::none(form);
+    for batch in batches {
         edges.add(batch);
     }
+    edges.in_order()
+}
+
+fn readme(set: &Set, seed: u64, parts: &[Part], stdin: &[u8], stdout: &str) -> String {
+    let batches: Vec<&Vec<u8>> = parts.iter().flat_map(|part| &part.batches).collect();
+    let census = census_of(set.form, &batches);
     [
-        HEAD.to_string(),
-        command_paragraph(seed),
+        set.head.to_string(),
+        FILES.to_string(),
+        command_paragraph(set, seed),
         table("| Part | Batches | Bytes |", parts.iter().map(part_row)),
         format!(
             "`stdin` {} bytes, `stdout` {} bytes.\n\n## Counts\n",
@@ -716,11 +826,11 @@ fn readme(seed: u64, parts: &[Part], stdin: &[u8], stdout: &str) -> String {
             "| Number | Cases refused | Plans refused | Framing |",
             (1..=6).map(|number| number_row(&census, number)),
         ),
-        NUMBERS_NOTE.to_string(),
+        set.numbers_note.to_string(),
         "## Edges\n\nPlans that show each; accepted ones, unless marked.\n".to_string(),
         table(
             "| Edge | Plans |",
-            edges.in_order().into_iter().map(edge_row),
+            edges_of(set.form, &batches).into_iter().map(edge_row),
         ),
     ]
     .join("\n")
@@ -733,11 +843,12 @@ fn table(head: &str, rows: impl Iterator<Item = String>) -> String {
     table
 }
 
-fn command_paragraph(seed: u64) -> String {
+fn command_paragraph(set: &Set, seed: u64) -> String {
+    let option = set.option;
     format!(
-        "In `reference/`, `cargo run --release --bin corpus -- write DIR --seed {seed}` makes these \
-         files byte for byte;\n`cargo run --release --bin corpus -- check DIR --seed {seed}` and \
-         `cargo test` hold the reference to them.\n"
+        "In `reference/`, `cargo run --release --bin corpus -- write DIR{option} --seed {seed}` makes \
+         these files byte for byte;\n`cargo run --release --bin corpus -- check DIR{option} --seed \
+         {seed}` and `cargo test` hold the reference to them.\n"
     )
 }
 
@@ -798,8 +909,10 @@ fn edge_row((name, count): (&str, usize)) -> String {
 const HEAD: &str = "\
 # Corpus
 
-Batches with the output that the product and the reference are both held to.
+Batches with the output that the product's batch program and the reference are both held to.
+";
 
+const FILES: &str = "\
 - `stdin`: all batches, each behind a 32-bit byte length, most significant byte first.
 - `stdout`: for each batch, numbered K from 0, a line `batch K`, then the lines of the batch program
   of paper 01; directly after each accepted plan a line `completion BYTES CRC` with the length of
@@ -811,7 +924,7 @@ Batches with the output that the product and the reference are both held to.
 const NUMBERS_NOTE: &str = "\
 A plan has no field that could contradict another, so number 5 is never a plan's. Number 7 needs a
 short buffer, which the batch program has not; the reference's own tests hold it. Two kinds of field
-of a case (its edition and its zone count) and one of a plan (its edition) are never cut: no byte
-ends before or inside them. Framing has the numbers 1 and 4 alone. Rules 21 to 26 are those of
-editions 2 and 3; rule 19 has its lower bound in edition 3.
+of a case (its edition and, up to edition 3, its zone count) and one of a plan (its edition) are
+never cut: no byte ends before or inside them. Framing has the numbers 1 and 4 alone. Rules 21 to 26
+are there from edition 2 on; rule 19 has its lower bound from edition 3 on.
 ";

@@ -4,20 +4,23 @@ use std::collections::BTreeMap;
 
 use crate::batch::{split, Split};
 use crate::case::{
-    read_case, Case, Device, EnergyKind, EnergyWindow, Side, MOST_SHORTFALLS, MOST_STATES,
+    read_case_in, Case, Device, EnergyKind, EnergyWindow, Side, MOST_SHORTFALLS, MOST_STATES,
 };
 use crate::clock::{spans, Span};
 use crate::completion::{Completion, DeviceChoices};
 use crate::edition::Edition;
 use crate::energy::EnergyRule;
 use crate::forced::{forced, Forced};
+use crate::form::Form;
 use crate::ours::{complete, complete_by, downtime};
 use crate::plan::{read_plan, Plan};
 use crate::rules::{broken_rules, most_fall, most_rise, Place};
 
+mod counts;
 mod floors;
 mod reactive;
 
+use counts::{COUNT_ACCEPTED_EDGES, LARGE_ACCEPTED_EDGES, LARGE_BROKEN_EDGES};
 use floors::{FLOOR_ACCEPTED_EDGES, FLOOR_BROKEN_EDGES};
 use reactive::{REACTIVE_ACCEPTED_EDGES, REACTIVE_BROKEN_EDGES};
 
@@ -25,22 +28,55 @@ use reactive::{REACTIVE_ACCEPTED_EDGES, REACTIVE_BROKEN_EDGES};
 type Edge<D> = (&'static str, fn(&D) -> bool);
 
 /// Counts of edges: how many plans show each.
-#[derive(Clone, PartialEq, Eq, Debug, Default)]
+#[derive(Clone, PartialEq, Eq, Debug)]
 pub struct Edges {
+    form: Form,
     counts: BTreeMap<&'static str, usize>,
 }
 
+/// The edges that accepted and that broken plans can show in the batch form.
+const EDGES: (&[&[AcceptedEdge]], &[&[BrokenEdge]]) = (
+    &[
+        ACCEPTED_EDGES,
+        REACTIVE_ACCEPTED_EDGES,
+        FLOOR_ACCEPTED_EDGES,
+        COUNT_ACCEPTED_EDGES,
+    ],
+    &[BROKEN_EDGES, REACTIVE_BROKEN_EDGES, FLOOR_BROKEN_EDGES],
+);
+
+/// Those that plans can show in the host form alone.
+const LARGE_EDGES: (&[&[AcceptedEdge]], &[&[BrokenEdge]]) =
+    (&[LARGE_ACCEPTED_EDGES], &[LARGE_BROKEN_EDGES]);
+
 impl Edges {
+    /// No plan yet, of batches in a form.
+    pub fn none(form: Form) -> Edges {
+        Edges {
+            form,
+            counts: BTreeMap::new(),
+        }
+    }
+
+    /// The edges that are counted: in the host form those of large days alone.
+    fn counted(
+        &self,
+    ) -> (
+        &'static [&'static [AcceptedEdge]],
+        &'static [&'static [BrokenEdge]],
+    ) {
+        if self.form == Form::HOST {
+            LARGE_EDGES
+        } else {
+            EDGES
+        }
+    }
+
     /// Every edge with its count, 0 included.
     pub fn in_order(&self) -> Vec<(&'static str, usize)> {
-        let accepted = [
-            ACCEPTED_EDGES,
-            REACTIVE_ACCEPTED_EDGES,
-            FLOOR_ACCEPTED_EDGES,
-        ];
-        let broken = [BROKEN_EDGES, REACTIVE_BROKEN_EDGES, FLOOR_BROKEN_EDGES];
-        let of_accepted = accepted.into_iter().flatten().map(|(name, _)| *name);
-        let of_broken = broken.into_iter().flatten().map(|(name, _)| *name);
+        let (accepted, broken) = self.counted();
+        let of_accepted = accepted.iter().copied().flatten().map(|(name, _)| *name);
+        let of_broken = broken.iter().copied().flatten().map(|(name, _)| *name);
         of_accepted
             .chain(of_broken)
             .map(|name| (name, self.counts.get(name).copied().unwrap_or(0)))
@@ -49,16 +85,16 @@ impl Edges {
 
     /// Counts the edges that the plans of one batch show.
     pub fn add(&mut self, batch: &[u8]) {
-        let Split::Message { message, mut next } = split(batch, 0) else {
+        let Split::Message { message, mut next } = split(self.form, batch, 0) else {
             return;
         };
-        let Ok((edition, case)) = read_case(message) else {
+        let Ok((edition, case)) = read_case_in(self.form, message) else {
             return;
         };
         while let Split::Message {
             message,
             next: then,
-        } = split(batch, next)
+        } = split(self.form, batch, next)
         {
             if let Ok(plan) = read_plan(edition, &case, message) {
                 self.add_plan(edition, &case, &plan);
@@ -82,9 +118,9 @@ impl Edges {
                 completion: &ours.completion,
                 surplus: ours.surplus,
             };
-            self.count(ACCEPTED_EDGES, &day);
-            self.count(REACTIVE_ACCEPTED_EDGES, &day);
-            self.count(FLOOR_ACCEPTED_EDGES, &day);
+            for edges in self.counted().0 {
+                self.count(edges, &day);
+            }
         } else {
             let day = BrokenDay {
                 case,
@@ -93,9 +129,9 @@ impl Edges {
                 forced,
                 breaches,
             };
-            self.count(BROKEN_EDGES, &day);
-            self.count(REACTIVE_BROKEN_EDGES, &day);
-            self.count(FLOOR_BROKEN_EDGES, &day);
+            for edges in self.counted().1 {
+                self.count(edges, &day);
+            }
         }
     }
 

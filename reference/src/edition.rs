@@ -5,8 +5,9 @@
 //! two is the case" but reading and writing.
 
 use crate::bits::FieldReader;
-use crate::case::{MOST_DEVICES, MOST_INTERVALS, MOST_ZONES};
+use crate::case::MOST_ZONES;
 use crate::fault::Fault;
+use crate::form::Largest;
 
 /// An edition of the messages.
 #[derive(Clone, Copy, PartialEq, Eq, PartialOrd, Ord, Debug)]
@@ -19,6 +20,9 @@ pub enum Edition {
     Two,
     /// "Edition 3, on top of 2, puts a floor (17 bits) after each block's cap." (A.6)
     Three,
+    /// "Edition 4 holds all of 3, has 7-bit device and interval counts and 7-bit most starts
+    /// (0..96), and raises the limits to 64 and 96." (A.8)
+    Four,
 }
 
 /// A count's width in bits, and the most that it may say.
@@ -30,8 +34,8 @@ pub struct CountField {
 
 impl Edition {
     /// Every edition, oldest first.
-    pub const ALL: [Edition; 3] = [Edition::One, Edition::Two, Edition::Three];
-    pub const NEWEST: Edition = Edition::Three;
+    pub const ALL: [Edition; 4] = [Edition::One, Edition::Two, Edition::Three, Edition::Four];
+    pub const NEWEST: Edition = Edition::Four;
 
     /// The number that stands in a message.
     pub fn figure(self) -> i128 {
@@ -39,6 +43,7 @@ impl Edition {
             Edition::One => 1,
             Edition::Two => 2,
             Edition::Three => 3,
+            Edition::Four => 4,
         }
     }
 
@@ -58,25 +63,39 @@ impl Edition {
         self >= Edition::Three
     }
 
+    /// Whether counts and most starts are as wide and as great as A.8 has them.
+    pub fn has_large_counts(self) -> bool {
+        self >= Edition::Four
+    }
+
     /// The editions before it, oldest first.
     pub fn older(self) -> impl Iterator<Item = Edition> {
         let all = Edition::ALL.into_iter();
         all.filter(move |&edition| edition < self)
     }
 
-    /// "devices 5 (1..16)".
-    pub fn devices(self) -> CountField {
-        CountField {
-            width: 5,
-            most: MOST_DEVICES,
+    /// The largest day that its messages may say.
+    pub fn largest(self) -> Largest {
+        if self.has_large_counts() {
+            Largest::LARGE
+        } else {
+            Largest::SMALL
         }
     }
 
-    /// "intervals 6 (1..48)".
+    /// "devices 5 (1..16)", in edition 4 "7-bit".
+    pub fn devices(self) -> CountField {
+        CountField {
+            width: if self.has_large_counts() { 7 } else { 5 },
+            most: self.largest().devices,
+        }
+    }
+
+    /// "intervals 6 (1..48)", in edition 4 "7-bit".
     pub fn intervals(self) -> CountField {
         CountField {
-            width: 6,
-            most: MOST_INTERVALS,
+            width: if self.has_large_counts() { 7 } else { 6 },
+            most: self.largest().intervals,
         }
     }
 
@@ -88,12 +107,10 @@ impl Edition {
         }
     }
 
-    /// "most starts 6 (0..48)": a figure, bounded like a count.
+    /// "most starts 6 (0..48)", in edition 4 "7-bit most starts (0..96)": a figure that goes with
+    /// the interval count, whatever form reads it.
     pub fn most_starts(self) -> CountField {
-        CountField {
-            width: 6,
-            most: MOST_INTERVALS,
-        }
+        self.intervals()
     }
 
     /// How many shortfalls a zone has, and prices for them: "rgu, rgd, scr, nsc, rru, rrd", and the

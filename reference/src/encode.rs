@@ -108,9 +108,10 @@ impl Encoder {
         self.put(name, Class::Count, width, range, count as i128);
     }
 
-    /// A count of a case's header.
+    /// A count of a case's header, in the edition's range or not.
     fn header_count(&mut self, name: &'static str, field: CountField, least: i128, count: usize) {
-        self.count(name, field.width, (least, field.most as i128), count);
+        let range = (least, field.most as i128);
+        self.put_as_it_stands(name, Class::Count, field.width, range, count as i128);
     }
 
     fn figure(&mut self, name: &'static str, width: usize, high: i128, value: i128) {
@@ -145,9 +146,10 @@ const PRODUCTS: [&str; 8] = [
     "rgu", "rgd", "scr", "nsc", "rru_on", "rru_off", "rrd_on", "rrd_off",
 ];
 
-/// The message of a case in an edition. Contradictions (number 5) and a device's startup states,
-/// also where they are more than three, are written as they stand. Figures that the edition lacks
-/// must have their neutral values.
+/// The message of a case in an edition. Contradictions (number 5), devices, intervals and zones,
+/// and a device's startup states, also where they are more than may be, are written as they stand;
+/// the ranges of their counts are those of the host form. Figures that the edition lacks must have
+/// their neutral values.
 pub fn encode_case(edition: Edition, case: &Case) -> Encoded {
     assert!(
         edition.has_reactive_power() || !case.has_reactive_power(),

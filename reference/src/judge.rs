@@ -35,8 +35,8 @@ pub enum Finding {
     Broken(Place),
 }
 
-/// Judges one plan against one case and, on acceptance alone, writes the completion's bytes to the
-/// front of `buffer`.
+/// Judges one plan against one case in the host form and, on acceptance alone, writes the
+/// completion's bytes to the front of `buffer`.
 pub fn judge(case_message: &[u8], plan_message: &[u8], buffer: &mut [u8]) -> Verdict {
     match read_case(case_message) {
         Err(fault) => Verdict::Refused(Refusal::Case(fault)),

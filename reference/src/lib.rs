@@ -1,6 +1,7 @@
 //! An independent reading of paper 01, "Plan unit: judging a day's commitment", with requests A.4
 //! (three startup states), A.3 (energy by the minute), A.5 (every broken rule), A.1 (reactive
-//! power: edition 2) and A.6 (take-or-pay blocks: edition 3) of paper 02.
+//! power: edition 2), A.6 (take-or-pay blocks: edition 3) and A.8 (sixty-four sets, ninety-six
+//! intervals: edition 4) of paper 02.
 //!
 //! Written from the papers alone, it shares no code and no tables with the product that it is held
 //! against. Every figure is an `i128` and arithmetic is checked in every profile, so that nothing
@@ -10,6 +11,7 @@
 //! The reading itself:
 //!
 //! - [`edition`]: the editions of messages; what each has.
+//! - [`form`]: the batch program and the host library; how large a day each takes.
 //! - [`fault`], [`bits`], [`case`], [`plan`]: messages and every refusal of them.
 //! - [`clock`], [`forced`], [`rules`]: times, forced figures, the rules that a plan breaks.
 //! - [`reactive`]: rules 21 to 26, those of reactive power.
@@ -25,7 +27,7 @@
 //! - [`encode`]: writing of messages, with a record of their fields.
 //! - [`worked_day`]: the paper's worked day and example batch, the worked days of editions 2 and
 //!   3.
-//! - [`busiest`]: the day on which instructions are counted.
+//! - [`busiest`], [`ordinary`]: the days on which instructions are counted.
 //! - [`rng`], [`generate`]: random cases, plans and batches from a seed.
 //! - [`rivals`]: other completions of a plan.
 //! - [`crc`], [`packed`], [`census`], [`edges`], [`corpus`]: the corpus and what it reaches.
@@ -51,9 +53,11 @@ pub mod encode;
 pub mod energy;
 pub mod fault;
 pub mod forced;
+pub mod form;
 pub mod generate;
 pub mod judge;
 pub mod meets;
+pub mod ordinary;
 pub mod ours;
 pub mod packed;
 pub mod plan;

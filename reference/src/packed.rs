@@ -11,6 +11,7 @@ use std::fmt::Write;
 use crate::batch::{run, Line};
 use crate::breaches::BREACH_BYTES;
 use crate::crc::crc32;
+use crate::form::Form;
 
 /// Appends one batch behind its length.
 pub fn append_batch(packed: &mut Vec<u8>, batch: &[u8]) {
@@ -67,11 +68,11 @@ pub fn append_output(output: &mut String, number: usize, lines: &[Line]) {
     }
 }
 
-/// The output of a list of batches.
-pub fn output<B: AsRef<[u8]>>(batches: &[B]) -> String {
+/// The output of a list of batches in a form.
+pub fn output<B: AsRef<[u8]>>(form: Form, batches: &[B]) -> String {
     let mut output = String::new();
     for (number, batch) in batches.iter().enumerate() {
-        append_output(&mut output, number, &run(batch.as_ref()));
+        append_output(&mut output, number, &run(form, batch.as_ref()));
     }
     output
 }

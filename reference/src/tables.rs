@@ -7,8 +7,8 @@
 
 use crate::breaches::{breaches, BREACH_BYTES};
 use crate::case::{
-    Block, Case, Device, EnergyKind, EnergyWindow, Reserves, Side, StartWindow, StartupState,
-    Status, Terms, Zone,
+    read_case, Block, Case, Device, EnergyKind, EnergyWindow, Reserves, Side, StartWindow,
+    StartupState, Status, Terms, Zone,
 };
 use crate::edition::Edition;
 use crate::encode::{encode_case, encode_plan, Class, Encoded};
@@ -23,9 +23,11 @@ use crate::generate::plans::good_plan;
 use crate::generate::sample::{sample_of, Sample};
 use crate::generate::shape::{Shape, Size};
 use crate::judge::{judge, Refusal, Verdict};
-use crate::plan::{Plan, Setting};
+use crate::plan::{read_plan, Plan, Setting};
 use crate::rng::Rng;
+use crate::worked_day::Day;
 
+mod counts;
 mod floors;
 mod reactive;
 
@@ -338,6 +340,28 @@ impl Draft {
     }
 }
 
+/// The case of one draft with the plan of another.
+fn mixed(about: &str, case: &Draft, plan: &Draft) -> Row {
+    Row {
+        plan: plan.row(about).plan,
+        ..case.row(about)
+    }
+}
+
+/// A day as a row.
+fn told_row(about: &str, day: &Day) -> Row {
+    Row::new(about, day.edition, &day.case, &day.plan)
+}
+
+/// A row of an older edition, in an edition: the same figures, those that are new neutral.
+fn rewritten(row: &Row, edition: Edition) -> Row {
+    let (older, case) = read_case(&row.case).expect("a day of an older edition");
+    let plan = read_plan(older, &case, &row.plan).expect("its plan");
+    let figure = edition.figure();
+    let about = format!("neutral figures in edition {figure}: {}", row.about);
+    Row::new(&about, edition, &case, &plan)
+}
+
 /// The rows written by hand, each about one sentence of the paper.
 pub fn written_rows() -> Vec<Row> {
     let mut rows = Vec::new();
@@ -352,6 +376,7 @@ pub fn written_rows() -> Vec<Row> {
     rows.extend(breach_rows());
     rows.extend(reactive::rows());
     rows.extend(floors::rows());
+    rows.extend(counts::rows());
     rows
 }
 

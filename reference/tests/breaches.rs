@@ -5,6 +5,7 @@ use reference::breaches::{breaches, breaches_of, bytes_of};
 use reference::case::{Case, Reserves, StartWindow, Status};
 use reference::edition::Edition;
 use reference::fault::{Fault, Number};
+use reference::form::Largest;
 use reference::generate::batches::random_plan_message;
 use reference::generate::breaks::metered_plan;
 use reference::generate::extreme::most_breaches_day;
@@ -127,7 +128,7 @@ fn a_rule_broken_in_two_ways_is_one_breach() {
 /// The last device in the last interval, and its last window.
 #[test]
 fn lists_at_the_largest_counts() {
-    let mut day = most_breaches_day(Edition::One);
+    let mut day = most_breaches_day(Edition::One, Largest::SMALL);
     for device in &mut day.case.devices {
         device.start_windows.clear();
         device.reserve_limits = Reserves::from_order([100_000; 8]);
@@ -160,15 +161,19 @@ fn lists_at_the_largest_counts() {
 
 /// 16 devices: 15 rules in each of 48 intervals, from edition 2 on four more, rule 2 in 24, rule 3
 /// or 4 in 47, rule 20 in four windows; in all 12,720 breaches, 50,880 bytes, or 15,792 and 63,168.
+/// 64 devices: 19 rules in each of 96 intervals, rule 2 in 48, rule 3 or 4 in 95, rule 20 in four
+/// windows; 126,144 breaches, 504,576 bytes.
 #[test]
 fn the_longest_list() {
     let longest = [
-        (Edition::One, 12_720),
-        (Edition::Two, 15_792),
-        (Edition::Three, 15_792),
+        (Edition::One, Largest::SMALL, 12_720),
+        (Edition::Two, Largest::SMALL, 15_792),
+        (Edition::Three, Largest::SMALL, 15_792),
+        (Edition::Four, Largest::SMALL, 15_792),
+        (Edition::Four, Largest::LARGE, 126_144),
     ];
-    for (edition, count) in longest {
-        let day = most_breaches_day(edition);
+    for (edition, largest, count) in longest {
+        let day = most_breaches_day(edition, largest);
         let (case, plan) = day.messages();
         let bytes_needed = 4 * count;
         let mut buffer = vec![0xA5; bytes_needed + 1];

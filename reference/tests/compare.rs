@@ -1,10 +1,12 @@
 //! The long run, against products that agree and products that do not.
 
 use reference::compare::{compare, output_of_program, Difference, Settings, Until};
+use reference::form::Form;
 use reference::packed::{output, unpack};
 
 fn settings(until: Until) -> Settings {
     Settings {
+        form: Form::BATCH,
         seed: 3,
         first_batch: 0,
         until,
@@ -13,7 +15,7 @@ fn settings(until: Until) -> Settings {
 }
 
 fn reference_output(packed: &[u8]) -> String {
-    output(&unpack(packed).expect("batches are packed"))
+    output(Form::BATCH, &unpack(packed).expect("batches are packed"))
 }
 
 /// Compares with a product that gives the reference's output, changed.
@@ -46,6 +48,28 @@ fn a_program_of_its_own_agrees() {
     assert_eq!((census.batches, difference), (300, None));
 }
 
+/// In the host form the batches are others, and most of their days are beyond the batch form.
+#[test]
+fn a_run_in_the_host_form_has_large_days() {
+    let mut product = |packed: &[u8]| {
+        let batches = unpack(packed).expect("batches are packed");
+        Ok(output(Form::HOST, &batches).into_bytes())
+    };
+    let settings = Settings {
+        form: Form::HOST,
+        plans_per_batch: 2,
+        ..settings(Until::Batches(120))
+    };
+    let (census, difference) = compare(&settings, &mut product, |_| {}).expect("nothing fails");
+    assert_eq!(difference, None);
+    assert_eq!(census.greatest[..2], [64, 96], "{census}");
+    assert!(2 * census.large.cases > census.cases, "{census}");
+    assert!(
+        census.large.accepted > 20 && census.large.broken > 10,
+        "{census}"
+    );
+}
+
 #[test]
 fn the_first_difference_stops_the_run_and_is_told() {
     let difference = difference_when(|output| output.replacen("broken 7 ", "broken 8 ", 1))
@@ -53,7 +77,7 @@ fn the_first_difference_stops_the_run_and_is_told() {
     assert!(difference.shows_alone);
     let batches = unpack(&difference.packed).expect("the batch is packed");
     assert_eq!(batches.len(), 1);
-    let expected = output(&batches);
+    let expected = output(Form::BATCH, &batches);
     let line = expected
         .lines()
         .nth(difference.line - 1)

@@ -16,10 +16,11 @@ use reference::completion::completion_bits;
 use reference::edition::Edition;
 use reference::encode::{encode_case, encode_plan};
 use reference::fault::{Fault, Number};
+use reference::form::Largest;
 use reference::generate::batches::{plan_of_another_edition, random_plan_message};
 use reference::generate::damage::give_states;
 use reference::generate::plans::good_plan;
-use reference::generate::sample::{random_sample, sample_in};
+use reference::generate::sample::{random_sample, sample_in, Sample};
 use reference::generate::shape::Size;
 use reference::judge::{find, judge, Finding, Refusal, Verdict};
 use reference::plan::{read_plan, Plan};
@@ -311,17 +312,17 @@ fn new_fields_cut_are_number_1() {
 }
 
 #[test]
-fn editions_are_1_to_3_else_number_2() {
+fn editions_are_1_to_4_else_number_2() {
     for edition in Edition::ALL {
         let (message, plan) = Day { edition, ..day() }.messages();
         assert_eq!(message[0], 0x10 + edition.figure() as u8);
         assert_eq!(plan[0], 0x20 + edition.figure() as u8);
         assert_eq!(read_case(&message).map(|(read, _)| read), Ok(edition));
-        for other in [0, 4, 5, 15] {
+        for other in [0, 5, 6, 15] {
             assert_eq!(case_fault(&with(&message, &[(4, 4, other)])), (2, 4));
             assert_eq!(case_fault(&[0x10 + other as u8]), (2, 4));
         }
-        assert_eq!(case_fault(&with(&message, &[(0, 4, 2), (4, 4, 4)])), (2, 0));
+        assert_eq!(case_fault(&with(&message, &[(0, 4, 2), (4, 4, 5)])), (2, 0));
     }
 }
 
@@ -406,7 +407,7 @@ fn plans_of_another_edition_are_number_2() {
         assert_eq!(judged(&plan_message[..1]), refused(4));
         assert_eq!(judged(&with(&plan_message, &[(8, 5, 31)])), refused(4));
         assert_eq!(judged(&with(&plan_message, &[(0, 4, 1)])), refused(0));
-        for edition in [0, 4, 15] {
+        for edition in [0, 5, 15] {
             assert_eq!(judged(&with(&plan_message, &[(4, 4, edition)])), refused(4));
         }
     }
@@ -416,23 +417,44 @@ fn plans_of_another_edition_are_number_2() {
 /// more of each device in each interval and 68 of each device, 14 of each zone and 46 in each
 /// interval; 52 bits more in a plan; 66 of each zone and 23 more of each interval in a completion.
 /// In edition 3 a floor of 17 bits in each of four blocks of each device in each interval of a case.
+/// In edition 4 three bits more in each header and one in each start window.
 #[test]
 fn largest_messages_of_every_edition() {
-    let lengths = |edition| {
-        let batch = busiest_batch(edition, 1, 16, 48);
+    let lengths = |edition: Edition, largest: Largest| {
+        let batch = busiest_batch(edition, 1, largest.devices, largest.intervals);
         let messages = batch::messages(&batch);
         let (_, case) = read_case(messages[0]).expect("the case passes reading");
         let completion = completion_bits(edition, &case).div_ceil(8);
         [messages[0].len(), messages[1].len(), completion]
     };
-    assert_eq!(lengths(Edition::One), [29_812, 14_787, 12_165]);
-    assert_eq!(lengths(Edition::Two), [37_203, 19_779, 13_887]);
-    assert_eq!(lengths(Edition::Three), [43_731, 19_779, 13_887]);
+    let small = |edition| lengths(edition, Largest::SMALL);
+    assert_eq!(small(Edition::One), [29_812, 14_787, 12_165]);
+    assert_eq!(small(Edition::Two), [37_203, 19_779, 13_887]);
+    assert_eq!(small(Edition::Three), [43_731, 19_779, 13_887]);
+    assert_eq!(small(Edition::Four), [43_739, 19_779, 13_888]);
+    let large = lengths(Edition::Four, Largest::LARGE);
+    assert_eq!(large, [328_103, 158_211, 70_324]);
+    assert_eq!(large, large_lengths_by_width());
     assert_eq!(16 * 48 * 4 * 17, 8 * (43_731 - 37_203));
     let more_of_case = 16 * (48 * 64 + 68) + 4 * (14 + 48 * 46);
     assert_eq!(more_of_case, 8 * (37_203 - 29_812));
     assert_eq!(16 * 48 * 52, 8 * (19_779 - 14_787));
     assert_eq!(48 * (4 * 66 + 23), 8 * (13_887 - 12_165));
+}
+
+/// The largest messages of edition 4, field by field.
+fn large_lengths_by_width() -> [usize; 3] {
+    let counts = 4 + 4 + 7 + 7;
+    let zone = 4 * 10 + 8 * 7 + 96 * 4 * 23;
+    let lists = (3 + 3 * (16 + 31)) + (3 + 4 * (16 + 16 + 7)) + (3 + 4 * (1 + 16 + 16 + 32));
+    let powers = 17 + 4 * 17 + 8 * 17;
+    let device = 1 + 4 + 1 + powers + 3 * 16 + 17 + 2 * 30 + lists + 2 + 2 * (18 + 15);
+    let cell = 2 + 2 * 17 + 3 + 4 * (17 + 17 + 15) + 8 * 14 + 2 * 18 + 2 * 14;
+    let case = counts + 3 + 2 * 14 + 96 * 8 + 4 * zone + 64 * (device + 96 * cell);
+    let plan = counts + 96 * 64 * (1 + 17 + 8 * 17 + 18 + 2 * 17);
+    let interval = 64 * (1 + 1 + 3 + 4 * 17) + 4 * 8 * 33 + 2 * 23;
+    let completion = counts + 3 + 96 * interval + 64 * 4 * 32 + 64;
+    [case, plan, completion].map(|bits: usize| bits.div_ceil(8))
 }
 
 /// What a finding says, its message left out.
@@ -443,9 +465,9 @@ fn told(finding: &Finding) -> String {
     }
 }
 
-/// Holds that a pair of edition 1, written in editions 2 and 3 with every new figure neutral, reads
-/// back as the same content and gets the same verdict and the same breaches. Gives back whether it
-/// is accepted.
+/// Holds that a pair of edition 1, written in every later edition with every new figure neutral,
+/// reads back as the same content and gets the same verdict and the same breaches. Gives back
+/// whether it is accepted.
 fn hold_neutral(case: &Case, plan: &Plan) -> bool {
     assert!(!case.has_reactive_power() && !plan.has_reactive_power() && !case.has_floors());
     let findings = Edition::ALL.map(|edition| {
@@ -455,8 +477,9 @@ fn hold_neutral(case: &Case, plan: &Plan) -> bool {
         assert_eq!(read_plan(edition, case, &plan_message), Ok(plan.clone()));
         find(edition, case, plan)
     });
-    assert_eq!(told(&findings[0]), told(&findings[1]));
-    assert_eq!(told(&findings[0]), told(&findings[2]));
+    for finding in &findings[1..] {
+        assert_eq!(told(&findings[0]), told(finding));
+    }
     let has_reactive_breach = breaches_of(case, plan).iter().any(|place| place.rule > 20);
     assert!(!has_reactive_breach);
     let completions = findings.map(|finding| match finding {
@@ -464,24 +487,41 @@ fn hold_neutral(case: &Case, plan: &Plan) -> bool {
         Finding::Broken(_) => None,
     });
     match completions {
-        [Some(one), Some(two), Some(three)] => {
+        [Some(one), Some(two), Some(three), Some(four)] => {
             hold_neutral_completions(case, [&one, &two]);
             // That of edition 3 is that of edition 2 but for its edition.
             assert_eq!((two[0], three[0]), (0x32, 0x33));
             assert_eq!(two[1..], three[1..]);
+            hold_wide_completion(&three, &four);
             true
         }
         _ => false,
     }
 }
 
+fn bits(message: &[u8]) -> Vec<bool> {
+    let bit = |k: usize| message[k / 8] & (128 >> (k % 8)) != 0;
+    (0..8 * message.len()).map(bit).collect()
+}
+
+/// The completion of edition 4 is that of edition 3 but for its edition and bits of 0: two ahead of
+/// the device count, one ahead of the interval count; and up to seven at the end.
+fn hold_wide_completion(of_three: &[u8], of_four: &[u8]) {
+    let (three, four) = (bits(of_three), bits(of_four));
+    assert_eq!((of_three[0], of_four[0]), (0x33, 0x34));
+    assert_eq!(four[8..10], [false; 2]);
+    assert_eq!(four[10..15], three[8..13]);
+    assert!(!four[15]);
+    let (rest, of_rest) = (&three[13..], &four[16..]);
+    let both = rest.len().min(of_rest.len());
+    assert_eq!(rest[..both], of_rest[..both]);
+    let fill = [&rest[both..], &of_rest[both..]].concat();
+    assert!(fill.len() < 8 && fill.iter().all(|&bit| !bit));
+}
+
 /// The completion of edition 2 is that of edition 1 but for its edition and bits of 0: 66 behind
 /// each zone's six shortfalls, 23 behind each mismatch.
 fn hold_neutral_completions(case: &Case, [of_one, of_two]: [&[u8]; 2]) {
-    let bits = |message: &[u8]| -> Vec<bool> {
-        let bit = |k: usize| message[k / 8] & (128 >> (k % 8)) != 0;
-        (0..8 * message.len()).map(bit).collect()
-    };
     let (of_one, of_two) = (bits(of_one), bits(of_two));
     let mut rest = &of_two[..];
     let mut kept = Vec::new();
@@ -537,11 +577,54 @@ fn neutral_figures_change_no_verdict() {
     assert!(accepted > 200 && broken > 200);
 }
 
-/// About a third of the random cases are of each edition, and each edition's plans are refused for
-/// cases of another.
+/// Holds that a plan of edition 2 or 3 gets the same verdict in edition 4, and gives back whether it
+/// is accepted.
+fn hold_in_edition_4(edition: Edition, case: &Case, plan: &Plan) -> bool {
+    let message = encode_plan(Edition::Four, plan).bytes;
+    assert_eq!(read_plan(Edition::Four, case, &message), Ok(plan.clone()));
+    let [older, newer] = [edition, Edition::Four].map(|edition| find(edition, case, plan));
+    assert_eq!(told(&older), told(&newer));
+    let completion = |finding| match finding {
+        Finding::Accepted { message, .. } => Some(message),
+        Finding::Broken(_) => None,
+    };
+    let (Some(mut of_older), Some(of_four)) = (completion(older), completion(newer)) else {
+        return false;
+    };
+    of_older[0] = 0x33;
+    hold_wide_completion(&of_older, &of_four);
+    true
+}
+
+/// Pairs of editions 2 and 3 get the same verdict in edition 4.
+#[test]
+fn verdicts_of_editions_2_and_3_are_those_of_edition_4() {
+    let mut verdicts = [0, 0];
+    for index in 0..120 {
+        let mut rng = Rng::numbered(SEED, 2_000 + index);
+        let edition = rng.pick(&[Edition::Two, Edition::Three]);
+        let size = rng.pick(&[Size::Tiny, Size::Small, Size::Small, Size::Medium]);
+        let sample = sample_in(&mut rng, edition, size);
+        let Sample { case, .. } = &sample;
+        let message = encode_case(Edition::Four, case).bytes;
+        assert_eq!(read_case(&message), Ok((Edition::Four, case.clone())));
+        for _ in 0..6 {
+            let message = random_plan_message(&mut rng, &sample);
+            if let Ok(plan) = read_plan(edition, case, &message) {
+                let is_accepted = hold_in_edition_4(edition, case, &plan);
+                verdicts[usize::from(is_accepted)] += 1;
+            }
+        }
+    }
+    println!("broken and accepted: {verdicts:?}");
+    assert!(verdicts.iter().all(|&count| count > 150));
+}
+
+/// About as many random cases are of each edition, and each edition's plans are refused for cases of
+/// another.
 #[test]
 fn random_cases_are_of_every_edition() {
-    let mut cases = [0; 3];
+    let mut cases = [0; Edition::ALL.len()];
     for index in 0..200 {
         let mut rng = Rng::numbered(SEED, 1_000 + index);
         let size = rng.pick(&[Size::Tiny, Size::Small]);
@@ -554,7 +637,7 @@ fn random_cases_are_of_every_edition() {
         assert_eq!(figures(fault), (2, 4));
     }
     assert!(
-        cases.iter().all(|count| (45..=90).contains(count)),
+        cases.iter().all(|count| (30..=75).contains(count)),
         "{cases:?}"
     );
 }

@@ -8,6 +8,7 @@ use reference::completion::completion_bits;
 use reference::edition::Edition;
 use reference::energy::EnergyRule::{self, ByMidpoint, ByMinute};
 use reference::forced::forced;
+use reference::form::Largest;
 use reference::generate::batches::random_plan_message;
 use reference::generate::extreme::{very_high_surplus_day, very_low_surplus_day};
 use reference::generate::plans::{good_plan, wild_plan};
@@ -385,7 +386,7 @@ fn overruns_written_for(day: &Day) -> Vec<i128> {
 /// and a minimum of 4·10^9 over a window that is empty.
 #[test]
 fn the_greatest_overruns_fit_their_field() {
-    let mut high = very_high_surplus_day();
+    let mut high = very_high_surplus_day(Edition::One, Largest::SMALL);
     for device in &mut high.case.devices {
         device.energy_windows = vec![
             window(EnergyKind::Maximum, 0, 17_280, 0),
@@ -395,7 +396,7 @@ fn the_greatest_overruns_fit_their_field() {
     let overruns = overruns_written_for(&high);
     let expected = [1_728_000_000, 1_727_800_000].repeat(16);
     assert_eq!(overruns, expected);
-    let overruns = overruns_written_for(&very_low_surplus_day(Edition::One));
+    let overruns = overruns_written_for(&very_low_surplus_day(Edition::One, Largest::SMALL));
     assert_eq!(overruns, [4_000_000_000; 64]);
     assert!(overruns[0] < 1 << OVERRUN_BITS);
 }

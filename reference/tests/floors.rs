@@ -16,6 +16,7 @@ use reference::completion::DeviceChoices;
 use reference::edition::Edition;
 use reference::encode::encode_case;
 use reference::forced::forced;
+use reference::form::Largest;
 use reference::generate::breaks::plan_breaking;
 use reference::generate::extreme::very_low_surplus_day;
 use reference::generate::plans::good_plan;
@@ -555,7 +556,7 @@ fn completion_of_edition_3_has_these_bytes() {
 /// with the surplus of edition 2.
 #[test]
 fn greatest_floors() {
-    let day = very_low_surplus_day(Edition::Three);
+    let day = very_low_surplus_day(Edition::Three, Largest::SMALL);
     assert_eq!(verdict_of(&day), Ok(-224_573_483_648_000_000));
     let (case, plan) = day.messages();
     assert_eq!((case.len(), plan.len()), (43_731, 19_779));

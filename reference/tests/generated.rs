@@ -14,6 +14,7 @@ use reference::edition::Edition;
 use reference::encode::{encode_case, encode_plan, Class, Encoded, Field};
 use reference::fault::Fault;
 use reference::forced::forced;
+use reference::form::Form;
 use reference::generate::batches::random_plan_message;
 use reference::generate::breaks::plan_breaking;
 use reference::generate::damage::{
@@ -301,13 +302,14 @@ fn noise_is_refused() {
         let length = rng.below(400);
         let mut noise: Vec<u8> = (0..length).map(|_| rng.below(256) as u8).collect();
         if rng.chance(70) && length > 2 {
-            noise[0] = 0x11 + rng.below(3) as u8;
+            noise[0] = 0x11 + rng.below(Edition::ALL.len()) as u8;
             noise[1] = 0x08;
         }
         assert!(read_case(&noise).is_err());
         let mut batch = noise.clone();
         append_message(&mut batch, &noise);
-        run(&batch);
+        run(Form::BATCH, &batch);
+        run(Form::HOST, &batch);
     }
 }
 
@@ -315,10 +317,10 @@ fn noise_is_refused() {
 #[test]
 fn long_run_reaches_everything() {
     let mut census = Census::default();
-    let mut edges = Edges::default();
-    for number in 0..1_200 {
-        let batch = numbered_batch(SEED, number, 12);
-        census.add(&run(&batch));
+    let mut edges = Edges::none(Form::BATCH);
+    for number in 0..1_600 {
+        let batch = numbered_batch(Form::BATCH, SEED, number, 12);
+        census.add(&run(Form::BATCH, &batch));
         edges.add(&batch);
     }
     println!("{census}");

@@ -1,12 +1,13 @@
 //! The judgement's buffer and bytes, the splitter, and sizes, against figures taken by hand from
 //! the paper.
 
-use reference::batch::{append_length, join, run, split, Split, LONGEST_MESSAGE};
+use reference::batch::{join, run, split, Split};
 use reference::case::read_case;
 use reference::completion::completion_bits;
 use reference::crc::crc32;
 use reference::edition::Edition;
 use reference::fault::{Fault, Number};
+use reference::form::{Form, Largest};
 use reference::generate::extreme::{very_high_surplus_day, very_low_surplus_day};
 use reference::judge::{judge, Refusal, Verdict};
 use reference::worked_day::{lettered_days, two_set_day};
@@ -160,52 +161,75 @@ fn only_acceptance_writes_and_7_comes_last() {
     }
 }
 
+fn refused(number: Number, bit: usize) -> Split<'static> {
+    Split::Refused(Fault::new(number, bit))
+}
+
 #[test]
 fn splitter_answers_in_its_sequence() {
-    let refused = |number, bit| Split::Refused(Fault::new(number, bit));
-    assert_eq!(split(&[], 0), Split::End);
-    assert_eq!(split(&[0], 0), refused(Number::Cut, 0));
-    assert_eq!(split(&[0, 0], 0), refused(Number::Cut, 0));
-    let empty = Split::Message {
-        message: &[],
-        next: 3,
-    };
-    assert_eq!(split(&[0, 0, 0], 0), empty);
-    assert_eq!(split(&[0, 0, 1], 0), refused(Number::Cut, 0));
-    // A length above 65,536 is 4 before the message is found to be cut; 65,536 itself is not.
-    assert_eq!(split(&[1, 0, 1], 0), refused(Number::Range, 0));
-    assert_eq!(split(&[255, 255, 255, 7], 0), refused(Number::Range, 0));
-    assert_eq!(split(&[1, 0, 0], 0), refused(Number::Cut, 0));
-    let mut longest = Vec::new();
-    append_length(&mut longest, LONGEST_MESSAGE);
-    longest.extend(vec![9; LONGEST_MESSAGE]);
-    let Split::Message { message, next } = split(&longest, 0) else {
-        panic!("65,536 bytes are a message");
-    };
-    assert_eq!((message.len(), next), (65_536, 65_539));
-    // The bit is the length's first, counted from the batch's first.
-    let batch = [0, 0, 2, 21, 22, 0, 0, 9, 1];
-    let two = Split::Message {
-        message: &[21, 22],
-        next: 5,
-    };
-    assert_eq!(split(&batch, 0), two);
-    assert_eq!(split(&batch, 5), refused(Number::Cut, 40));
-    assert_eq!(split(&batch, 9), Split::End);
-    assert_eq!(split(&batch, 10), Split::End);
+    for form in [Form::BATCH, Form::HOST] {
+        assert_eq!(split(form, &[], 0), Split::End);
+        assert_eq!(split(form, &[0], 0), refused(Number::Cut, 0));
+        assert_eq!(split(form, &[0, 0], 0), refused(Number::Cut, 0));
+        let empty = Split::Message {
+            message: &[],
+            next: 3,
+        };
+        assert_eq!(split(form, &[0, 0, 0], 0), empty);
+        assert_eq!(split(form, &[0, 0, 1], 0), refused(Number::Cut, 0));
+        let longest = [255, 255, 255, 7];
+        assert_eq!(split(form, &longest, 0), refused(Number::Range, 0));
+        // The bit is the length's first, counted from the batch's first.
+        let batch = [0, 0, 2, 21, 22, 0, 0, 9, 1];
+        let two = Split::Message {
+            message: &[21, 22],
+            next: 5,
+        };
+        assert_eq!(split(form, &batch, 0), two);
+        assert_eq!(split(form, &batch, 5), refused(Number::Cut, 40));
+        assert_eq!(split(form, &batch, 9), Split::End);
+        assert_eq!(split(form, &batch, 10), Split::End);
+    }
+}
+
+/// A length above 65,536, in the host form above 1,048,576, is 4 before the message is found to be
+/// cut; these lengths themselves are not.
+#[test]
+fn splitter_has_the_longest_message_of_its_form() {
+    let lengths = [
+        (Form::BATCH, 65_536, [[1, 0, 0], [1, 0, 1]]),
+        (Form::HOST, 1_048_576, [[16, 0, 0], [16, 0, 1]]),
+    ];
+    for (form, bytes, [longest, longer]) in lengths {
+        assert_eq!(split(form, &longest, 0), refused(Number::Cut, 0));
+        assert_eq!(split(form, &longer, 0), refused(Number::Range, 0));
+        let mut batch = longest.to_vec();
+        batch.extend(vec![9; bytes]);
+        let Split::Message { message, next } = split(form, &batch, 0) else {
+            panic!("{bytes} bytes are a message");
+        };
+        assert_eq!((message.len(), next), (bytes, bytes + 3));
+        let whole = [&longer[..], &batch].concat();
+        assert_eq!(split(form, &whole, 0), refused(Number::Range, 0));
+    }
+    // 65,537 is a length that the host form takes.
+    assert_eq!(split(Form::HOST, &[1, 0, 1], 0), refused(Number::Cut, 0));
 }
 
 #[test]
 fn splitter_hands_back_the_callers_own_bytes() {
     let batch = [0, 0, 2, 21, 22];
-    let Split::Message { message, .. } = split(&batch, 0) else {
+    let Split::Message { message, .. } = split(Form::BATCH, &batch, 0) else {
         panic!("two bytes are a message");
     };
     assert!(std::ptr::eq(message, &batch[3..5]));
 }
 
 fn printed(batch: &[u8]) -> Vec<String> {
-    run(batch).iter().map(|line| line.to_string()).collect()
+    run(Form::BATCH, batch)
+        .iter()
+        .map(|line| line.to_string())
+        .collect()
 }
 
 #[test]
@@ -241,7 +265,7 @@ fn batch_program_ends_where_the_paper_ends_it() {
 /// of 4·10^9 at 10,000. The very high one: 16 devices × 100,000 kW × 10,000 × 17,280 min and 16 states.
 #[test]
 fn largest_messages_and_surpluses() {
-    let low = very_low_surplus_day(Edition::One);
+    let low = very_low_surplus_day(Edition::One, Largest::SMALL);
     let (case, plan) = low.messages();
     assert_eq!((case.len(), plan.len()), (29_812, 14_787));
     let mut buffer = vec![0; 12_165];
@@ -258,7 +282,7 @@ fn largest_messages_and_surpluses() {
             bytes_needed: 12_165
         })
     );
-    let (case, plan) = very_high_surplus_day().messages();
+    let (case, plan) = very_high_surplus_day(Edition::One, Largest::SMALL).messages();
     assert_eq!(
         judge(&case, &plan, &mut buffer),
         Verdict::Accepted {

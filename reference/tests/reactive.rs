@@ -10,6 +10,7 @@ use reference::case::{Link, LinkLine, ReactiveReserves, Side, StartWindow, Zone}
 use reference::clock::spans;
 use reference::edition::Edition;
 use reference::forced::{commit, forced};
+use reference::form::Largest;
 use reference::generate::extreme::{costly_reactive_reserves_day, very_low_surplus_day};
 use reference::generate::plans::good_plan;
 use reference::generate::sample::sample_in;
@@ -667,11 +668,14 @@ fn greatest_reactive_figures() {
     let mismatch = 10_000 * 1_600_000 * minutes;
     let low = -135_823_403_648_000_000 - shortfalls - mismatch;
     assert_eq!(low, -224_573_483_648_000_000);
-    assert_eq!(verdict_of(&very_low_surplus_day(Edition::Two)), Ok(low));
+    assert_eq!(
+        verdict_of(&very_low_surplus_day(Edition::Two, Largest::SMALL)),
+        Ok(low)
+    );
     let reserves = 16 * 2 * 100_000 * 10_000 * minutes;
     let high = 276_496_000_000_000 - reserves;
     assert_eq!(verdict_of(&costly_reactive_reserves_day()), Ok(high));
-    let (case, plan) = very_low_surplus_day(Edition::Two).messages();
+    let (case, plan) = very_low_surplus_day(Edition::Two, Largest::SMALL).messages();
     assert_eq!((case.len(), plan.len()), (37_203, 19_779));
     let mut buffer = vec![0; 13_887];
     let judged = judge(&case, &plan, &mut buffer);

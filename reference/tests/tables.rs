@@ -344,6 +344,52 @@ const FLOOR_VERDICTS: [&str; 55] = [
     "broken 17 1 1 0",
 ];
 
+/// What each written row of edition 4 must give, in order.
+const COUNT_VERDICTS: [&str; 37] = [
+    // Days of editions 1 to 3: their verdicts there.
+    "accepted 167860",
+    "broken 5 2 1 0",
+    "broken 20 0 1 1",
+    "accepted -372560",
+    "accepted 164260",
+    "broken 19 2 1 0",
+    // Counts: devices at 8, intervals at 15, zones at 22.
+    "accepted -1600",
+    "refused case 3 8",
+    "refused case 3 8",
+    "refused case 3 8",
+    "refused case 3 15",
+    "refused case 3 15",
+    "refused case 3 15",
+    "refused case 3 8",
+    "refused case 3 22",
+    "refused case 3 15",
+    // Most starts: 53 of header, 8, 352, two counts of 3, 32 before it; in edition 3 three less.
+    "accepted -1600",
+    "accepted -1600",
+    "broken 20 0 1 1",
+    "refused case 4 451",
+    "refused case 4 451",
+    "accepted -1600",
+    "refused case 4 448",
+    // Cut.
+    "refused case 1 8",
+    "refused case 1 15",
+    "refused case 1 22",
+    "refused case 1 25",
+    "refused plan 1 8",
+    "refused plan 1 15",
+    "refused plan 1 23",
+    // Plans; the last case has 0 in the five bits that edition 3 has for its devices.
+    "refused plan 3 8",
+    "refused plan 3 8",
+    "refused plan 3 15",
+    "refused plan 2 4",
+    "refused plan 2 4",
+    "accepted -1600",
+    "refused case 3 8",
+];
+
 /// A list of breaches.
 type List = &'static [[u8; 4]];
 
@@ -411,7 +457,8 @@ const LISTS: [List; 10] = [
 #[test]
 fn written_rows_give_what_was_worked_out() {
     let rows = written_rows();
-    let verdicts = [&VERDICTS[..], &REACTIVE_VERDICTS, &FLOOR_VERDICTS].concat();
+    let of_older = [&VERDICTS[..], &REACTIVE_VERDICTS, &FLOOR_VERDICTS].concat();
+    let verdicts = [&of_older[..], &COUNT_VERDICTS].concat();
     assert_eq!(rows.len(), verdicts.len());
     for (row, verdict) in rows.iter().zip(verdicts) {
         let printed = row.printed();
@@ -425,7 +472,8 @@ fn written_rows_give_what_was_worked_out() {
 fn lists_of_written_rows_are_what_was_worked_out() {
     let rows = written_rows();
     let (of_edition_1, later) = rows.split_at(VERDICTS.len());
-    let (of_edition_2, of_edition_3) = later.split_at(REACTIVE_VERDICTS.len());
+    let (of_edition_2, later) = later.split_at(REACTIVE_VERDICTS.len());
+    let (of_edition_3, _) = later.split_at(FLOOR_VERDICTS.len());
     let of_editions: [(&[Row], &[List]); 3] = [
         (of_edition_1, &LISTS),
         (of_edition_2, &REACTIVE_LISTS),
@@ -459,8 +507,8 @@ fn lists_begin_with_the_verdict() {
 }
 
 /// Small enough to be worked out by hand; the paper's worked case has 210 bytes, in edition 2 and
-/// with a zone 278, in edition 3 290.
-const MOST_CASE_BYTES: usize = 290;
+/// with a zone 278, in edition 3 290, in edition 4 291.
+const MOST_CASE_BYTES: usize = 291;
 
 #[test]
 fn rows_reach_every_rule_and_every_refusal() {

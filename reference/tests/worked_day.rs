@@ -1,6 +1,7 @@
 //! The paper's worked day, against the figures the papers print.
 
 use reference::batch;
+use reference::form::Form;
 use reference::judge::{judge, Verdict};
 use reference::rules::Place;
 use reference::worked_day::{example_batch, lettered_days};
@@ -47,7 +48,7 @@ fn letters_give_the_figures_of_the_paper() {
 
 #[test]
 fn batch_program_prints_the_lines_of_the_paper() {
-    let printed: Vec<String> = batch::run(&example_batch())
+    let printed: Vec<String> = batch::run(Form::BATCH, &example_batch())
         .iter()
         .map(|line| line.to_string())
         .collect();

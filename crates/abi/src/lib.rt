@@ -2,8 +2,9 @@
 use tellings::store;
 use tellings::tell;
 use tellings::tell_case;
+use tellings::tell_frame;
 use tellings::tell_list;
-ghost use Rattle.abi.specs.Hosts.{HostJudges, HostInspects, HostLists};
+ghost use Rattle.abi.specs.Hosts.{HostJudges, HostInspects, HostLists, HostSplits};
 
 // `judge` for hosts: the word and the figures of the verdict; 5, with nothing done, where `figures` has fewer than four places.
 #[no_mangle]
@@ -55,6 +56,25 @@ pub extern "C" fn kadunfo_breaches(
     }
     let x = breach_unit::breaches(case, plan, list);
     let t = tell_list(x);
+    let word = t.word;
+    store(figures, t);
+    word
+}
+
+// The most bytes of a message that a host's splitter takes.
+const LONGEST: u64 = 1048576;
+
+// The splitter for hosts: 0 and where the message behind the length at byte `at` stands, 1 at the end, or 2 and the refusal; 5, with nothing done, where
+// `figures` has fewer than four places.
+#[no_mangle]
+pub extern "C" fn kadunfo_split(batch: &[u8], at: usize, figures: &mut [u64]) -> u64
+    ensures { λ r. ⌜ HostSplits (now (batch .entry)) at (now (figures .entry)) (now (figures .exit)) r ⌝ }
+{
+    if figures.len() < 4 {
+        return 5;
+    }
+    let x = layouts::frame_at(batch, at, LONGEST);
+    let t = tell_frame(x);
     let word = t.word;
     store(figures, t);
     word

@@ -18,7 +18,7 @@ use Rattle.model.specs.Editions.{batch, mostZones}
 use Rattle.model.specs.Ours.{ours}
 use Rattle.model.specs.Judgement.{energyWindows, ourSurplus, completionBytes, accepts, verdict, judged, withPlan}
 use Rattle.model.specs.Batch.{planVerdict}
-use Rattle.completion_size.specs.Size.{intervalWidth, interval-few, written-needed}
+use Rattle.completion_size.specs.Size.{intervalWidth, counts-few, interval-few, written-needed}
 
 abbrev pub resultRoom : ℕ
 resultRoom = 14336
@@ -40,7 +40,7 @@ module _ (x : Stated) (r : SystemRange (x .case .system)) (few : devices (x .cas
 
   pub completion-fits : (p : Plan) → length (completionBytes x p) ≤ resultRoom
   unfolding completionBytes
-  completion-fits p = omega (arith, written-needed (x .edition) q (ours (x .case) p) (ourSurplus (x .case) p), mul-le-mul short interval-small, windows-few)
+  completion-fits p = omega (arith, written-needed (x .edition) q (ours (x .case) p) (ourSurplus (x .case) p), mul-le-mul short interval-small, windows-few, counts-few (x .edition))
 
 -- so every verdict is that of a buffer long enough
 module _ (x : Stated) (buffer : List ℕ) (fits : (p : Plan) → length (completionBytes x p) ≤ length buffer) where

@@ -56,7 +56,7 @@ module _ (frame halves : List ℕ) (zones minima devices cells : List (List ℕ)
   -- the counts are the decoded case's
   counts-are : end ≡ Passes → caseLine 0 (counts .devices) (counts .intervals) (counts .zones) ≡ readLine (passes held)
   counts-are k =
-      let j = inspect-passes m halves zones minima devices cells end front counts d k ∙ ap inspectedOf (sym (d .is) ∙ ap (ended held) k) in
+      let j = inspect-passes batch (omega arith) (omega arith) m halves zones minima devices cells end front counts d k ∙ ap inspectedOf (sym (d .is) ∙ ap (ended held) k) in
       cc
 
   lines-are : (x : Framed) (y : Ending) → framed frame ≡ x → end ≡ y → endedLines x y counts ≡ caseLines frame x
@@ -82,7 +82,7 @@ module _ (frame halves : List ℕ) (zones minima devices cells : List (List ℕ)
   case-answered {before} {after} {n} {more} w = record {
     text = subst (λ (ls : List Line). Writes (texts ls) before after n) (lines-are (framed frame) end refl refl) (w .text);
     next = ap (λ (b : Bool). afterOf b held) (w .more) ∙ after-is (framed frame) end refl refl;
-    decoded = λ h. decoded-first m halves zones minima devices cells end front counts d (goes-on (framed frame) end (sym (w .more) ∙ h));
+    decoded = λ h. decoded-first batch (omega arith) (omega arith) m halves zones minima devices cells end front counts d (goes-on (framed frame) end (sym (w .more) ∙ h));
   }
 
 -- ---- a plan

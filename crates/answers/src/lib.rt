@@ -2,6 +2,7 @@
 use frames::LIMIT;
 use layouts::Framed;
 use model::Verdict;
+use plan_unit::ZONES;
 use row_places::CellRow;
 use row_places::Counts;
 use row_places::DeviceRow;
@@ -19,10 +20,16 @@ ghost use Rattle.wording.specs.Writes.{lineRoom};
 ghost use Rattle.answers.specs.Answers.{accepts, AnswersCase, AnswersPlan};
 ghost use Rattle.answers.specs.Room.{resultRoom};
 
-// The largest counts that the batch program takes.
-const DEVICES: u32 = 16;
+// The largest counts that the batch program takes, and the rows that its tables need.
+pub const DEVICES: usize = 16;
 
-const INTERVALS: u32 = 48;
+pub const INTERVALS: usize = 48;
+
+pub const CELLS: usize = DEVICES * INTERVALS;
+
+pub const MINIMA: usize = ZONES * INTERVALS;
+
+pub const TIMES: usize = INTERVALS + 1;
 
 // The line's bytes; whether plans may follow, and the front and counts of the case that they are for.
 pub struct CaseAnswer {
@@ -48,8 +55,8 @@ pub fn answer_case(
     let message = layouts::message_at(frame, 0, LIMIT);
     let read = case_reader::read_case(
         message,
-        DEVICES,
-        INTERVALS,
+        DEVICES as u32,
+        INTERVALS as u32,
         halves,
         zones,
         minima,

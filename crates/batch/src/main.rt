@@ -1,9 +1,9 @@
 // The batch program: a batch by standard input, case first; a line for each message. It owns the tables of a case of up to 16 devices and 48 intervals.
-use plan_unit::CELLS;
-use plan_unit::DEVICES;
-use plan_unit::INTERVALS;
-use plan_unit::MINIMA;
-use plan_unit::TIMES;
+use answers::CELLS;
+use answers::DEVICES;
+use answers::INTERVALS;
+use answers::MINIMA;
+use answers::TIMES;
 use plan_unit::ZONES;
 use row_places::CellRow;
 use row_places::DeviceRow;

@@ -1,32 +1,39 @@
--- The bracket n of a device in interval t, out of its parts of the tables: on, and each trajectory above 0; overlapping curves count each.
+-- The bracket n of a device in interval t, out of its parts of the tables: on, and each trajectory above 0; overlapping curves count each. Where the power is the online power, n is u.
 use mathlib.Core.Path.{_≡_, refl, sym, ap, _∙_}
 use mathlib.Core.Bool.{Bool, true, false}
 use mathlib.Core.List.{List}
-use Prim.Native.Nat.{ℕ, suc, _+_, _-_, _*_, _≤_, _<_}
+use Prim.Native.Nat.{ℕ, zero, suc, _+_, _-_, _*_, _≤_, _<_}
 use native.Mathlib.Omega.{arith}
 use native.Mathlib.Decide.{decLe}
 use native.Mathlib.Nat.{zero-mul, mul-zero, one-mul}
 use borrow.Author.Tests.{lt-ltb, le-ltb, eq-eqb, ne-eqb}
 use lib.Dec.{ltb}
 use lib.ListN.{length, getD}
-use Rattle.numbers.specs.Sum.{sumℕ, gate}
+use Rattle.numbers.specs.Sum.{sumℕ, sumℕ-mono, all, gate}
 use Rattle.numbers.specs.Base.{range, upTo, bit}
 use Rattle.numbers.specs.Every.{bit-le}
 use Rattle.numbers.specs.Ranges.{sum-more, sum-few}
-use Rattle.row_places.specs.Figures.{onAt, onBefore, pminAt, startedAt, stoppedAt}
+use Rattle.row_places.specs.Figures.{onAt, onlineAt, onBefore, pminAt, startedAt, stoppedAt}
 use Rattle.clock.specs.Times.{Clock}
 use Rattle.trajectories.specs.Trajectories.{leavesAt, riseIn, fallIn}
 use Rattle.ramped_powers.specs.declared.Ramping.{Ramping}
 use Rattle.ramped_powers.specs.Changes.{Rampable, leaves-low}
 
 module _ (r : Ramping) (cells settings : List (List ℕ)) (starts : List ℕ) (t : ℕ) where
-  -- 1 where a later start in e gives t a power above 0 (205)
-  abbrev pub startCount : ℕ → ℕ
-  startCount e = bit (ltb 0 (gate (ltb t e) (startedAt (r .on0) settings e * riseIn (pminAt cells e) (r .starting) starts e t)))
+  -- what a later start in e gives t (204, 205)
+  abbrev pub startPower : ℕ → ℕ
+  startPower e = gate (ltb t e) (startedAt (r .on0) settings e * riseIn (pminAt cells e) (r .starting) starts e t)
 
-  -- 1 where a stop in e, up to t, does (208)
+  -- what a stop in e, up to t, gives it (206 to 208)
+  abbrev pub stopPower : ℕ → ℕ
+  stopPower e = stoppedAt (r .on0) settings e * fallIn (leavesAt (r .power0 .0) cells e) (r .stopping) starts e t
+
+  -- 1 where that is above 0
+  abbrev pub startCount : ℕ → ℕ
+  startCount e = bit (ltb 0 (startPower e))
+
   abbrev pub stopCount : ℕ → ℕ
-  stopCount e = bit (ltb 0 (stoppedAt (r .on0) settings e * fallIn (leavesAt (r .power0 .0) cells e) (r .stopping) starts e t))
+  stopCount e = bit (ltb 0 (stopPower e))
 
   unfoldable pub startsAbove : ℕ
   startsAbove = sumℕ startCount (upTo (length cells))
@@ -37,6 +44,32 @@ module _ (r : Ramping) (cells settings : List (List ℕ)) (starts : List ℕ) (t
   -- "on, and each trajectory above 0" (112 to 126)
   unfoldable pub bracketAt : ℕ
   bracketAt = onAt settings t + startsAbove + stopsAbove
+
+  -- "Power p = online power + psu + psd" (68)
+  unfoldable pub powerAt : ℕ
+  powerAt = onlineAt settings t + sumℕ startPower (upTo (length cells)) + sumℕ stopPower (upTo (suc t))
+
+-- ---- no trajectory reaches t
+
+above-small : (x : ℕ) → bit (ltb 0 x) ≤ x
+above-small zero = omega arith
+above-small (suc x) = omega (arith, bit-le (ltb 0 (suc x)))
+
+-- those above 0 are no more than their sum
+counts-small : (f : ℕ → ℕ) (n : ℕ) → sumℕ (λ e. bit (ltb 0 (f e))) (upTo n) ≤ sumℕ f (upTo n)
+counts-small f n = sumℕ-mono _ f (upTo n) (all (λ e. above-small (f e)) (upTo n))
+
+-- the power is the online power, so each term is 0
+pub bracket-on : (r : Ramping) (cells settings : List (List ℕ)) (starts : List ℕ) (t : ℕ) → onlineAt settings t ≡ powerAt r cells settings starts t
+    → onAt settings t ≡ bracketAt r cells settings starts t
+unfolding powerAt bracketAt startsAbove stopsAbove
+bracket-on r cells settings starts t h = omega (
+  arith,
+  counts-small (startPower r cells settings starts t) (length cells),
+  counts-small (stopPower r cells settings starts t) (suc t),
+)
+
+-- ---- what the code relies on
 
 -- figures within their ranges
 pub record Countable (r : Ramping) (cells settings : List (List ℕ)) (starts : List ℕ) : Type 0 where

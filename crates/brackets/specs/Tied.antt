@@ -1,4 +1,4 @@
--- The bracket of a device's parts is the model's.
+-- The bracket of a device's parts, and their power, are the model's.
 use mathlib.Core.Path.{_≡_, refl, ap}
 use mathlib.Core.List.{List, []}
 use Prim.Native.Nat.{ℕ, suc, _+_, _≤_, _<_}
@@ -21,7 +21,7 @@ use Rattle.records.specs.Ranged as G
 use Rattle.clock.specs.Times.{Clock}
 use Rattle.trajectories.specs.Terms.{start-term, stop-term}
 use Rattle.ramped_powers.specs.Changes.{rampingOf, Rampable}
-use Rattle.brackets.specs.Counts.{startCount, stopCount, startsAbove, stopsAbove, bracketAt, Countable}
+use Rattle.brackets.specs.Counts.{startPower, stopPower, startsAbove, stopsAbove, bracketAt, powerAt, Countable}
 
 module _ {front : Front} {halves : List ℕ} {zones minima devices cells settings : List (List ℕ)} {starts powers : List ℕ}
     (ready : Ready front halves zones minima devices cells settings starts powers) (i : ℕ) (l : i < length devices) where
@@ -77,17 +77,34 @@ module _ {front : Front} {halves : List ℕ} {zones minima devices cells setting
   }
 
   module _ (t : ℕ) (h : t < length halves) where
+    start-is : (e : ℕ) → e < length halves → startPower (rampingOf d) ownCells ownSettings starts t e ≡ F.startTerm q p t i e
+    start-is e b = start-term halves zones minima devices cells settings i l starts (ready .forced-rows .start) t e h b cells-long
+
+    stop-is : (e : ℕ) → e < suc t → stopPower (rampingOf d) ownCells ownSettings starts t e ≡ F.stopTerm q p t i e
+    stop-is e b = stop-term halves zones minima devices cells settings i l starts (ready .forced-rows .start) t e h (omega arith) cells-long
+
     starts-are : startsAbove (rampingOf d) ownCells ownSettings starts t ≡ sumℕ (λ e. bit (ltb 0 (F.startTerm q p t i e))) (upTo (F.intervals q))
     unfolding startsAbove
-    starts-are = rw (cells-long, W.intervals-are halves zones minima devices cells) (sum-same _ _ (length halves)
-        (λ e b. ap (λ (x : ℕ). bit (ltb 0 x)) (start-term halves zones minima devices cells settings i l starts (ready .forced-rows .start) t e h b cells-long)))
+    starts-are = rw (cells-long, W.intervals-are halves zones minima devices cells) (sum-same _ _ (length halves) (λ e b. ap (λ (x : ℕ). bit (ltb 0 x)) (start-is e b)))
 
     stops-are : stopsAbove (rampingOf d) ownCells ownSettings starts t ≡ sumℕ (λ e. bit (ltb 0 (F.stopTerm q p t i e))) (upTo (suc t))
     unfolding stopsAbove
-    stops-are = sum-same _ _ (suc t)
-        (λ e b. ap (λ (x : ℕ). bit (ltb 0 x)) (stop-term halves zones minima devices cells settings i l starts (ready .forced-rows .start) t e h (omega arith) cells-long))
+    stops-are = sum-same _ _ (suc t) (λ e b. ap (λ (x : ℕ). bit (ltb 0 x)) (stop-is e b))
 
     -- n of the parts
     pub bracket-here : bracketAt (rampingOf d) ownCells ownSettings starts t ≡ F.bracket q p t i
     unfolding bracketAt F.bracket
     bracket-here = rw (starts-are, stops-are, W.on-is (length devices) (length halves) settings q t i h l) refl
+
+    rising-is : sumℕ (startPower (rampingOf d) ownCells ownSettings starts t) (upTo (length ownCells)) ≡ F.psu q p t i
+    unfolding F.psu
+    rising-is = rw (cells-long, W.intervals-are halves zones minima devices cells) (sum-same _ _ (length halves) start-is)
+
+    falling-is : sumℕ (stopPower (rampingOf d) ownCells ownSettings starts t) (upTo (suc t)) ≡ F.psd q p t i
+    unfolding F.psd
+    falling-is = sum-same _ _ (suc t) stop-is
+
+    -- p of the parts
+    pub power-here : powerAt (rampingOf d) ownCells ownSettings starts t ≡ F.power q p t i
+    unfolding powerAt F.power
+    power-here = rw (rising-is, falling-is, W.setting-is (length devices) (length halves) settings q t i h l) refl

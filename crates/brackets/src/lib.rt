@@ -3,12 +3,14 @@ ghost use mathlib.Core.Path.{_≡_};
 ghost use Prim.Native.Nat.{_+_, _-_, _*_, _<_, _≤_};
 ghost use lib.ListN.{length};
 ghost use Rattle.records.specs.Views.{mostIntervals};
-ghost use Rattle.brackets.specs.Counts.{startCount, stopCount, startsAbove, stopsAbove, bracketAt, Countable};
+ghost use Rattle.brackets.specs.Counts.{startCount, stopCount, startsAbove, stopsAbove, bracketAt, powerAt, Countable};
 use cell_rows::pmin_at;
+use kilowatts::Kw;
 use ramped_powers::Ramping;
 use row_places::CellRow;
 use row_places::SettingRow;
 use setting_rows::on_at;
+use setting_rows::online_at;
 use setting_rows::started_at;
 use setting_rows::stopped_at;
 use trajectories::leaves_at;
@@ -107,8 +109,8 @@ fn all_of(on: u32, rising: u32, falling: u32) -> u32
     on + rising + falling
 }
 
-// n: on, and each trajectory above 0.
-pub fn bracket_at(
+// n, counted: on, and each trajectory above 0.
+fn bracket_at(
     r: Ramping,
     cells: &[CellRow],
     settings: &[SettingRow],
@@ -122,4 +124,23 @@ pub fn bracket_at(
     let rising = starts_above(r, cells, settings, starts, t);
     let falling = stops_above(r, cells, settings, starts, t);
     all_of(on, rising, falling)
+}
+
+// n, by the device's power in t: u where that is its online power, for no trajectory reaches t then.
+pub fn bracket_given(
+    r: Ramping,
+    cells: &[CellRow],
+    settings: &[SettingRow],
+    starts: &[u32],
+    t: usize,
+    power: Kw,
+) -> u32
+    requires { ⌜ Countable r (now cells) (now settings) (now starts) × (t < length (now cells)) × (power .0 ≡ powerAt r (now cells) (now settings) (now starts) t) ⌝ }
+    ensures { λ n. ⌜ (n ≡ bracketAt r (now (cells .entry)) (now (settings .entry)) (now (starts .entry)) t) × (n ≤ 1 + 2 * mostIntervals) ⌝ }
+{
+    let online = online_at(settings, t);
+    if power.0 == online.0 {
+        return on_at(settings, t);
+    }
+    bracket_at(r, cells, settings, starts, t)
 }

@@ -8,7 +8,7 @@ use Rattle.layouts.specs.Layout.{passes, fails}
 use Rattle.model.specs.declared.Subject.the-variants as S
 use Rattle.model.specs.declared.Listing.{Listing}
 use Rattle.model.specs.declared.Listing.the-variants.{Refused}
-use Rattle.model.specs.Editions.{Largest, batch, mostDevices, mostIntervals}
+use Rattle.model.specs.Editions.{Largest, mostDevices, mostIntervals}
 use Rattle.model.specs.ByEdition.{Stated, statedIn}
 use Rattle.model.specs.Judgement.{readPlan}
 use Rattle.model.specs.Lists.{Listings, listPlan, listings}
@@ -44,18 +44,19 @@ list-on : (l : Largest) (cs ps before : List ℕ) (y : Stated) → statedIn l cs
 unfolding listings
 list-on l cs ps before y e = rw e (refl, refl)
 
-module _ (cs halves : List ℕ) (zones minima devices cells : List (List ℕ)) (e : Ending) (front : Front) (n : Counts)
-    (h : CaseDone (batch .devices) (batch .intervals) cs halves zones minima devices cells e front n) where
+module _ (l : Largest) (most : l .devices ≤ mostDevices) (long : l .intervals ≤ mostIntervals)
+    (cs halves : List ℕ) (zones minima devices cells : List (List ℕ)) (e : Ending) (front : Front) (n : Counts)
+    (h : CaseDone (l .devices) (l .intervals) cs halves zones minima devices cells e front n) where
   abbrev x : Stated
   x = statedFirst front n halves zones minima devices cells
 
-  pub list-case-fails : (ps before : List ℕ) {f : Fault} → e ≡ Fails f → ListsBreaches batch cs ps before before (Refused S.Case f)
+  pub list-case-fails : (ps before : List ℕ) {f : Fault} → e ≡ Fails f → ListsBreaches l cs ps before before (Refused S.Case f)
   list-case-fails ps before {f} t =
-      let off = list-off batch cs ps before f (failed cs halves zones minima devices cells e front n h t) in
-      lists-breaches batch (omega arith) (omega arith) (off .0) (off .1)
+      let off = list-off l cs ps before f (failed l most long cs halves zones minima devices cells e front n h t) in
+      lists-breaches l most long (off .0) (off .1)
 
   pub list-case-passes : (ps : List ℕ) {before after : List ℕ} {r : Listing} → e ≡ Passes → r ≡ listPlan x before (readPlan x ps) .answer → after ≡ listPlan x before (readPlan x ps) .list
-      → ListsBreaches batch cs ps before after r
-  list-case-passes ps {before} t k l =
-      let on = list-on batch cs ps before x (passed cs halves zones minima devices cells e front n h t) in
-      lists-breaches batch (omega arith) (omega arith) (k ∙ on .0) (l ∙ on .1)
+      → ListsBreaches l cs ps before after r
+  list-case-passes ps {before} t k r =
+      let on = list-on l cs ps before x (passed l most long cs halves zones minima devices cells e front n h t) in
+      lists-breaches l most long (k ∙ on .0) (r ∙ on .1)

@@ -8,12 +8,12 @@ use plan_unit::INTERVALS;
 use plan_unit::MINIMA;
 use plan_unit::TIMES;
 use plan_unit::ZONES;
-ghost use Rattle.model.specs.Editions.{batch};
+ghost use Rattle.model.specs.Editions.{host};
 ghost use Rattle.breach_unit.specs.Breaches.{ListsBreaches};
 
 // Every broken rule of a plan's bytes against a case's bytes, in a lent list.
 pub fn breaches(case: &[u8], plan: &[u8], list: &mut [u8]) -> Listing
-    ensures { λ r. ⌜ ListsBreaches batch (now (case .entry)) (now (plan .entry)) (now (list .entry)) (now (list .exit)) r ⌝ }
+    ensures { λ r. ⌜ ListsBreaches host (now (case .entry)) (now (plan .entry)) (now (list .entry)) (now (list .exit)) r ⌝ }
 {
     let mut halves = [0u32; INTERVALS];
     let zone = row_places::blank_zone();

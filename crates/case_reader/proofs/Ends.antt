@@ -13,7 +13,7 @@ use Rattle.layouts.specs.Numbers.{Tells}
 use Rattle.layouts.specs.Sure.{Any, sure-checked}
 use Rattle.model.specs.Editions.{Largest}
 use Rattle.model.specs.Messages.{apart}
-use Rattle.model.specs.ByEdition.{Stated, content, caseLayout, statedIn}
+use Rattle.model.specs.ByEdition.{Stated, content, contentBy, caseLayout, statedIn}
 use Rattle.model.specs.AsBefore.{stated}
 use Rattle.ranges.specs.Ranges.{StatedRange, stated-sure, stated-range}
 use Rattle.row_places.specs.declared.Counts.{Counts}
@@ -32,11 +32,11 @@ use Rattle.case_reader.specs.Whole.{CaseRoom, caseOf, bodyGot, BodyRoom,
 use Rattle.front_reader.proofs.FrontSteps.{counts-natural, front-natural}
 
 layout-is : (l : Largest) (s : List ℕ) → got (caseLayout l) s begin ≡ front l .read s begin bad (λ h p. bodyGot h s p)
-unfolding caseLayout content held _then_ apart bodyGot
+unfolding caseLayout contentBy held _then_ apart bodyGot
 layout-is l s = refl
 
 case-natural : (l : Largest) → Natural (caseLayout l)
-unfolding caseLayout content apart
+unfolding caseLayout contentBy apart
 case-natural l = held-natural _ _ (then-natural (nat-natural _) (λ k. then-natural (nat-natural _) (λ e. held-natural _ _
     (then-natural (counts-natural e l) (λ n. then-natural (nat-natural _) (λ a. then-natural (nat-natural _) (λ b.
     then-natural (list-natural (n .intervals) (nat-natural _)) (λ halves.

@@ -22,6 +22,7 @@ use Rattle.model.specs.Judgement.{written, countsOf, energyWindows}
 use Rattle.model.specs.Messages as M
 use Rattle.model.specs.Messages.{Counts, DeviceChoice, IntervalChoice, Written}
 use Rattle.model.specs.Judgement.{completionIn}
+use Rattle.model.specs.Widths.{bounded}
 
 -- "kind 4 (3); edition 4; devices; intervals; zones 3"
 abbrev pub frontWidth : ℕ → ℕ
@@ -29,7 +30,7 @@ frontWidth e = 4 + (4 + (E.deviceBits e + (E.intervalBits e + 3)))
 
 -- no edition has wider counts
 pub counts-few : (e : ℕ) → (E.deviceBits e ≤ 7) × (E.intervalBits e ≤ 7)
-counts-few e = omega arith
+counts-few e = (bounded e .deviceBits, bounded e .intervalBits)
 
 -- "started 1, stopped 1, startup state 3, four block powers 17"
 abbrev pub deviceWidth : ℕ
@@ -134,7 +135,7 @@ unfolding nat
 mismatches-wide e r = present-wide (has 2 e) 0 (any 23) 23 (r .reactiveMismatch) (length-bits 23 (r .reactiveMismatch))
 
 pub front-wide : (e : ℕ) (n m : Counts) → length (B.completionFront e n .write m) ≡ frontWidth e
-unfolding B.completionFront held _then_ nat
+unfolding B.completionFrontBy held _then_ nat
 front-wide e n m = simp (length-append, length-bits)
 
 pub interval-wide : (e : ℕ) (n : Counts) (r : IntervalChoice) → ShapedInterval n r → length (B.intervalChoice e (n .devices) (n .zones) .write r) ≡ intervalWidth e (n .devices) (n .zones)
@@ -152,7 +153,7 @@ interval-wide e n r s =
 
 pub completion-wide : (e : ℕ) (n : Counts) (windows : ℕ) (w : Written) → Shaped n windows w
     → length (B.completionLayout e n windows .write w) ≡ completionWidth e (n .devices) (n .intervals) (n .zones) windows
-unfolding B.completionLayout held _then_ list nat int
+unfolding B.completionBy held _then_ list nat int
 completion-wide e n windows w s =
     let i : length (gather (B.intervalChoice e (n .devices) (n .zones) .write) (w .intervals)) ≡ n .intervals * intervalWidth e (n .devices) (n .zones) =
     gather-wide (B.intervalChoice e (n .devices) (n .zones) .write) (intervalWidth e (n .devices) (n .zones)) (w .intervals) (all-map (λ r h. interval-wide e n r h) (w .intervals) (s .each))

@@ -113,7 +113,7 @@ module _ (e : ℕ) (q : System) (x : Completion ℕ) where
       ∙ (gather-upTo _ (devices q) ∙ run-same _ (overrunBits q x) (λ i. gather-run (any 32 .write) (x .overrun i) (windowsOf q i)) (devices q))
 
   pub completion-is : (s : ℤ) → completionIn e q .write (written q x s) ≡ completionBits e q x s
-  unfolding B.completionLayout written held _then_ list completionBits
+  unfolding B.completionBy written held _then_ list completionBits
   completion-is s =
       rw (
         gather-run (B.intervalChoice e (devices q) (zones q) .write) intervalAt (intervals q) ∙ run-same _ (intervalBits e q x) interval-is (intervals q),

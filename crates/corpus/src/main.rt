@@ -1,12 +1,12 @@
 // Runs the batches of a corpus, each behind a 32-bit byte length, with a line on each completion's bytes and on each list of breaches.
+use answers::CELLS;
+use answers::DEVICES;
+use answers::INTERVALS;
+use answers::MINIMA;
+use answers::TIMES;
 use frames::LIMIT;
 use libc::STDOUT_FILENO;
 use model::Listing;
-use plan_unit::CELLS;
-use plan_unit::DEVICES;
-use plan_unit::INTERVALS;
-use plan_unit::MINIMA;
-use plan_unit::TIMES;
 use plan_unit::ZONES;
 use row_places::CellRow;
 use row_places::DeviceRow;

@@ -87,11 +87,11 @@ device-of d cells = rw (map-map (λ (c : M.Cell × M.CellPrices). c .0) cellPair
 
 module _ (e n zones last : ℕ) where
   device-is : (s : List ℕ) (p : Place) → got (B.device e n zones last) s p ≡ ahead e zones last .read s p bad (λ a q. list n (cell e) .read s q bad (λ cs q. good (made a cs) q))
-  unfolding B.device apart held _then_
+  unfolding B.deviceBy apart held _then_
   device-is s p = refl
 
   pub device-natural : Natural (B.device e n zones last)
-  unfolding B.device apart
+  unfolding B.deviceBy apart
   device-natural = held-natural _ _
       (then-natural (head-natural zones) (λ a. then-natural costs-natural (λ b. then-natural (eight-natural (nat-natural _)) (λ c.
       then-natural (held-natural _ _ (counted-natural _ (item-natural States e last))) (λ d. then-natural (counted-natural _ (item-natural Starts e last)) (λ f.

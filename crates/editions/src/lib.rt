@@ -6,7 +6,10 @@ ghost use Rattle.layouts.specs.Since.{has};
 ghost use Rattle.model.specs.Editions as E;
 
 // The newest edition there is.
-pub const NEWEST: u32 = 3;
+pub const NEWEST: u32 = 4;
+
+// The edition that widened counts and most starts.
+const WIDE: u32 = 4;
 
 // The largest counts that a reader takes, in whatever edition.
 pub struct Largest {
@@ -20,30 +23,37 @@ fn least(a: u32, b: u32) -> u32
     if a <= b { a } else { b }
 }
 
+// What edition 4 widened: the figure since then, or the one before.
+fn widened(edition: u32, after: u32, before: u32) -> u32
+    ensures { λ r. ⌜ r ≡ E.widened edition after before ⌝ }
+{
+    if edition < WIDE { before } else { after }
+}
+
 // The widths of the counts of devices and intervals.
 pub fn device_bits(edition: u32) -> u64
     ensures { λ r. ⌜ r ≡ E.deviceBits edition ⌝ }
 {
-    5
+    widened(edition, 7, 5) as u64
 }
 
 pub fn interval_bits(edition: u32) -> u64
     ensures { λ r. ⌜ r ≡ E.intervalBits edition ⌝ }
 {
-    6
+    widened(edition, 7, 6) as u64
 }
 
 // The edition's own limits.
 fn device_limit(edition: u32) -> u32
     ensures { λ r. ⌜ r ≡ E.deviceLimit edition ⌝ }
 {
-    16
+    widened(edition, 64, 16)
 }
 
 fn interval_limit(edition: u32) -> u32
     ensures { λ r. ⌜ r ≡ E.intervalLimit edition ⌝ }
 {
-    48
+    widened(edition, 96, 48)
 }
 
 // What of them a reader takes.
@@ -63,13 +73,13 @@ pub fn intervals_in(edition: u32, most: u32) -> u32
 pub fn starts_bits(edition: u32) -> u64
     ensures { λ r. ⌜ r ≡ E.startsBits edition ⌝ }
 {
-    6
+    widened(edition, 7, 6) as u64
 }
 
 pub fn most_starts(edition: u32) -> u32
     ensures { λ r. ⌜ r ≡ E.mostStarts edition ⌝ }
 {
-    48
+    widened(edition, 96, 48)
 }
 
 // The bits of what came with edition k: none in an older one.

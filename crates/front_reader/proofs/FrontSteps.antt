@@ -11,7 +11,7 @@ use Rattle.layouts.specs.declared.Fault.{Fault}
 use Rattle.layouts.specs.declared.Place.{Place}
 use Rattle.layouts.specs.Layout.{nat, list, repeated, _then_, held, begin, figure, fixed, countOf}
 use Rattle.model.specs.Editions.{Largest, deviceBits, intervalBits, devicesIn, intervalsIn}
-use Rattle.model.specs.ByEdition.{caseKind, editionField, deviceCount, intervalCount, zoneCount, counts}
+use Rattle.model.specs.ByEdition.{caseKind, editionField, deviceCount, intervalCount, zoneCount, counts, countsBy}
 use Rattle.row_places.specs.declared.Counts.{Counts}
 use Rattle.row_places.specs.declared.Front.{Front}
 use Rattle.fields.specs.declared.Figure.{Figure}
@@ -44,7 +44,7 @@ module _ (s : List ℕ) (p : Place) {r : Figure} (e : figured r ≡ got (fixed c
 -- ---- the counts
 
 pub counts-natural : (e : ℕ) (l : Largest) → Natural (counts e l)
-unfolding counts
+unfolding countsBy
 counts-natural e l = held-natural _ _ (then-natural (nat-natural _) (λ a. then-natural (nat-natural _) (λ b. nat-natural _)))
 
 module _ (e : ℕ) (l : Largest) (s : List ℕ) (p : Place) where
@@ -57,7 +57,7 @@ module _ (e : ℕ) (l : Largest) (s : List ℕ) (p : Place) where
 
   counts-is : got (counts e l) s p ≡ nat (deviceCount e l) .read s p bad (λ n p. nat (intervalCount e l) .read s p bad (λ m p. nat zoneCount .read s p bad (λ z p.
       good (record { devices = n; intervals = m; zones = z }) p)))
-  unfolding counts held _then_
+  unfolding countsBy held _then_
   counts-is = refl
 
   no : (c : Counts) {w : Went} {r : Figure} {f : Fault} → w ≡ placed r → r ≡ F.Bad f → got (counts e l) s p ≡ bad f → CountsDone e l s p w c

@@ -3,7 +3,7 @@ use Prim.Native.Nat.{ℕ}
 use Rattle.layouts.specs.Layout.{_▸_, figure, any}
 use Rattle.model.specs.Editions.{startsBits, mostStarts}
 use Rattle.model.specs.Messages.{windowEnds, energyWindow}
-use Rattle.model.specs.ByEdition.{startWindow}
+use Rattle.model.specs.ByEdition.{startWindow, startWindowBy}
 use Rattle.fields.specs.Got.{Natural, nat-natural, int-natural, then-natural, such-natural, held-natural}
 use Rattle.item_reader.specs.declared.Listed.{Listed}
 use Rattle.item_reader.specs.declared.Listed.the-variants.{States, Starts, Energies}
@@ -17,7 +17,7 @@ pub start-fields : (e last : ℕ) → Natural (windowEnds last ▸ figure (start
 start-fields e last = then-natural (ends-natural last) (λ a. nat-natural _)
 
 start-natural : (e last : ℕ) → Natural (startWindow e last)
-unfolding startWindow
+unfolding startWindowBy
 start-natural e last = held-natural _ _ (start-fields e last)
 
 -- behind the kind, and all

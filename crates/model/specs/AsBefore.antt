@@ -15,8 +15,9 @@ use Rattle.model.specs.Messages as M
 use Rattle.model.specs.Messages.{edition1, Counts, Written}
 use Rattle.model.specs.Judgement.{countsOf}
 use Rattle.model.specs.Before.{readPlan}
-use Rattle.model.specs.ByEdition.{Stated, counts, startWindow, device, content, caseLayout, caseKind, editionOf, editionField, completionFront, completionLayout}
-use Rattle.model.specs.ByEdition.{planKind, setting, block, cellWith, cell, minima, zone, planLayout, plannedIn, zoneChoice, intervalChoice}
+use Rattle.model.specs.ByEdition.{Stated, counts, countsBy, startWindow, startWindowBy, device, deviceBy, content, contentBy, caseLayout, caseKind, editionOf, editionField}
+use Rattle.model.specs.ByEdition.{completionFront, completionFrontBy, completionLayout, completionBy}
+use Rattle.model.specs.ByEdition.{planKind, setting, block, cellWith, cell, minima, zone, planLayout, planBy, plannedIn, zoneChoice, intervalChoice}
 
 -- a case with its edition beside it
 abbrev pub stated : ℕ → Case → Stated
@@ -30,7 +31,7 @@ unfolding setting M.setting held _then_ present nothing
 setting-as = record { reads = λ {X} s p bad next. refl; writes = λ x. simp append-nil }
 
 pub plan-as : (devices intervals : ℕ) → As (planLayout 1 devices intervals) (λ p. p) (M.planLayout edition1 devices intervals)
-unfolding planLayout M.planLayout
+unfolding planBy M.planLayout
 plan-as devices intervals = as-held
     (as-pair (as-same (fixed planKind)) (as-pair (as-same (fixed 1)) (as-pair (as-same (nat _)) (as-pair (as-same (nat _)) (as-each (as-each setting-as devices) intervals)))))
     _ _ _ _ _ (λ a. refl) (λ c. refl)
@@ -42,7 +43,7 @@ planned-as-before q s = plan-as _ _ .reads s begin _ _
 -- ---- completion
 
 pub completion-as : (n : Counts) (windows : ℕ) (w : Written) → completionLayout 1 n windows .write w ≡ M.completionLayout edition1 n windows .write w
-unfolding completionLayout M.completionLayout completionFront M.counts intervalChoice M.intervalChoice zoneChoice M.zoneChoice M.six held _then_ nat bitsOf present nothing
+unfolding completionBy M.completionLayout completionFrontBy M.counts intervalChoice M.intervalChoice zoneChoice M.zoneChoice M.six held _then_ nat bitsOf present nothing
 completion-as n windows w = refl
 
 -- ---- case
@@ -75,14 +76,14 @@ minima-as = refl
 -- a reader that takes all that edition 1 allows takes no more
 module _ (l : Largest) (h : deviceLimit 1 ≤ l .devices) (k : intervalLimit 1 ≤ l .intervals) where
   content-as : As (content 1 l) (λ c. c) (content 1 batch)
-  unfolding content counts
+  unfolding contentBy countsBy
   content-as =
       let d : min (l .devices) (deviceLimit 1) ≡ deviceLimit 1 = omega arith in
       let i : min (l .intervals) (intervalLimit 1) ≡ intervalLimit 1 = omega arith in
       rw (d, i) (as-same (content 1 batch))
 
   pub first-as : As (first l) (λ c. c) (M.caseLayout edition1)
-  unfolding first content counts device startWindow zone M.caseLayout M.counts M.device M.startWindow M.zone held _then_ nat present nothing
+  unfolding first contentBy countsBy deviceBy startWindowBy zone M.caseLayout M.counts M.device M.startWindow M.zone held _then_ nat present nothing
   first-as = rw (cell-as, minima-as) (record {
     reads = λ s p bad next. ahead (fixed 1) s p bad (λ _ q. ahead (fixed 1) s q bad (λ _ r. content-as .reads s r bad next));
     writes = λ c.

@@ -2,7 +2,7 @@
 -- The content is the newest edition's: what an edition lacks takes no bits and has its neutral value (`since`). Parts that no edition has added to are those of `Messages`.
 use mathlib.Core.Bool.{Bool}
 use mathlib.Core.List.{List}
-use Prim.Native.Nat.{ℕ, _^_}
+use Prim.Native.Nat.{ℕ, _^_, min}
 use lib.IntN.{ℤ}
 use Rattle.bits.specs.Bits.{fieldAt}
 use Rattle.layouts.specs.declared.Fault.the-variants.{WrongKind}
@@ -14,7 +14,7 @@ use Rattle.model.specs.Case.{Plan, noReactive, ReactiveLimits, ReactiveR
 use lib.Dec.{ltb, leb, eqb}
 use lib.Signed.{leZ}
 use Rattle.model.specs.Forced.{intervals, devices}
-use Rattle.model.specs.Editions.{newest, Largest, deviceBits, intervalBits, devicesIn, intervalsIn, mostZones, mostStates, mostWindows, startsBits, mostStarts}
+use Rattle.model.specs.Editions.{newest, Largest, Widths, widthsOf, mostZones, mostStates, mostWindows}
 use Rattle.model.specs.Messages as M
 use Rattle.model.specs.Messages.{kW, minutes, eight, shares, six, windowEnds, energyWindow, apart, head, costs, active, lastEnd, Counts, DeviceChoice, IntervalChoice, Written}
 
@@ -38,21 +38,30 @@ editionField = record { width = 4; low = 1; high = newest; wrong = WrongKind }
 abbrev pub editionOf : List ℕ → ℕ
 editionOf s = fieldAt s 4 4
 
--- "devices 5 (1..16); intervals 6 (1..48); zones 3 (0..4)", up to what the reader takes
+-- "devices 5 (1..16); intervals 6 (1..48); zones 3 (0..4)", by the edition's widths and limits, up to what the reader takes
+abbrev pub deviceCountBy : Widths → Largest → Field
+deviceCountBy w l = countOf (w .deviceBits) 1 (min (l .devices) (w .deviceLimit))
+
+abbrev pub intervalCountBy : Widths → Largest → Field
+intervalCountBy w l = countOf (w .intervalBits) 1 (min (l .intervals) (w .intervalLimit))
+
 abbrev pub deviceCount : ℕ → Largest → Field
-deviceCount e l = countOf (deviceBits e) 1 (devicesIn e l)
+deviceCount e l = deviceCountBy (widthsOf e) l
 
 abbrev pub intervalCount : ℕ → Largest → Field
-intervalCount e l = countOf (intervalBits e) 1 (intervalsIn e l)
+intervalCount e l = intervalCountBy (widthsOf e) l
 
 abbrev pub zoneCount : Field
 zoneCount = countOf 3 0 mostZones
 
-unfoldable pub counts : ℕ → Largest → Layout Counts
-counts e l = held
+unfoldable pub countsBy : Widths → Largest → Layout Counts
+countsBy w l = held
     (λ v. record { devices = v .0; intervals = v .1 .0; zones = v .1 .1 })
     (λ r. (r .devices, (r .intervals, r .zones)))
-    (nat (deviceCount e l) ▸ nat (intervalCount e l) ▸ nat zoneCount)
+    (nat (deviceCountBy w l) ▸ nat (intervalCountBy w l) ▸ nat zoneCount)
+
+abbrev pub counts : ℕ → Largest → Layout Counts
+counts e l = countsBy (widthsOf e) l
 
 -- ---- Case
 
@@ -103,12 +112,15 @@ cellWith e one = held
 unfoldable pub cell : ℕ → Layout (Cell × CellPrices)
 cell e = cellWith e (block e)
 
--- "each start 16, end 16, most starts 6 (0..48)"
-unfoldable pub startWindow : ℕ → ℕ → Layout StartWindow
-startWindow e last = held
+-- "each start 16, end 16, most starts 6 (0..48)", by the edition's width and limit
+unfoldable pub startWindowBy : Widths → ℕ → Layout StartWindow
+startWindowBy w last = held
     (λ v. record { from = v .0 .0; until = v .0 .1; most = v .1 })
     (λ r. ((r .from, r .until), r .most))
-    (windowEnds last ▸ figure (startsBits e) 0 (mostStarts e))
+    (windowEnds last ▸ figure (w .startsBits) 0 (w .mostStarts))
+
+abbrev pub startWindow : ℕ → ℕ → Layout StartWindow
+startWindow e last = startWindowBy (widthsOf e) last
 
 -- "an offset (18, ±100,000) and a slope in thousandths (15, ±10,000)"
 unfoldable pub line : Layout Line
@@ -129,8 +141,8 @@ link = held
     (figure 2 0 2 then (λ kind. present (firstLine kind) noLine line ▸ present (secondLine kind) noLine line))
 
 -- "Per device": what stands ahead of its intervals, then its cells
-unfoldable pub device : ℕ → ℕ → ℕ → ℕ → Layout (Device × DevicePrices)
-device e intervals zones last = held
+unfoldable pub deviceBy : Widths → ℕ → ℕ → ℕ → ℕ → Layout (Device × DevicePrices)
+deviceBy widths e intervals zones last = held
     (λ v. let h = v .0 in let c = v .1 .0 in let w = v .1 .1 .1 in (
       record {
         side = h .side;
@@ -161,10 +173,13 @@ device e intervals zones last = held
     ▸ costs
     ▸ eight kW
     ▸ apart (counted (countOf 3 0 mostStates) (minutes ▸ int 31 1000000000))
-    ▸ counted (countOf 3 0 mostWindows) (startWindow e last)
+    ▸ counted (countOf 3 0 mostWindows) (startWindowBy widths last)
     ▸ counted (countOf 3 0 mostWindows) (energyWindow last)
     ▸ since e 2 noLink link
     ▸ apart (list intervals (cell e)))
+
+abbrev pub device : ℕ → ℕ → ℕ → ℕ → Layout (Device × DevicePrices)
+device e intervals zones last = deviceBy (widthsOf e) e intervals zones last
 
 -- "two prices, with rru's widths and ranges", "up before down"
 unfoldable pub zoneReactivePrices : Layout ReactiveReserves
@@ -189,8 +204,8 @@ zone e intervals = held
     (shares ▸ six (figure 7 1 100) ▸ since e 2 unitPrices zoneReactivePrices ▸ list intervals (minima e))
 
 -- what stands behind the edition: "mismatch price, overrun price 14 each (1..10,000 per kW·min). Per interval: d/2, 8 (1..180)"; zones; devices
-unfoldable pub content : ℕ → Largest → Layout Case
-content e l = held
+unfoldable pub contentBy : Widths → ℕ → Largest → Layout Case
+contentBy w e l = held
     (λ v. let b = v .1 .1 .1 in record {
       system = record { halves = b .0; zones = b .1 .0 .0; devices = b .1 .1 .0 };
       prices = record { mismatch = v .1 .0; overrun = v .1 .1 .0; zones = b .1 .0 .1; devices = b .1 .1 .1 };
@@ -199,11 +214,14 @@ content e l = held
       record { devices = length (s .devices); intervals = length (s .halves); zones = length (s .zones) },
       (x .mismatch, (x .overrun, (s .halves, ((s .zones, x .zones), (s .devices, x .devices))))),
     ))
-    (counts e l then (λ n.
+    (countsBy w l then (λ n.
     figure 14 1 10000 ▸ figure 14 1 10000 ▸
     (list (n .intervals) (figure 8 1 180) then (λ halves.
     apart (list (n .zones) (zone e (n .intervals)))
-    ▸ apart (list (n .devices) (device e (n .intervals) (n .zones) (lastEnd halves)))))))
+    ▸ apart (list (n .devices) (deviceBy w e (n .intervals) (n .zones) (lastEnd halves)))))))
+
+abbrev pub content : ℕ → Largest → Layout Case
+content e l = contentBy (widthsOf e) e l
 
 -- a case as its message states it, with the edition that its plans and completions follow
 pub record Stated : Type 0 where
@@ -232,21 +250,27 @@ abbrev pub planned : ℕ → ℕ → Layout (List Setting)
 planned e devices = list devices (setting e)
 
 -- "kind 4 (2); edition 4; devices 5; intervals 6, equal to the case's; per interval, per device: .."
-unfoldable pub planLayout : ℕ → ℕ → ℕ → Layout Plan
-planLayout e devices intervals = held
+unfoldable pub planBy : Widths → ℕ → ℕ → ℕ → Layout Plan
+planBy w e devices intervals = held
     (λ v. record { settings = v .1 .1 .1 .1 })
     (λ p. (planKind, (e, (devices, (intervals, p .settings)))))
-    (fixed planKind ▸ fixed e ▸ nat (countOf (deviceBits e) devices devices) ▸ nat (countOf (intervalBits e) intervals intervals)
+    (fixed planKind ▸ fixed e ▸ nat (countOf (w .deviceBits) devices devices) ▸ nat (countOf (w .intervalBits) intervals intervals)
     ▸ list intervals (planned e devices))
+
+abbrev pub planLayout : ℕ → ℕ → ℕ → Layout Plan
+planLayout e devices intervals = planBy (widthsOf e) e devices intervals
 
 -- ---- Completion
 
 -- "kind 4 (3); edition; devices; intervals; zones", the case's
-unfoldable pub completionFront : ℕ → Counts → Layout Counts
-completionFront e n = held
+unfoldable pub completionFrontBy : Widths → ℕ → Counts → Layout Counts
+completionFrontBy w e n = held
     (λ v. record { devices = v .1 .1 .0; intervals = v .1 .1 .1 .0; zones = v .1 .1 .1 .1 })
     (λ r. (completionKind, (e, (r .devices, (r .intervals, r .zones)))))
-    (fixed completionKind ▸ fixed e ▸ nat (countOf (deviceBits e) (n .devices) (n .devices)) ▸ nat (countOf (intervalBits e) (n .intervals) (n .intervals)) ▸ nat (countOf 3 (n .zones) (n .zones)))
+    (fixed completionKind ▸ fixed e ▸ nat (countOf (w .deviceBits) (n .devices) (n .devices)) ▸ nat (countOf (w .intervalBits) (n .intervals) (n .intervals)) ▸ nat (countOf 3 (n .zones) (n .zones)))
+
+abbrev pub completionFront : ℕ → Counts → Layout Counts
+completionFront e n = completionFrontBy (widthsOf e) e n
 
 -- "per device started 1, stopped 1, startup state 3 (0 none), four block powers 17 (absent blocks 0)"
 abbrev pub deviceChoice : Layout DeviceChoice
@@ -268,11 +292,14 @@ intervalChoice e devices zones = held
     (list devices deviceChoice ▸ list zones (zoneChoice e) ▸ any 23 ▸ since e 2 0 (any 23))
 
 -- "Then each energy window's overrun 32, in case order; surplus 64 signed"
-unfoldable pub completionLayout : ℕ → Counts → ℕ → Layout Written
-completionLayout e n windows = held
+unfoldable pub completionBy : Widths → ℕ → Counts → ℕ → Layout Written
+completionBy w e n windows = held
     (λ v. record { intervals = v .1 .0; overruns = v .1 .1 .0; surplus = v .1 .1 .1 })
     (λ r. (n, (r .intervals, (r .overruns, r .surplus))))
-    (completionFront e n ▸ list (n .intervals) (intervalChoice e (n .devices) (n .zones)) ▸ list windows (any 32) ▸ int 64 (2 ^ 63))
+    (completionFrontBy w e n ▸ list (n .intervals) (intervalChoice e (n .devices) (n .zones)) ▸ list windows (any 32) ▸ int 64 (2 ^ 63))
+
+abbrev pub completionLayout : ℕ → Counts → ℕ → Layout Written
+completionLayout e n windows = completionBy (widthsOf e) e n windows
 
 -- ---- reading
 

@@ -1,9 +1,11 @@
 -- What depends on a message's edition: widths and limits, each with the edition that it came with. An edition is a number.
 use Prim.Native.Nat.{ℕ, min}
+use Rattle.bits.specs.Pick.{pick}
+use Rattle.layouts.specs.Since.{has}
 
 -- the newest edition there is
 abbrev pub newest : ℕ
-newest = 3
+newest = 4
 
 -- ---- counts
 
@@ -12,19 +14,49 @@ pub record Largest : Type 0 where
   pub devices : ℕ
   pub intervals : ℕ
 
--- "devices 5 (1..16); intervals 6 (1..48)"
+-- the widths of counts and of most starts, and the edition's own limits
+pub record Widths : Type 0 where
+  pub deviceBits : ℕ
+  pub deviceLimit : ℕ
+  pub intervalBits : ℕ
+  pub intervalLimit : ℕ
+  pub startsBits : ℕ
+  pub mostStarts : ℕ
+
+-- "devices 5 (1..16); intervals 6 (1..48)"; "most starts 6 (0..48)"
+abbrev pub smallWidths : Widths
+smallWidths = record { deviceBits = 5; deviceLimit = 16; intervalBits = 6; intervalLimit = 48; startsBits = 6; mostStarts = 48 }
+
+-- "Edition 4 .. has 7-bit device and interval counts and 7-bit most starts (0..96), and raises the limits to 64 and 96"
+abbrev pub largeWidths : Widths
+largeWidths = record { deviceBits = 7; deviceLimit = 64; intervalBits = 7; intervalLimit = 96; startsBits = 7; mostStarts = 96 }
+
+-- "editions 1 to 3 keep their widths and limits"
+abbrev pub widened : ℕ → ℕ → ℕ → ℕ
+widened e after before = pick (has 4 e) after before
+
+abbrev pub widthsOf : ℕ → Widths
+widthsOf e = record {
+  deviceBits = widened e (largeWidths .deviceBits) (smallWidths .deviceBits);
+  deviceLimit = widened e (largeWidths .deviceLimit) (smallWidths .deviceLimit);
+  intervalBits = widened e (largeWidths .intervalBits) (smallWidths .intervalBits);
+  intervalLimit = widened e (largeWidths .intervalLimit) (smallWidths .intervalLimit);
+  startsBits = widened e (largeWidths .startsBits) (smallWidths .startsBits);
+  mostStarts = widened e (largeWidths .mostStarts) (smallWidths .mostStarts);
+}
+
 abbrev pub deviceBits : ℕ → ℕ
-deviceBits e = 5
+deviceBits e = widthsOf e .deviceBits
 
 abbrev pub intervalBits : ℕ → ℕ
-intervalBits e = 6
+intervalBits e = widthsOf e .intervalBits
 
 -- the edition's own limits, and what of it a reader takes
 abbrev pub deviceLimit : ℕ → ℕ
-deviceLimit e = 16
+deviceLimit e = widthsOf e .deviceLimit
 
 abbrev pub intervalLimit : ℕ → ℕ
-intervalLimit e = 48
+intervalLimit e = widthsOf e .intervalLimit
 
 abbrev pub devicesIn : ℕ → Largest → ℕ
 devicesIn e l = min (l .devices) (deviceLimit e)
@@ -60,9 +92,8 @@ mostStates = 3
 abbrev pub mostWindows : ℕ
 mostWindows = 4
 
--- "most starts 6 (0..48)"
 abbrev pub startsBits : ℕ → ℕ
-startsBits e = 6
+startsBits e = widthsOf e .startsBits
 
 abbrev pub mostStarts : ℕ → ℕ
-mostStarts e = 48
+mostStarts e = widthsOf e .mostStarts

@@ -12,7 +12,7 @@ use Rattle.layouts.specs.Layout.{held, _then_, list, begin, readWhole}
 use Rattle.layouts.specs.Sure.{Any, sure-checked, whole-sure}
 use Rattle.model.specs.Case as M
 use Rattle.model.specs.Case.{noSetting}
-use Rattle.model.specs.ByEdition.{planned, planLayout}
+use Rattle.model.specs.ByEdition.{planned, planLayout, planBy}
 use Rattle.ranges.specs.Ranges.{SettingRange, Settings, settings-in}
 use Rattle.numbers.specs.Rows.{rows}
 use Rattle.numbers.specs.Rows.{rows-at}
@@ -39,13 +39,13 @@ unfolding header
 header-natural e n m = held-natural _ _ (then-natural (nat-natural _) (λ _. then-natural (nat-natural _) (λ _. then-natural (nat-natural _) (λ _. nat-natural _))))
 
 pub plan-natural : (e n m : ℕ) → Natural (planLayout e n m)
-unfolding planLayout
+unfolding planBy
 plan-natural e n m = held-natural _ _
     (then-natural (nat-natural _) (λ _. then-natural (nat-natural _) (λ _. then-natural (nat-natural _) (λ _. then-natural (nat-natural _) (λ _. planned-natural e n m)))))
 
 plan-parts : (e n m : ℕ) (s : List ℕ)
     → got (planLayout e n m) s begin ≡ header e n m .read s begin bad (λ _ q. list m (planned e n) .read s q bad (λ v z. good (record { settings = v }) z))
-unfolding planLayout header held _then_
+unfolding planBy header held _then_
 plan-parts e n m s = refl
 
 -- the rows of a plan, interval by interval

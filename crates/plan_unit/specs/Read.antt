@@ -10,7 +10,7 @@ use Rattle.model.specs.declared.Subject.the-variants as S
 use Rattle.model.specs.declared.Verdict.{Verdict}
 use Rattle.model.specs.declared.Verdict.the-variants.{Refused}
 use Rattle.model.specs.Case.{Plan}
-use Rattle.model.specs.Editions.{Largest, batch, mostDevices, mostIntervals}
+use Rattle.model.specs.Editions.{Largest, mostDevices, mostIntervals}
 use Rattle.model.specs.ByEdition.{Stated, statedIn, plannedIn, planLayout}
 use Rattle.model.specs.Judgement.{judgement, withPlan, readPlan}
 use Rattle.theorems.specs.Promise.{stated-sound}
@@ -73,47 +73,48 @@ case-on : (l : Largest) (cs ps before : List ℕ) (y : Stated) → statedIn l cs
 unfolding judgement
 case-on l cs ps before y e = rw e (refl, refl)
 
-module _ (cs halves : List ℕ) (zones minima devices cells : List (List ℕ)) (e : Ending) (front : Front) (n : Counts)
-    (h : CaseDone (batch .devices) (batch .intervals) cs halves zones minima devices cells e front n) where
+module _ (l : Largest) (most : l .devices ≤ mostDevices) (long : l .intervals ≤ mostIntervals)
+    (cs halves : List ℕ) (zones minima devices cells : List (List ℕ)) (e : Ending) (front : Front) (n : Counts)
+    (h : CaseDone (l .devices) (l .intervals) cs halves zones minima devices cells e front n) where
   abbrev held : Stated
   held = statedFirst front n halves zones minima devices cells
 
-  pub passed : e ≡ Passes → statedIn batch cs ≡ passes held
+  pub passed : e ≡ Passes → statedIn l cs ≡ passes held
   passed t = sym (h .is) ∙ ap (ended held) t
 
-  pub failed : {f : Fault} → e ≡ Fails f → statedIn batch cs ≡ fails f
+  pub failed : {f : Fault} → e ≡ Fails f → statedIn l cs ≡ fails f
   failed t = sym (h .is) ∙ ap (ended held) t
 
   -- its rows are decoded
-  pub decoded-first : e ≡ Passes → DecodedFirst front n halves zones minima devices cells batch
+  pub decoded-first : e ≡ Passes → DecodedFirst front n halves zones minima devices cells l
   decoded-first t = record {
-    decoded = let sound = stated-sound batch (omega arith) (omega arith) cs held (passed t) in record { rows = h .decoded t; countable = sound .countable; plain = sound .plain };
+    decoded = let sound = stated-sound l most long cs held (passed t) in record { rows = h .decoded t; countable = sound .countable; plain = sound .plain };
     few-devices = h .counted t .devices;
     few-intervals = h .counted t .intervals;
     few-zones = h .counted t .zones;
     long = h .long t;
   }
 
-  pub case-fails : (ps before : List ℕ) {f : Fault} → e ≡ Fails f → Judges batch cs ps before before (Refused S.Case f)
+  pub case-fails : (ps before : List ℕ) {f : Fault} → e ≡ Fails f → Judges l cs ps before before (Refused S.Case f)
   case-fails ps before {f} t =
-      let off = case-off batch cs ps before f (failed t) in
-      judges batch (omega arith) (omega arith) (off .0) (off .1)
+      let off = case-off l cs ps before f (failed t) in
+      judges l most long (off .0) (off .1)
 
-  pub inspect-fails : {f : Fault} → e ≡ Fails f → I.Refused f ≡ inspectedOf (statedIn batch cs)
+  pub inspect-fails : {f : Fault} → e ≡ Fails f → I.Refused f ≡ inspectedOf (statedIn l cs)
   inspect-fails {f} t = ap inspectedOf (sym (ap (ended held) t) ∙ h .is)
 
   pub case-passes : (ps : List ℕ) {before after : List ℕ} {v : Verdict} → e ≡ Passes → v ≡ withPlan held before (readPlan held ps) .verdict → after ≡ withPlan held before (readPlan held ps) .result
-      → Judges batch cs ps before after v
+      → Judges l cs ps before after v
   case-passes ps {before} t k r =
-      let on = case-on batch cs ps before held (passed t) in
-      judges batch (omega arith) (omega arith) (k ∙ on .0) (r ∙ on .1)
+      let on = case-on l cs ps before held (passed t) in
+      judges l most long (k ∙ on .0) (r ∙ on .1)
 
-  pub inspect-passes : e ≡ Passes → I.Counts (n .devices) (n .intervals) (n .zones) ≡ inspectedOf (statedIn batch cs)
+  pub inspect-passes : e ≡ Passes → I.Counts (n .devices) (n .intervals) (n .zones) ≡ inspectedOf (statedIn l cs)
   inspect-passes t =
-      let l = h .long t in
-      let a = devices-are _ _ _ _ _ ∙ l .devices-long in
-      let b = intervals-are _ _ _ _ _ ∙ l .halves-long in
-      let c = zones-are _ _ _ _ _ ∙ l .zones-long in
+      let g = h .long t in
+      let a = devices-are _ _ _ _ _ ∙ g .devices-long in
+      let b = intervals-are _ _ _ _ _ ∙ g .halves-long in
+      let c = zones-are _ _ _ _ _ ∙ g .zones-long in
       counts-same a b c ∙ ap inspectedOf (sym (passed t))
     where
       counts-same : {a b c a′ b′ c′ : ℕ} → a ≡ a′ → b ≡ b′ → c ≡ c′ → I.Counts a′ b′ c′ ≡ I.Counts a b c

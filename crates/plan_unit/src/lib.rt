@@ -11,7 +11,7 @@ use row_places::MinimaRow;
 use row_places::SettingRow;
 use row_places::ZoneRow;
 ghost use mathlib.Core.Path.{_≡_};
-ghost use Rattle.model.specs.Editions.{batch};
+ghost use Rattle.model.specs.Editions.{host};
 ghost use Rattle.model.specs.ByEdition.{statedIn};
 ghost use Rattle.plan_unit.specs.Decoded.{Decoded, Planned, Work};
 ghost use Rattle.plan_unit.specs.Judges.{Judges, JudgesPlan};
@@ -137,10 +137,10 @@ pub fn judge_plan(
     }
 }
 
-// The largest counts that the tables of this owner hold, and the rows that they need.
-pub const DEVICES: usize = 16;
+// The largest counts that the host library takes, and the rows that its tables need.
+pub const DEVICES: usize = 64;
 
-pub const INTERVALS: usize = 48;
+pub const INTERVALS: usize = 96;
 
 pub const ZONES: usize = 4;
 
@@ -152,7 +152,7 @@ pub const TIMES: usize = INTERVALS + 1;
 
 // A plan's bytes against a case's bytes.
 pub fn judge(case: &[u8], plan: &[u8], result: &mut [u8]) -> Verdict
-    ensures { λ r. ⌜ Judges batch (now (case .entry)) (now (plan .entry)) (now (result .entry)) (now (result .exit)) r ⌝ }
+    ensures { λ r. ⌜ Judges host (now (case .entry)) (now (plan .entry)) (now (result .entry)) (now (result .exit)) r ⌝ }
 {
     let mut halves = [0u32; INTERVALS];
     let zone = row_places::blank_zone();
@@ -212,9 +212,9 @@ pub enum Inspected {
     Refused(Fault),
 }
 
-// What the batch program prints for message 0.
+// A case's counts, by the host library's reader.
 pub fn inspect(case: &[u8]) -> Inspected
-    ensures { λ r. ⌜ r ≡ inspectedOf (statedIn batch (now (case .entry))) ⌝ }
+    ensures { λ r. ⌜ r ≡ inspectedOf (statedIn host (now (case .entry))) ⌝ }
 {
     let mut halves = [0u32; INTERVALS];
     let zone = row_places::blank_zone();

@@ -46,7 +46,7 @@ module _ (e : ℕ) (h : has 3 e ≡ false) where
       (λ v ok. (ok .1 .1 .0 .1, tt))
 
   device-floorless : (intervals zones last : ℕ) → Sure (B.device e intervals zones last) (λ v. DeviceFloorless (v .0) × Any (v .1))
-  unfolding B.device
+  unfolding B.deviceBy
   device-floorless n zones last = held-sure _ _ _ _ _
       (pair-sure _ _ _ _ (head-sure zones)
       (pair-sure _ _ _ _ costs-sure
@@ -60,7 +60,7 @@ module _ (e : ℕ) (h : has 3 e ≡ false) where
       (λ v ok. (ok .1 .1 .1 .1 .1 .1 .1 .1, tt))
 
   content-floorless : (l : Largest) → Sure (B.content e l) (λ c. SystemFloorless (c .system))
-  unfolding B.content
+  unfolding B.contentBy
   content-floorless l = held-sure _ _ _ _ _
       (then-sure (B.counts e l) _ _ _ (counts-sure e l) (λ n.
       pair-sure _ _ _ _ (figure-sure 14 1 10000) (pair-sure _ _ _ _ (figure-sure 14 1 10000)

@@ -52,7 +52,7 @@ module _ (e : ℕ) (h : has 2 e ≡ false) where
       (λ v ok. (ap (λ r. r .0) (ok .1 .1 .1 .1), tt))
 
   device-plain : (intervals zones last : ℕ) → Sure (B.device e intervals zones last) (λ v. DevicePlain (v .0) × Any (v .1))
-  unfolding B.device
+  unfolding B.deviceBy
   device-plain n zones last = held-sure _ _ _ _ _
       (pair-sure _ _ _ _ (head-sure zones)
       (pair-sure _ _ _ _ costs-sure
@@ -77,7 +77,7 @@ module _ (e : ℕ) (h : has 2 e ≡ false) where
       (λ v ok. (record { minima = ok .1 .1 .1 .1 }, tt))
 
   content-plain : (l : Largest) → Sure (B.content e l) (λ c. SystemPlain (c .system))
-  unfolding B.content
+  unfolding B.contentBy
   content-plain l = held-sure _ _ _ _ _
       (then-sure (B.counts e l) _ _ _ (counts-sure e l) (λ n.
       pair-sure _ _ _ _ (figure-sure 14 1 10000) (pair-sure _ _ _ _ (figure-sure 14 1 10000)
@@ -94,7 +94,7 @@ module _ (e : ℕ) (h : has 2 e ≡ false) where
       (λ v ok. ok .1)
 
   planned-sure : (devices intervals : ℕ) → Sure (B.planLayout e devices intervals) PlanPlain
-  unfolding B.planLayout
+  unfolding B.planBy
   planned-sure devices intervals = held-sure _ _ _ _ _
       (pair-sure _ _ _ _ (nat-sure _) (pair-sure _ _ _ _ (nat-sure _) (pair-sure _ _ _ _ (nat-sure _) (pair-sure _ _ _ _ (nat-sure _)
       (list-sure _ _ _ (list-sure _ (B.setting e) _ setting-plain))))))

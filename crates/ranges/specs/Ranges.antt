@@ -12,6 +12,7 @@ use Rattle.numbers.specs.Every.{map-of-all}
 use Rattle.model.specs.Case.{Reserves, Ramps, StartWindow, EnergyWindow, Shares, Six, Kinds, Minima, Cell, CellPrices, Device, DevicePrices, Zone, System, Prices}
 use Rattle.model.specs.Case.{Block, Case, Plan, Reactive, Setting, noReactive, ReactiveLimits, ReactiveReserves, Line, Link, noLine, noLink, noReactiveReserves, unitPrices}
 use Rattle.layouts.specs.Layout.{Layout, Field, nat, list, counted, _then_, _▸_, such, passes, figure, any, countOf, int}
+use Rattle.model.specs.Widths.{bounded}
 use Rattle.model.specs.Editions.{newest, Largest, batch, devicesIn, intervalsIn, mostDevices, mostIntervals, mostZones, mostStates, mostWindows, startsBits, mostStarts}
 use Rattle.model.specs.Messages as M
 use Rattle.model.specs.Messages.{edition1}
@@ -232,9 +233,9 @@ unfolding M.windowEnds
 ends-sure last = then-sure (any 16) _ _ (λ a b. b ≤ 65535) (figure-sure 16 0 65535) (λ a. tested-sure _ _ _ (figure-sure 16 0 65535))
 
 pub start-sure : (e last : ℕ) → Sure (B.startWindow e last) StartRange
-unfolding B.startWindow
+unfolding B.startWindowBy
 start-sure e last = held-sure _ _ _ _ _ (pair-sure _ _ _ _ (ends-sure last) (figure-sure (startsBits e) 0 (mostStarts e)))
-    (λ v ok. record { from = ok .0 .0; until = ok .0 .1; most = ok .1 })
+    (λ v ok. record { from = ok .0 .0; until = ok .0 .1; most = omega (arith, bounded e .mostStarts) })
 
 pub energy-sure : (last : ℕ) → Sure (M.energyWindow last) EnergyRange
 unfolding M.energyWindow
@@ -255,7 +256,7 @@ pub record DevicePriceRange (x : DevicePrices) : Type 0 where
   pub cells : All CellPriceRange (x .cells)
 
 device-sure : (e intervals zones last : ℕ) → Sure (B.device e intervals zones last) (λ v. DeviceRange intervals (v .0) × DevicePriceRange (v .1))
-unfolding B.device
+unfolding B.deviceBy
 device-sure e n zones last = held-sure _ _ _ _ _
     (pair-sure _ _ _ _ (head-sure zones)
     (pair-sure _ _ _ _ costs-sure
@@ -377,7 +378,7 @@ abbrev Counted : ℕ → ℕ → M.Counts → Type 0
 Counted devices intervals n = ((1 ≤ n .devices) × (n .devices ≤ devices)) × ((1 ≤ n .intervals) × (n .intervals ≤ intervals)) × (n .zones ≤ mostZones)
 
 pub counts-sure : (e : ℕ) (l : Largest) → Sure (B.counts e l) (Counted (devicesIn e l) (intervalsIn e l))
-unfolding B.counts
+unfolding B.countsBy
 counts-sure e l = held-sure _ _ _ _ _ (pair-sure _ _ _ _ (nat-sure _) (pair-sure _ _ _ _ (nat-sure _) (nat-sure _))) (λ v ok. (ok .0, ok .1 .0, ok .1 .1 .1))
 
 -- a case of edition e as a reader takes it: within the edition's counts and the reader's
@@ -393,7 +394,7 @@ pub record StatedRange (l : Largest) (x : Stated) : Type 0 where
 -- any reader that takes no more than the most
 module _ (l : Largest) (most : l .devices ≤ mostDevices) (long : l .intervals ≤ mostIntervals) where
   pub content-sure : (e : ℕ) → Sure (B.content e l) (Taken e l)
-  unfolding B.content
+  unfolding B.contentBy
   content-sure e = held-sure _ _ _ _ _
       (then-sure (B.counts e l) _ _ _ (counts-sure e l) (λ n.
       pair-sure _ _ _ _ (figure-sure 14 1 10000) (pair-sure _ _ _ _ (figure-sure 14 1 10000)
@@ -469,7 +470,7 @@ abbrev pub Settings : ℕ → ℕ → Plan → Type 0
 Settings devices intervals p = (length (p .settings) ≡ intervals) × All (λ row. (length row ≡ devices) × All SettingRange row) (p .settings)
 
 pub settings-in : (e devices intervals : ℕ) → Sure (B.planLayout e devices intervals) (Settings devices intervals)
-unfolding B.planLayout
+unfolding B.planBy
 settings-in e devices intervals = held-sure _ _ _ _ _
     (pair-sure _ _ _ _ (nat-sure _) (pair-sure _ _ _ _ (nat-sure _) (pair-sure _ _ _ _ (nat-sure _) (pair-sure _ _ _ _ (nat-sure _)
     (list-sure _ _ _ (list-sure _ (B.setting e) SettingRange (setting-sure e)))))))

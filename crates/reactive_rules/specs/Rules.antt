@@ -23,7 +23,7 @@ use Rattle.row_places.specs.declared.ReactiveCell.{ReactiveCell}
 use Rattle.row_places.specs.Figures.{reactiveAt, reactiveCellAt}
 use Rattle.records.specs.Views.{less, linkIn, reactiveIn, reactiveLimitsIn, mostPower}
 use Rattle.ramped_powers.specs.Changes.{rampingOf}
-use Rattle.brackets.specs.Counts.{bracketAt, Countable}
+use Rattle.brackets.specs.Counts.{bracketAt, powerAt, Countable}
 use Rattle.cell_bounds.specs.Word.{failingWord, rising, word-none}
 use Rattle.reactive_tests.specs.Order.{below-limit, above-limit}
 use Rattle.reactive_tests.specs.Tests.{tests, tests-rise, limitTests, lineTests, equalityTests, mostBracket, LinkSized, LimitsSized, ReactiveSized, Sized}
@@ -43,12 +43,13 @@ module _ (d : ReactiveBounds) (cells settings : List (List ℕ)) (starts powers 
   unfolding reactiveTestsAt
   reactive-rise = tests-rise _ _ _ _ _ _
 
-  -- t is an interval of the parts, and its figures have the sizes that the code relies on
+  -- t is an interval of the parts, its figures have the sizes that the code relies on, and its power is the parts'
   pub record ReactiveFits : Type 0 where
     pub countable : Countable (d .ramping) cells settings starts
     pub in-cells : t < length cells
     pub in-powers : t < length powers
     pub power : getD powers t 0 ≤ mostPower
+    pub whole : getD powers t 0 ≡ powerAt (d .ramping) cells settings starts t
     pub link : LinkSized (d .link)
     pub limits : LimitsSized (reactiveCellAt cells t)
     pub reactive : ReactiveSized (reactiveAt settings t)

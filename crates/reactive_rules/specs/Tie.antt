@@ -20,7 +20,7 @@ use Rattle.row_places.specs.Figures.{deviceOf, reactiveAt, reactiveCellAt}
 use Rattle.records.specs.Views.{less, systemIn, planIn, cellIn, settingIn, lineIn, slopeOffset, Ready}
 use Rattle.records.specs.Viewed as W
 use Rattle.records.specs.Ranged as G
-use Rattle.brackets.specs.Tied.{bracket-here, countable-here}
+use Rattle.brackets.specs.Tied.{bracket-here, power-here, countable-here}
 use Rattle.reactive_tests.specs.Tests.{tests, limitTests, lineTests, equalityTests, LineSized}
 use Rattle.reactive_rules.specs.Rules.{reactiveBoundsOf, reactiveTestsAt, ReactiveFits}
 
@@ -88,6 +88,7 @@ module _ {front : Front} {halves : List ℕ} {zones minima devices cells setting
           in-cells = omega (arith, own-cells);
           in-powers = omega (arith, part-long (length halves) i (length devices) powers l (ready .forced-rows .powers-full));
           power = G.power-small ready i l t h;
+          whole = G.power-at ready i l t h ∙ sym (power-here ready i l t h);
           link = record { upper = line-sized (d .link .upper) (k .upper); lower = line-sized (d .link .lower) (k .lower) };
           limits = record { qmin = kept (reactiveCellAt ownCells t .qmin .0) (c .qmin); qmax = kept (reactiveCellAt ownCells t .qmax .0) (c .qmax) };
           reactive = record { q = kept (reactiveAt ownSettings t .q .0) (s .q); qru = s .qru; qrd = s .qrd };

@@ -6,7 +6,7 @@ ghost use lib.ListN.{length};
 ghost use Rattle.row_places.specs.Figures.{reactiveAt, reactiveCellAt};
 ghost use Rattle.cell_bounds.specs.Word.{failingWord};
 ghost use Rattle.reactive_rules.specs.Rules.{reactiveBoundsOf, reactiveTestsAt, ReactiveFits, Idle, AllReactiveFit, ReactiveHeldTo};
-use brackets::bracket_at;
+use brackets::bracket_given;
 use cell_rows::reactive_cell_at;
 use kilowatts::Kw;
 use ramped_powers::Ramping;
@@ -95,8 +95,8 @@ pub fn failing_reactive(
         return 0;
     }
     let ramping = d.ramping;
-    let n = bracket_at(ramping, cells, settings, starts, t);
     let power = Kw(powers[t]);
+    let n = bracket_given(ramping, cells, settings, starts, t, power);
     let c = reactive_cell_at(cells, t);
     let x = reactive_at(settings, t);
     failing_figures(d.side, n, power, link, c, x)

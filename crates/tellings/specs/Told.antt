@@ -1,7 +1,10 @@
--- What hosts in other languages are told: a word and four numbers for each verdict, for each case that is inspected, and for each list of breaches.
+-- What hosts in other languages are told: a word and four numbers for each verdict, for each case that is inspected, for each list of breaches, and for each
+-- message that a splitter finds.
 use mathlib.Core.List.{List, [], _∷_}
 use Prim.Native.Nat.{ℕ}
 use Rattle.layouts.specs.Faults.{numberOf, returnedBy}
+use Rattle.layouts.specs.declared.Framed.{Framed}
+use Rattle.layouts.specs.declared.Framed.the-variants as B
 use Rattle.bits.specs.Twos.{toTwos}
 use Rattle.model.specs.declared.Subject.{Subject}
 use Rattle.model.specs.declared.Subject.the-variants as S
@@ -34,6 +37,12 @@ toldCase (I.Refused f) = record { word = 2; first = numberOf f; second = returne
 abbrev pub toldList : Listing → Told
 toldList (L.Listed n) = record { word = 0; first = n; second = 0; third = 0; fourth = 0 }
 toldList (L.Refused s f) = record { word = wordOf s; first = numberOf f; second = returnedBy f; third = 0; fourth = 0 }
+
+-- 0 a message: its first byte and the one behind its last; 1 the end; 2 refused: number, bit
+abbrev pub toldFrame : Framed → Told
+toldFrame (B.Message from until) = record { word = 0; first = from; second = until; third = 0; fourth = 0 }
+toldFrame B.End = record { word = 1; first = 0; second = 0; third = 0; fourth = 0 }
+toldFrame (B.Refused f) = record { word = 2; first = numberOf f; second = returnedBy f; third = 0; fourth = 0 }
 
 abbrev pub figuresOf : Told → List ℕ
 figuresOf t = t .first ∷ t .second ∷ t .third ∷ t .fourth ∷ []

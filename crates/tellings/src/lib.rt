@@ -1,4 +1,5 @@
 // What hosts in other languages are told: a word and four numbers.
+use layouts::Framed;
 use model::Listing;
 use model::Subject;
 use model::Verdict;
@@ -7,7 +8,7 @@ ghost use mathlib.Core.Path.{_≡_};
 ghost use mathlib.Core.List.{_++_};
 ghost use Prim.Native.Nat.{_≤_};
 ghost use lib.ListN.{length, drop};
-ghost use Rattle.tellings.specs.Told.{wordOf, toldOf, toldCase, toldList, figuresOf};
+ghost use Rattle.tellings.specs.Told.{wordOf, toldOf, toldCase, toldList, toldFrame, figuresOf};
 
 pub struct Told {
     pub word: u64,
@@ -110,6 +111,39 @@ pub fn tell_list(x: Listing) -> Told
             let returned = layouts::returned_by(f);
             Told {
                 word,
+                first: number,
+                second: returned,
+                third: 0,
+                fourth: 0,
+            }
+        }
+    }
+}
+
+// What a splitter finds.
+pub fn tell_frame(x: Framed) -> Told
+    ensures { λ r. ⌜ r ≡ toldFrame x ⌝ }
+{
+    match x {
+        Framed::Message(from, until) => Told {
+            word: 0,
+            first: from as u64,
+            second: until as u64,
+            third: 0,
+            fourth: 0,
+        },
+        Framed::End => Told {
+            word: 1,
+            first: 0,
+            second: 0,
+            third: 0,
+            fourth: 0,
+        },
+        Framed::Refused(f) => {
+            let number = layouts::number_of(f);
+            let returned = layouts::returned_by(f);
+            Told {
+                word: 2,
                 first: number,
                 second: returned,
                 third: 0,

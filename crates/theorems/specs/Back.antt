@@ -10,7 +10,7 @@ use Rattle.layouts.specs.declared.Fault.{Fault}
 use Rattle.layouts.specs.Layout.{Layout, nat, _then_, _▸_, readWhole, passes, bytes, any, countOf}
 use Rattle.model.specs.Editions.{deviceBits, intervalBits}
 use Rattle.model.specs.ByEdition as B
-use Rattle.model.specs.ByEdition.{completionFront, completionKind}
+use Rattle.model.specs.ByEdition.{completionFront, completionFrontBy, completionKind}
 use Rattle.model.specs.Messages.{Counts, six, deviceChoice, DeviceChoice, IntervalChoice, Written}
 use Rattle.layouts.specs.Since.{has, present, present-law, Where}
 use Rattle.layouts.specs.Trip.{Lawful, nat-law, int-law, then-law, held-law, list-law, weaken, whole-back, Fits}
@@ -108,14 +108,14 @@ only-law : (w v : ℕ) (wrong : ℕ → Fault) → v < 2 ^ w → Lawful (nat (re
 only-law w v wrong h = weaken _ _ _ (nat-law (record { width = w; low = v; high = v; wrong = wrong }) h) (λ x e. (omega arith, omega arith))
 
 front-law : (e : ℕ) (n : Counts) → Countable e n → Lawful (completionFront e n) (λ m. m ≡ n)
-unfolding completionFront
+unfolding completionFrontBy
 front-law e n k = weaken _ _ _
     (held-law _ _ _ _ (pair-law _ _ _ _ (only-law 4 completionKind _ (omega arith)) (pair-law _ _ _ _ (only-law 4 e _ (k .edition))
     (pair-law _ _ _ _ (only-law (deviceBits e) (n .devices) _ (k .devices)) (pair-law _ _ _ _ (only-law (intervalBits e) (n .intervals) _ (k .intervals)) (only-law 3 (n .zones) _ (k .zones)))))))
     (λ m h. rw h ((refl, (refl, (refl, (refl, refl)))), refl))
 
 completed-law : (e : ℕ) (n : Counts) (windows : ℕ) → Countable e n → Lawful (B.completionLayout e n windows) (FitsWritten e n windows)
-unfolding B.completionLayout
+unfolding B.completionBy
 completed-law e n windows k =
     weaken _ _ _ (held-law _ _ _ _
     (pair-law _ _ _ _ (front-law e n k)

@@ -3,6 +3,7 @@ pub mod Plain
 pub mod Floorless
 pub mod Theorem
 pub mod AsBefore
+pub mod SizesAsBefore
 pub mod Back
 pub mod Sizes
 pub mod Promise

@@ -28,6 +28,7 @@ use Rattle.layouts.specs.Layout.{Layout, Field, nat, int, _then_, _▸_, list, 
 use Rattle.model.specs.Messages as M
 use Rattle.model.specs.Messages.{Counts, Written}
 use Rattle.model.specs.Editions.{newest, Largest, deviceBits, intervalBits, mostDevices, mostIntervals, mostZones, mostWindows}
+use Rattle.model.specs.Widths.{bounded}
 use Rattle.model.specs.ByEdition as B
 use Rattle.model.specs.ByEdition.{Stated, statedIn, plannedIn}
 use Rattle.model.specs.Judgement.{Judged, judged, verdict, bufferAfter, withPlan, withCase, readPlan, judgement, written, countsOf, completionIn, energyWindows, ourSurplus, completionBytes}
@@ -175,7 +176,7 @@ module _ (e : ℕ) (n : Counts) (d : n .devices ≤ mostDevices) (i : n .interva
       (λ b ok. ((omega (arith, ok .each), ok .devices), ((omega (arith, ok .every), ok .zones), (tt, tt))))
 
   front-sized : Sized (B.completionFront e n) Any (frontWidth e)
-  unfolding B.completionFront
+  unfolding B.completionFrontBy
   front-sized = held-sized _ _ _ _ _ _
       (pair-sized _ _ _ _ _ _ (nat-sized _ Any) (pair-sized _ _ _ _ _ _ (nat-sized _ Any) (pair-sized _ _ _ _ _ _ (nat-sized _ Any) (pair-sized _ _ _ _ _ _ (nat-sized _ Any) (nat-sized _ Any)))))
       (λ b ok. (tt, (tt, (tt, (tt, tt)))))
@@ -185,7 +186,7 @@ module _ (e : ℕ) (n : Counts) (d : n .devices ≤ mostDevices) (i : n .interva
   int-sized w most = record { size = λ z ok. omega (arith, length-bits w (toTwos w z)) }
 
   pub completion-sized : (windows : ℕ) → windows ≤ mostDevices * mostWindows → Sized (B.completionLayout e n windows) (FitsWritten e n windows) (completionWidth e)
-  unfolding B.completionLayout
+  unfolding B.completionBy
   completion-sized windows w = held-sized _ _ _ _ _ _
       (pair-sized _ _ _ _ _ _ front-sized (pair-sized _ _ _ _ _ _ (list-sized _ mostIntervals _ (FitsInterval e n) intervalWidth interval-sized)
       (pair-sized _ _ _ _ _ _ (list-sized _ (mostDevices * mostWindows) _ (λ x. x ≤ 2 ^ 32 - 1) _ (nat-sized _ _)) (int-sized 64 _))))
@@ -216,11 +217,17 @@ module _ (c : Case) (p : Plan) (g : CaseRange c) (rp : PlanRange (c .system) p) 
 
   -- "exactly the completion's bytes": they read back as our completion with the surplus reported, in every edition whose fields hold the case's counts
   pub our-back : (e : ℕ) → Lacks e → Countable e (countsOf (c .system)) → readWhole (completionIn e (c .system)) (bytes (completionIn e (c .system) .write our)) ≡ passes our
-  our-back e plain k = completed-back e (countsOf (c .system)) (energyWindows (c .system)) k our (our-fits e plain) (let n = our-size e plain in omega arith)
+  our-back e plain k = completed-back e (countsOf (c .system)) (energyWindows (c .system)) k our (our-fits e plain)
+      (let n = our-size e plain in omega (arith, bounded e .deviceBits, bounded e .intervalBits))
 
 -- the counts of a case that a reader takes fit their fields
 taken-countable : (e : ℕ) (l : Largest) (c : Case) → e ≤ newest → Taken e l c → Countable e (countsOf (c .system))
-taken-countable e l c h g = record { edition = omega arith; devices = omega (arith, g .devices); intervals = omega (arith, g .intervals); zones = omega (arith, g .range .system .zones) }
+taken-countable e l c h g = record {
+  edition = omega arith;
+  devices = omega (arith, g .devices, bounded e .devices);
+  intervals = omega (arith, g .intervals, bounded e .intervals);
+  zones = omega (arith, g .range .system .zones);
+}
 
 -- ---- the promises
 

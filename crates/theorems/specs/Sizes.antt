@@ -138,9 +138,25 @@ mostReactiveShortfallCost = mostMinutes * (reactiveKinds * (mostShortfallPrice *
 abbrev pub mostOverrunCost : ℕ → ℕ → ℕ
 mostOverrunCost n m = mostPrice * (n * (mostWindows * mostOverrun m))
 
--- "For our completion its size stays below 2·10^18"
+-- the greatest surplus in size: of real power, and what reactive power takes of it
+abbrev pub mostRealSurplus : ℕ → ℕ → ℕ
+mostRealSurplus n m =
+    m * (n * mostBlockWorth) + m * (n * mostOnCosts) + m * (n * mostChanges) + m * (n * mostReserves) + m * (mostZones * mostShortfallCost n) + m * mostMismatchCost n
+    + mostOverrunCost n m
+
+abbrev pub mostReactiveCosts : ℕ → ℕ → ℕ
+mostReactiveCosts n m = m * (n * mostReactiveReserves) + m * (mostZones * mostReactiveShortfallCost) + m * mostMismatchCost n
+
+abbrev pub mostSurplus : ℕ → ℕ → ℕ
+mostSurplus n m = mostRealSurplus n m + mostReactiveCosts n m
+
+-- "our surplus stays below 10^18 in size"
 abbrev pub surplusLimit : ℕ
-surplusLimit = 2 * 10 ^ 18
+surplusLimit = 10 ^ 18
+
+-- "over any device and interval count up to these": 7.7·10^17 at 64 and 96; 3.61·10^17 at 16 and 48
+pub most-surplus : mostSurplus mostDevices mostIntervals < surplusLimit
+most-surplus = omega arith
 
 -- one of u and 1 − u is 0
 shared : (m v a b : ℕ) → v ≤ 1 → a ≤ m * v → b ≤ m * (1 - v) → a + b ≤ m
@@ -416,10 +432,10 @@ module _ (c : Case) (p : Plan) (rq : SystemRange (c .system)) (rp : PlanRange (c
   abbrev our : C.Completion ℤ
   our = whole (ours c p)
 
-  -- over intervals and n others, each at most b
-  grid : (n m b : ℕ) (f : ℕ → ℕ → ℤ) → n ≤ m → ((t i : ℕ) → t < intervals sys → i < n → natAbs (f t i) ≤ b)
-      → natAbs (sumℤ (λ t. sumℤ (f t) (upTo n)) (upTo (intervals sys))) ≤ mostIntervals * (m * b)
-  grid n m b f h g = bound-few (λ t. sumℤ (f t) (upTo n)) (m * b) (intervals sys) mostIntervals (rq .intervals) (λ t l. bound-few (f t) b n m h (λ i k. g t i l k))
+  -- over at most m intervals and k others, at most n of them, each at most b
+  grid : (m : ℕ) → intervals sys ≤ m → (k n b : ℕ) (f : ℕ → ℕ → ℤ) → k ≤ n → ((t i : ℕ) → t < intervals sys → i < k → natAbs (f t i) ≤ b)
+      → natAbs (sumℤ (λ t. sumℤ (f t) (upTo k)) (upTo (intervals sys))) ≤ m * (n * b)
+  grid m short k n b f h g = bound-few (λ t. sumℤ (f t) (upTo k)) (n * b) (intervals sys) m short (λ t l. bound-few (f t) b k n h (λ i j. g t i l j))
 
   abbrev d : ℕ → ℤ
   d t = pos (duration sys t)
@@ -472,29 +488,6 @@ module _ (c : Case) (p : Plan) (rq : SystemRange (c .system)) (rp : PlanRange (c
         mul-le-mul (a .rrdOff) (b .rrdOff),
       ))
 
-  shortfall-cost : (t z : ℕ) → t < intervals sys → z < zones sys → natAbs (C.shortfallCost c p our t z) ≤ mostShortfallCost mostDevices
-  unfolding C.shortfallCost whole ours
-  shortfall-cost t z l m = bound-mul (d t) (sumℤ term C.shortfalls) mostMinutes (shortfallKinds * most) (duration-bound sys p rq rp ok t) (bound-sum term most C.shortfalls
-      (all {P = λ k. natAbs (term k) ≤ most} (λ k.
-      bound-mul (pos (C.shortfallPrice (getD (c .prices .zones) z noKinds .six) k)) (our .shortfall t z k) mostShortfallPrice (mostShortfall mostDevices) (rc .shortfall z k)
-      (shortfall-bound sys p rq rp ok mostDevices (rq .devices) t z k l m)) C.shortfalls))
-    where
-      term : C.Shortfall → ℤ
-      term k = pos (C.shortfallPrice (getD (c .prices .zones) z noKinds .six) k) *ℤ our .shortfall t z k
-
-      most : ℕ
-      most = mostShortfallPrice * mostShortfall mostDevices
-
-  mismatch-cost : (t : ℕ) → t < intervals sys → natAbs (C.mismatchCost c p our t) ≤ mostMismatchCost mostDevices
-  unfolding C.mismatchCost whole ours
-  mismatch-cost t l = bound-mul (d t) (pos (c .prices .mismatch) *ℤ our .mismatch t) mostMinutes (mostPrice * mostTotal mostDevices) (duration-bound sys p rq rp ok t)
-      (bound-mul (pos (c .prices .mismatch)) (our .mismatch t) mostPrice (mostTotal mostDevices) (rc .mismatch) (mismatch-bound sys p rq rp ok mostDevices (rq .devices) t l))
-
-  overruns-sum : (i : ℕ) → i < devices sys → natAbs (C.overruns c p our i) ≤ mostWindows * mostOverrun mostIntervals
-  unfolding C.overruns whole ours
-  overruns-sum i m = bound-few (our .overrun i) (mostOverrun mostIntervals) (length (device sys i .energyWindows)) mostWindows (device-at sys p rq rp ok i m .energies)
-      (λ w k. overrun-bound sys p rq rp ok mostIntervals (rq .intervals) i w m)
-
   reactive-reserves-cost : (t i : ℕ) → t < intervals sys → i < devices sys → natAbs (C.reactiveReservesCost c p our t i) ≤ mostReactiveReserves
   unfolding C.reactiveReservesCost C.reactiveReserveCost
   reactive-reserves-cost t i l m =
@@ -519,76 +512,96 @@ module _ (c : Case) (p : Plan) (rq : SystemRange (c .system)) (rp : PlanRange (c
       most : ℕ
       most = mostShortfallPrice * mostReactiveShortfall
 
-  reactive-mismatch-cost : (t : ℕ) → t < intervals sys → natAbs (C.reactiveMismatchCost c p our t) ≤ mostMismatchCost mostDevices
-  unfolding C.reactiveMismatchCost whole ours
-  reactive-mismatch-cost t l = bound-mul (d t) (pos (c .prices .mismatch) *ℤ our .reactiveMismatch t) mostMinutes (mostPrice * mostTotal mostDevices) (duration-bound sys p rq rp ok t)
-      (bound-mul (pos (c .prices .mismatch)) (our .reactiveMismatch t) mostPrice (mostTotal mostDevices) (rc .mismatch) (reactive-mismatch-bound sys p rq rp ok mostDevices (rq .devices) t l))
+  -- ---- at most N devices and T intervals
+  module _ (N T : ℕ) (few : devices sys ≤ N) (short : intervals sys ≤ T) where
+    shortfall-cost : (t z : ℕ) → t < intervals sys → z < zones sys → natAbs (C.shortfallCost c p our t z) ≤ mostShortfallCost N
+    unfolding C.shortfallCost whole ours
+    shortfall-cost t z l m = bound-mul (d t) (sumℤ term C.shortfalls) mostMinutes (shortfallKinds * most) (duration-bound sys p rq rp ok t) (bound-sum term most C.shortfalls
+        (all {P = λ k. natAbs (term k) ≤ most} (λ k.
+        bound-mul (pos (C.shortfallPrice (getD (c .prices .zones) z noKinds .six) k)) (our .shortfall t z k) mostShortfallPrice (mostShortfall N) (rc .shortfall z k)
+        (shortfall-bound sys p rq rp ok N few t z k l m)) C.shortfalls))
+      where
+        term : C.Shortfall → ℤ
+        term k = pos (C.shortfallPrice (getD (c .prices .zones) z noKinds .six) k) *ℤ our .shortfall t z k
 
-  abbrev mostReactiveCosts : ℕ
-  mostReactiveCosts = mostIntervals * (mostDevices * mostReactiveReserves) + mostIntervals * (mostZones * mostReactiveShortfallCost) + mostIntervals * mostMismatchCost mostDevices
+        most : ℕ
+        most = mostShortfallPrice * mostShortfall N
 
-  reactive-size : natAbs (C.reactiveCosts c p our) ≤ mostReactiveCosts
-  unfolding C.reactiveCosts
-  reactive-size = bound-add (A +ℤ B) E _ _
-      (bound-add A B _ _ (grid (devices sys) mostDevices mostReactiveReserves (C.reactiveReservesCost c p our) (rq .devices) reactive-reserves-cost)
-      (grid (zones sys) mostZones mostReactiveShortfallCost (C.reactiveShortfallCost c p our) (rq .zones) reactive-shortfall-cost))
-      (bound-few (C.reactiveMismatchCost c p our) (mostMismatchCost mostDevices) (intervals sys) mostIntervals (rq .intervals) reactive-mismatch-cost)
-    where
-      A : ℤ
-      A = sumℤ (λ t. sumℤ (C.reactiveReservesCost c p our t) (upTo (devices sys))) (upTo (intervals sys))
+    mismatch-cost : (t : ℕ) → t < intervals sys → natAbs (C.mismatchCost c p our t) ≤ mostMismatchCost N
+    unfolding C.mismatchCost whole ours
+    mismatch-cost t l = bound-mul (d t) (pos (c .prices .mismatch) *ℤ our .mismatch t) mostMinutes (mostPrice * mostTotal N) (duration-bound sys p rq rp ok t)
+        (bound-mul (pos (c .prices .mismatch)) (our .mismatch t) mostPrice (mostTotal N) (rc .mismatch) (mismatch-bound sys p rq rp ok N few t l))
 
-      B : ℤ
-      B = sumℤ (λ t. sumℤ (C.reactiveShortfallCost c p our t) (upTo (zones sys))) (upTo (intervals sys))
+    overruns-sum : (i : ℕ) → i < devices sys → natAbs (C.overruns c p our i) ≤ mostWindows * mostOverrun T
+    unfolding C.overruns whole ours
+    overruns-sum i m = bound-few (our .overrun i) (mostOverrun T) (length (device sys i .energyWindows)) mostWindows (device-at sys p rq rp ok i m .energies)
+        (λ w k. overrun-bound sys p rq rp ok T short i w m)
 
-      E : ℤ
-      E = sumℤ (C.reactiveMismatchCost c p our) (upTo (intervals sys))
+    reactive-mismatch-cost : (t : ℕ) → t < intervals sys → natAbs (C.reactiveMismatchCost c p our t) ≤ mostMismatchCost N
+    unfolding C.reactiveMismatchCost whole ours
+    reactive-mismatch-cost t l = bound-mul (d t) (pos (c .prices .mismatch) *ℤ our .reactiveMismatch t) mostMinutes (mostPrice * mostTotal N) (duration-bound sys p rq rp ok t)
+        (bound-mul (pos (c .prices .mismatch)) (our .reactiveMismatch t) mostPrice (mostTotal N) (rc .mismatch) (reactive-mismatch-bound sys p rq rp ok N few t l))
 
-  abbrev mostRealSurplus : ℕ
-  mostRealSurplus =
-      mostIntervals * (mostDevices * mostBlockWorth) + mostIntervals * (mostDevices * mostOnCosts) + mostIntervals * (mostDevices * mostChanges)
-      + mostIntervals * (mostDevices * mostReserves) + mostIntervals * (mostZones * mostShortfallCost mostDevices) + mostIntervals * mostMismatchCost mostDevices
-      + mostPrice * (mostDevices * (mostWindows * mostOverrun mostIntervals))
+    reactive-size : natAbs (C.reactiveCosts c p our) ≤ mostReactiveCosts N T
+    unfolding C.reactiveCosts
+    reactive-size = bound-add (A +ℤ B) E _ _
+        (bound-add A B _ _ (grid T short (devices sys) N mostReactiveReserves (C.reactiveReservesCost c p our) few reactive-reserves-cost)
+        (grid T short (zones sys) mostZones mostReactiveShortfallCost (C.reactiveShortfallCost c p our) (rq .zones) reactive-shortfall-cost))
+        (bound-few (C.reactiveMismatchCost c p our) (mostMismatchCost N) (intervals sys) T short reactive-mismatch-cost)
+      where
+        A : ℤ
+        A = sumℤ (λ t. sumℤ (C.reactiveReservesCost c p our t) (upTo (devices sys))) (upTo (intervals sys))
 
-  real-size : natAbs (C.realSurplus c p our) ≤ mostRealSurplus
-  unfolding C.realSurplus
-  real-size = omega (
-    arith,
-    bound-sub (A -ℤ B -ℤ E -ℤ H -ℤ K -ℤ M) G _ _ (bound-sub (A -ℤ B -ℤ E -ℤ H -ℤ K) M _ _
-        (bound-sub (A -ℤ B -ℤ E -ℤ H) K _ _ (bound-sub (A -ℤ B -ℤ E) H _ _ (bound-sub (A -ℤ B) E _ _ (bound-sub A B _ _
-        (grid (devices sys) mostDevices mostBlockWorth (C.blockWorth c p our) (rq .devices) block-worth)
-        (grid (devices sys) mostDevices mostOnCosts (C.onCost c p our) (rq .devices) on-cost))
-        (grid (devices sys) mostDevices mostChanges (C.changeCost c p our) (rq .devices) change-cost))
-        (grid (devices sys) mostDevices mostReserves (C.reservesCost c p our) (rq .devices) reserves-cost))
-        (grid (zones sys) mostZones (mostShortfallCost mostDevices) (C.shortfallCost c p our) (rq .zones) shortfall-cost))
-        (bound-few (C.mismatchCost c p our) (mostMismatchCost mostDevices) (intervals sys) mostIntervals (rq .intervals) mismatch-cost))
-        (bound-mul (pos (c .prices .overrun)) (sumℤ (C.overruns c p our) (upTo (devices sys))) mostPrice (mostDevices * (mostWindows * mostOverrun mostIntervals)) (rc .overrun)
-        (bound-few (C.overruns c p our) (mostWindows * mostOverrun mostIntervals) (devices sys) mostDevices (rq .devices) overruns-sum)),
-  )
-    where
-      over : (ℕ → ℕ → ℤ) → ℤ
-      over f = sumℤ (λ t. sumℤ (f t) (upTo (devices sys))) (upTo (intervals sys))
+        B : ℤ
+        B = sumℤ (λ t. sumℤ (C.reactiveShortfallCost c p our t) (upTo (zones sys))) (upTo (intervals sys))
 
-      A : ℤ
-      A = over (C.blockWorth c p our)
+        E : ℤ
+        E = sumℤ (C.reactiveMismatchCost c p our) (upTo (intervals sys))
 
-      B : ℤ
-      B = over (C.onCost c p our)
+    real-size : natAbs (C.realSurplus c p our) ≤ mostRealSurplus N T
+    unfolding C.realSurplus
+    real-size = omega (
+      arith,
+      bound-sub (A -ℤ B -ℤ E -ℤ H -ℤ K -ℤ M) G _ _ (bound-sub (A -ℤ B -ℤ E -ℤ H -ℤ K) M _ _
+          (bound-sub (A -ℤ B -ℤ E -ℤ H) K _ _ (bound-sub (A -ℤ B -ℤ E) H _ _ (bound-sub (A -ℤ B) E _ _ (bound-sub A B _ _
+          (grid T short (devices sys) N mostBlockWorth (C.blockWorth c p our) few block-worth)
+          (grid T short (devices sys) N mostOnCosts (C.onCost c p our) few on-cost))
+          (grid T short (devices sys) N mostChanges (C.changeCost c p our) few change-cost))
+          (grid T short (devices sys) N mostReserves (C.reservesCost c p our) few reserves-cost))
+          (grid T short (zones sys) mostZones (mostShortfallCost N) (C.shortfallCost c p our) (rq .zones) shortfall-cost))
+          (bound-few (C.mismatchCost c p our) (mostMismatchCost N) (intervals sys) T short mismatch-cost))
+          (bound-mul (pos (c .prices .overrun)) (sumℤ (C.overruns c p our) (upTo (devices sys))) mostPrice (N * (mostWindows * mostOverrun T)) (rc .overrun)
+          (bound-few (C.overruns c p our) (mostWindows * mostOverrun T) (devices sys) N few overruns-sum)),
+    )
+      where
+        over : (ℕ → ℕ → ℤ) → ℤ
+        over f = sumℤ (λ t. sumℤ (f t) (upTo (devices sys))) (upTo (intervals sys))
 
-      E : ℤ
-      E = over (C.changeCost c p our)
+        A : ℤ
+        A = over (C.blockWorth c p our)
 
-      H : ℤ
-      H = over (C.reservesCost c p our)
+        B : ℤ
+        B = over (C.onCost c p our)
 
-      K : ℤ
-      K = sumℤ (λ t. sumℤ (C.shortfallCost c p our t) (upTo (zones sys))) (upTo (intervals sys))
+        E : ℤ
+        E = over (C.changeCost c p our)
 
-      M : ℤ
-      M = sumℤ (C.mismatchCost c p our) (upTo (intervals sys))
+        H : ℤ
+        H = over (C.reservesCost c p our)
 
-      G : ℤ
-      G = pos (c .prices .overrun) *ℤ sumℤ (C.overruns c p our) (upTo (devices sys))
+        K : ℤ
+        K = sumℤ (λ t. sumℤ (C.shortfallCost c p our t) (upTo (zones sys))) (upTo (intervals sys))
+
+        M : ℤ
+        M = sumℤ (C.mismatchCost c p our) (upTo (intervals sys))
+
+        G : ℤ
+        G = pos (c .prices .overrun) *ℤ sumℤ (C.overruns c p our) (upTo (devices sys))
+
+    -- one theorem over the counts: the small editions are its instance at 16 and 48
+    pub surplus-within : natAbs (ourSurplus c p) ≤ mostSurplus N T
+    unfolding ourSurplus C.surplusOf
+    surplus-within = bound-sub (C.realSurplus c p our) (C.reactiveCosts c p our) (mostRealSurplus N T) (mostReactiveCosts N T) real-size reactive-size
 
   pub surplus-size : natAbs (ourSurplus c p) < surplusLimit
-  unfolding ourSurplus C.surplusOf
-  surplus-size = omega (arith, bound-sub (C.realSurplus c p our) (C.reactiveCosts c p our) mostRealSurplus mostReactiveCosts real-size reactive-size)
+  surplus-size = omega (arith, surplus-within mostDevices mostIntervals (rq .devices) (rq .intervals), most-surplus)

@@ -2,6 +2,7 @@ pub mod Vectors
 pub mod Lists
 pub mod Reactive
 pub mod Editions
+pub mod Sizes
 pub mod Zones
 pub mod Links
 pub mod ReactiveRows

@@ -1,18 +1,20 @@
 //! The long run for people: random batches, a program's output against the reference's.
 //!
-//! `compare --program PATH [--seed S] [--first F] [--batches N | --plans M]
+//! `compare --program PATH [--host] [--seed S] [--first F] [--batches N | --plans M]
 //! [--plans-per-batch P] [--store FILE]`
 //!
-//! PATH reads packed batches on standard input and prints their output, both in the form of the
-//! corpus. The run stops at the first difference and stores the batch, packed, in FILE.
+//! PATH reads packed batches on standard input and prints their output, both as the corpus has
+//! them; with `--host`, as the host library judges. The run stops at the first difference and stores
+//! the batch, packed, in FILE.
 
 use std::fs;
 use std::process::ExitCode;
 
 use reference::arguments::Arguments;
 use reference::compare::{compare, output_of_program, Difference, Settings, Until};
+use reference::form::Form;
 
-const USAGE: &str = "usage: compare --program PATH [--seed S] [--first F] \
+const USAGE: &str = "usage: compare --program PATH [--host] [--seed S] [--first F] \
 [--batches N | --plans M] [--plans-per-batch P] [--store FILE]";
 
 fn main() -> ExitCode {
@@ -30,6 +32,7 @@ fn main() -> ExitCode {
 fn perform() -> Result<bool, String> {
     let mut arguments = Arguments::of_program();
     let program = arguments.value("--program");
+    let form = Form::host_if(arguments.flag("--host"));
     let seed = arguments.number("--seed").unwrap_or(1);
     let first_batch = arguments.number("--first").unwrap_or(0);
     let batches = arguments.number("--batches");
@@ -42,12 +45,9 @@ fn perform() -> Result<bool, String> {
         .finish()
         .map_err(|complaint| format!("{complaint}\n{USAGE}"))?;
     let program = program.ok_or(USAGE)?;
-    let until = match (batches, plans) {
-        (Some(_), Some(_)) => return Err(USAGE.to_string()),
-        (None, Some(plans)) => Until::Plans(plans),
-        (batches, None) => Until::Batches(batches.unwrap_or(1_000)),
-    };
+    let until = until(batches, plans)?;
     let settings = Settings {
+        form,
         seed,
         first_batch,
         until,
@@ -69,6 +69,15 @@ fn perform() -> Result<bool, String> {
             fs::write(&store, &difference.packed).map_err(|error| format!("{store}: {error}"))?;
             Ok(false)
         }
+    }
+}
+
+/// Where the run ends: by batches or by plans, not by both.
+fn until(batches: Option<u64>, plans: Option<u64>) -> Result<Until, String> {
+    match (batches, plans) {
+        (Some(_), Some(_)) => Err(USAGE.to_string()),
+        (None, Some(plans)) => Ok(Until::Plans(plans)),
+        (batches, None) => Ok(Until::Batches(batches.unwrap_or(1_000))),
     }
 }
 

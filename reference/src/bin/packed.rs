@@ -1,22 +1,32 @@
-//! Reads packed batches on standard input and prints their output, in the form of the corpus: what
-//! `compare` expects of a program, done by the reference.
+//! Reads packed batches on standard input and prints their output, as the corpus has it: what
+//! `compare` expects of a program, done by the reference. `packed [--host]`; with `--host`, in the
+//! host form.
 
 use std::io::{self, Read, Write};
 use std::process::ExitCode;
 
-use reference::arguments::exit_code;
+use reference::arguments::{exit_code, Arguments};
+use reference::form::Form;
 use reference::packed::{output, unpack};
+
+const USAGE: &str = "usage: packed [--host]";
 
 fn main() -> ExitCode {
     exit_code(perform())
 }
 
 fn perform() -> Result<(), String> {
+    let mut arguments = Arguments::of_program();
+    let form = Form::host_if(arguments.flag("--host"));
+    arguments
+        .finish()
+        .map_err(|complaint| format!("{complaint}\n{USAGE}"))?;
     let told = |error: io::Error| error.to_string();
     let mut packed = Vec::new();
     io::stdin().read_to_end(&mut packed).map_err(told)?;
     let batches = unpack(&packed)?;
     let mut out = io::stdout().lock();
-    out.write_all(output(&batches).as_bytes()).map_err(told)?;
+    out.write_all(output(form, &batches).as_bytes())
+        .map_err(told)?;
     out.flush().map_err(told)
 }

@@ -1,22 +1,28 @@
 //! Random batches for the long run: one case, many plans.
 
-use crate::batch::{append_length, append_message, LONGEST_MESSAGE};
+use crate::batch::{append_length, append_message, join};
 use crate::edition::Edition;
 use crate::encode::{encode_case, encode_plan};
+use crate::form::Form;
 use crate::generate::breaks::{
     metered_plan, nudged_plan, plan_breaking, plan_broken_severally, recommitted_plan,
 };
-use crate::generate::damage::{contradict, contradictions, damaged, give_too_many_states};
+use crate::generate::damage::{
+    any_above_range, contradict, contradictions, damaged, give_too_many_states, overgrow,
+    with_other_edition,
+};
 use crate::generate::plans::{good_plan, wild_plan};
 use crate::generate::sample::{random_sample, wild_case, Sample};
 use crate::generate::shape::Size;
 use crate::rng::Rng;
+use crate::worked_day::Day;
 
-/// A batch of one case and about `plans` plans.
-pub fn random_batch(rng: &mut Rng, size: Size, plans: usize) -> Vec<u8> {
+/// A batch of one case and about `plans` plans, for a form.
+pub fn random_batch(rng: &mut Rng, form: Form, size: Size, plans: usize) -> Vec<u8> {
     match rng.below(40) {
         0..=2 => refused_case_batch(rng, size),
         3 => wild_batch(rng, size, plans),
+        4 => overgrown_batch(rng),
         _ => {
             let sample = random_sample(rng, size);
             let mut batch = Vec::new();
@@ -25,15 +31,23 @@ pub fn random_batch(rng: &mut Rng, size: Size, plans: usize) -> Vec<u8> {
                 append_message(&mut batch, &random_plan_message(rng, &sample));
             }
             if rng.chance(5) {
-                spoil_framing(rng, &mut batch);
+                spoil_framing(rng, form, &mut batch);
             }
             batch
         }
     }
 }
 
-/// The size of a batch's case: mostly small or medium.
-pub fn random_size(rng: &mut Rng) -> Size {
+/// The size of a batch's case: in the batch form mostly small or medium, in the host form mostly
+/// more than the batch form takes.
+pub fn random_size(rng: &mut Rng, form: Form) -> Size {
+    if form == Form::HOST && rng.chance(65) {
+        return if rng.chance(8) {
+            Size::Greatest
+        } else {
+            Size::Beyond
+        };
+    }
     match rng.below(100) {
         0..=14 => Size::Tiny,
         15..=69 => Size::Small,
@@ -67,13 +81,19 @@ pub fn random_plan_message(rng: &mut Rng, sample: &Sample) -> Vec<u8> {
     encode_plan(edition, &plan).bytes
 }
 
-/// A plan, whole and good but for its edition: "A plan's edition equals its case's, else 2."
+/// A plan, whole and good but for its edition: "A plan's edition equals its case's, else 2." Where
+/// no other edition can say its counts, but for the number in its header.
 pub fn plan_of_another_edition(rng: &mut Rng, sample: &Sample) -> Vec<u8> {
+    let (devices, intervals) = (sample.case.devices.len(), sample.case.intervals());
     let others: Vec<Edition> = Edition::ALL
         .into_iter()
         .filter(|&edition| edition != sample.edition)
+        .filter(|edition| edition.largest().holds(devices, intervals))
         .collect();
     let plan = good_plan(rng, sample).without_reactive_power();
+    if others.is_empty() {
+        return with_other_edition(rng, &encode_plan(sample.edition, &plan));
+    }
     encode_plan(rng.pick(&others), &plan).bytes
 }
 
@@ -92,16 +112,30 @@ pub fn refused_case_batch(rng: &mut Rng, size: Size) -> Vec<u8> {
         give_too_many_states(rng, &mut sample.case);
     }
     let message = encode_case(sample.edition, &sample.case);
-    let mut batch = Vec::new();
     let bytes = if (contradicts || is_overfull) && rng.chance(70) {
         message.bytes
+    } else if rng.chance(10) {
+        let above = any_above_range(rng, &message, "most starts");
+        above.unwrap_or_else(|| damaged(rng, &message))
     } else {
         damaged(rng, &message)
     };
-    append_message(&mut batch, &bytes);
     let plan = good_plan(rng, &sample);
-    append_message(&mut batch, &encode_plan(sample.edition, &plan).bytes);
-    batch
+    join(&[bytes, encode_plan(sample.edition, &plan).bytes])
+}
+
+/// A batch of a day, otherwise small, with more devices or intervals than the batch form takes.
+pub fn overgrown_batch(rng: &mut Rng) -> Vec<u8> {
+    let size = rng.pick(&[Size::Tiny, Size::Small]);
+    let sample = random_sample(rng, size);
+    let mut day = Day {
+        edition: sample.edition,
+        plan: good_plan(rng, &sample),
+        case: sample.case,
+    };
+    overgrow(rng, &mut day);
+    let (case, plan) = day.messages();
+    join(&[case, plan])
 }
 
 fn wild_batch(rng: &mut Rng, size: Size, plans: usize) -> Vec<u8> {
@@ -116,11 +150,12 @@ fn wild_batch(rng: &mut Rng, size: Size, plans: usize) -> Vec<u8> {
 }
 
 /// Ends a batch with a framing refusal of one kind or another.
-pub fn spoil_framing(rng: &mut Rng, batch: &mut Vec<u8>) {
+pub fn spoil_framing(rng: &mut Rng, form: Form, batch: &mut Vec<u8>) {
+    let longest = form.longest_message;
     match rng.below(4) {
         0 => batch.extend(vec![0; 1 + rng.below(2)]),
-        1 => append_length(batch, rng.pick(&[LONGEST_MESSAGE + 1, (1 << 24) - 1])),
-        2 => append_length(batch, rng.pick(&[1, 300, LONGEST_MESSAGE])),
+        1 => append_length(batch, rng.pick(&[longest + 1, (1 << 24) - 1])),
+        2 => append_length(batch, rng.pick(&[1, 300, longest])),
         _ => {
             let length = batch.len();
             batch.truncate(length - rng.below(length.min(20)));

@@ -2,9 +2,11 @@
 
 use crate::bits::{overwrite, HIGHEST_POWER};
 use crate::case::{Block, Case, StartupState, Terms, MOST_STATES};
-use crate::edition::Edition;
+use crate::edition::{CountField, Edition};
 use crate::encode::{Class, Encoded, Field};
+use crate::form::Largest;
 use crate::rng::Rng;
+use crate::worked_day::Day;
 
 /// Cuts a message so that it ends before or inside `field`, the fields before it being whole;
 /// none if no byte ends there.
@@ -130,10 +132,12 @@ const CONTRADICTIONS: [Contradiction; 8] = [
 
 /// The kinds of contradiction that a case of an edition can hold.
 pub fn contradictions(edition: Edition) -> &'static [Contradiction] {
-    match edition {
-        Edition::One => &CONTRADICTIONS[..6],
-        Edition::Two => &CONTRADICTIONS[..7],
-        Edition::Three => &CONTRADICTIONS,
+    if edition.has_floors() {
+        &CONTRADICTIONS
+    } else if edition.has_reactive_power() {
+        &CONTRADICTIONS[..7]
+    } else {
+        &CONTRADICTIONS[..6]
     }
 }
 
@@ -192,6 +196,70 @@ pub fn give_too_many_states(rng: &mut Rng, case: &mut Case) {
     let least = MOST_STATES + 1;
     let count = rng.pick(&[least, least, MOST_STATES_SAID]);
     give_states(case, j, count);
+}
+
+/// Gives a day so many devices: those that it has, over and over.
+pub fn give_devices(day: &mut Day, count: usize) {
+    over_and_over(&mut day.case.devices, count);
+    for settings in &mut day.plan.intervals {
+        over_and_over(settings, count);
+    }
+}
+
+/// Gives a day so many intervals: those that it has, over and over.
+pub fn give_intervals(day: &mut Day, count: usize) {
+    over_and_over(&mut day.case.durations, count);
+    for zone in &mut day.case.zones {
+        over_and_over(&mut zone.minima, count);
+    }
+    for device in &mut day.case.devices {
+        over_and_over(&mut device.terms, count);
+    }
+    over_and_over(&mut day.plan.intervals, count);
+}
+
+fn over_and_over<T: Clone>(items: &mut Vec<T>, count: usize) {
+    *items = items.iter().cycle().take(count).cloned().collect();
+}
+
+/// Gives a day more devices or more intervals, or both, than editions 1 to 3 and the batch form
+/// take, as many as its counts' bits can say or fewer.
+pub fn overgrow(rng: &mut Rng, day: &mut Day) {
+    let (more_devices, more_intervals) = match rng.below(5) {
+        0 | 1 => (true, false),
+        2 | 3 => (false, true),
+        _ => (true, true),
+    };
+    if more_devices {
+        let count = count_above(rng, day.edition.devices(), Largest::SMALL.devices);
+        give_devices(day, count);
+    }
+    if more_intervals {
+        let count = count_above(rng, day.edition.intervals(), Largest::SMALL.intervals);
+        give_intervals(day, count);
+    }
+}
+
+/// A count above `small`, at the edges of what the edition takes and what its bits can say, or any.
+fn count_above(rng: &mut Rng, field: CountField, small: usize) -> usize {
+    let greatest = (1 << field.width) - 1;
+    let any = rng.from_to(small as i128 + 1, greatest as i128) as usize;
+    let edges = [small + 1, field.most, field.most + 1, greatest, any, any];
+    rng.pick(&edges).max(small + 1)
+}
+
+/// Puts a field of a name, drawn by chance, above its range by any value that its bits can say;
+/// none where the message has no such field.
+pub fn any_above_range(rng: &mut Rng, message: &Encoded, name: &str) -> Option<Vec<u8>> {
+    let named = message.fields.iter().filter(|field| field.name == name);
+    let fields: Vec<&Field> = named.collect();
+    if fields.is_empty() {
+        return None;
+    }
+    let field = rng.pick(&fields);
+    let (_, greatest) = field.sayable();
+    let value = rng.from_to(field.high + 1, greatest);
+    Some(with_value(message, field, value))
 }
 
 /// The latest minute that a window can say.

@@ -10,10 +10,11 @@ use crate::clock::Span;
 use crate::edition::Edition;
 use crate::energy::EnergyRule;
 use crate::forced::{commit, Commitment};
+use crate::form::Largest;
 use crate::generate::floors::{lower_floors_to_pmin, set_floors};
 use crate::generate::reactive::{random_grid, set_reactive_power, snap_to_grid};
 use crate::generate::schedule::{schedule, Schedule, Waived};
-use crate::generate::shape::{Shape, Size};
+use crate::generate::shape::Shape;
 use crate::ours::downtime;
 use crate::rng::Rng;
 
@@ -67,6 +68,7 @@ pub fn random_device(
     set_minima(rng, spans, &commitment, &mut device);
     set_statuses(rng, &commitment, &mut device);
     set_lists(rng, shape, spans, &commitment, &mut device, scale);
+    raise_most_starts(rng, edition, &mut device);
     if edition.has_reactive_power() {
         let schedule = schedule_of(&device, spans, &commitment.on);
         set_reactive_power(rng, &mut device, &schedule, scale, grid);
@@ -182,7 +184,7 @@ fn set_powers(rng: &mut Rng, shape: &Shape, device: &mut Device, scale: Scale) {
         } else {
             1 + rng.below(block_count)
         };
-        let idles = terms.pmin == 0 && shape.size != Size::Full && rng.chance(5);
+        let idles = terms.pmin == 0 && !shape.is_full() && rng.chance(5);
         terms.blocks = if idles {
             Vec::new()
         } else {
@@ -470,6 +472,20 @@ fn in_order(a: i128, b: i128) -> (i128, i128) {
     (a.min(b), a.max(b))
 }
 
+/// The most starts that every edition can allow in a window.
+const SMALL_MOST_STARTS: i128 = Largest::SMALL.intervals as i128;
+
+/// From edition 4 on, lets one window in three allow more starts than older editions can say.
+fn raise_most_starts(rng: &mut Rng, edition: Edition, device: &mut Device) {
+    let greatest = Largest::LARGE.intervals as i128;
+    for window in &mut device.start_windows {
+        if edition.has_large_counts() && rng.chance(33) {
+            let any = rng.from_to(SMALL_MOST_STARTS + 1, greatest);
+            window.most_starts = rng.pick(&[SMALL_MOST_STARTS + 1, any, greatest]);
+        }
+    }
+}
+
 /// A window over starts that allows what the commitment does, often exactly.
 fn random_start_window(rng: &mut Rng, spans: &[Span], commitment: &Commitment) -> StartWindow {
     let last_end = spans[spans.len() - 1].end;
@@ -479,7 +495,7 @@ fn random_start_window(rng: &mut Rng, spans: &[Span], commitment: &Commitment) -
     let starts = (0..spans.len())
         .filter(|&t| commitment.started[t] && start <= spans[t].start && spans[t].start < end)
         .count() as i128;
-    let most_starts = (starts + rng.pick(&[0, 0, 1, 40])).min(48);
+    let most_starts = (starts + rng.pick(&[0, 0, 1, 40])).min(SMALL_MOST_STARTS);
     StartWindow {
         start,
         end,

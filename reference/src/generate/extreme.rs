@@ -3,10 +3,11 @@
 
 use crate::case::{
     Block, Case, Device, EnergyKind, EnergyWindow, Link, LinkLine, Ramps, ReactiveReserves,
-    Reserves, Side, StartWindow, StartupState, Status, Terms, Zone, MOST_DEVICES, MOST_INTERVALS,
-    MOST_ITEMS, MOST_SHORTFALLS, MOST_STATES, MOST_ZONES,
+    Reserves, Side, StartWindow, StartupState, Status, Terms, Zone, MOST_ITEMS, MOST_SHORTFALLS,
+    MOST_STATES, MOST_ZONES,
 };
 use crate::edition::Edition;
+use crate::form::Largest;
 use crate::plan::{Plan, Setting};
 use crate::worked_day::Day;
 
@@ -14,11 +15,11 @@ const HIGHEST_COST: i128 = 1_000_000_000;
 const HIGHEST_PRICE: i128 = 10_000;
 const HIGHEST_POWER: i128 = 100_000;
 
-/// Every price and every need as great as it can be, no reserve anywhere: 16 consuming devices that
-/// pay for their power, in all four zones, each with four energy minima over nothing. From edition
-/// 2 on also every reactive need, and 100,000 kvar of each device that nothing produces; in edition
-/// 3 all power in the last block, whose floor asks for it.
-pub fn very_low_surplus_day(edition: Edition) -> Day {
+/// Every price and every need as great as it can be, no reserve anywhere: consuming devices that pay
+/// for their power, in all four zones, each with four energy minima over nothing. From edition 2 on
+/// also every reactive need, and 100,000 kvar of each device that nothing produces; from edition 3
+/// on all power in the last block, whose floor asks for it.
+pub fn very_low_surplus_day(edition: Edition, largest: Largest) -> Day {
     let unmet = EnergyWindow {
         kind: EnergyKind::Minimum,
         start: 0,
@@ -31,25 +32,24 @@ pub fn very_low_surplus_day(edition: Edition) -> Day {
         start_cost: HIGHEST_COST,
         stop_cost: HIGHEST_COST,
         energy_windows: vec![unmet; MOST_ITEMS],
-        ..device(Side::Consuming, -HIGHEST_PRICE, HIGHEST_COST)
+        ..device(largest, Side::Consuming, -HIGHEST_PRICE, HIGHEST_COST)
     };
     let zone = Zone {
         shares: [1_000; 4],
         shortfall_prices: [100, 100, 100, 100, 100, 100, 1, 1],
-        minima: vec![[HIGHEST_MINIMUM, HIGHEST_MINIMUM, 0, 0]; MOST_INTERVALS],
+        minima: vec![[HIGHEST_MINIMUM, HIGHEST_MINIMUM, 0, 0]; largest.intervals],
     };
-    let day = full_day(Case {
+    let case = Case {
         mismatch_price: HIGHEST_PRICE,
         overrun_price: HIGHEST_PRICE,
-        durations: vec![360; MOST_INTERVALS],
+        durations: vec![LONGEST; largest.intervals],
         zones: vec![zone; MOST_ZONES],
-        devices: vec![device; MOST_DEVICES],
-    });
-    let mut day = if edition.has_reactive_power() {
-        with_greatest_reactive_needs(edition, day)
-    } else {
-        day
+        devices: vec![device; largest.devices],
     };
+    let mut day = full_day(edition, case);
+    if edition.has_reactive_power() {
+        set_greatest_reactive_needs(&mut day);
+    }
     if edition.has_floors() {
         set_greatest_floors(&mut day.case);
     }
@@ -66,9 +66,8 @@ fn set_greatest_floors(case: &mut Case) {
 
 const HIGHEST_MINIMUM: i128 = 6_400_000;
 
-/// A day with every reactive figure at its greatest, and no reactive reserve.
-fn with_greatest_reactive_needs(edition: Edition, day: Day) -> Day {
-    let mut day = Day { edition, ..day };
+/// Every reactive figure at its greatest, and no reactive reserve.
+fn set_greatest_reactive_needs(day: &mut Day) {
     for zone in &mut day.case.zones {
         zone.shortfall_prices = [100; MOST_SHORTFALLS];
         zone.minima.fill([HIGHEST_MINIMUM; 4]);
@@ -77,7 +76,6 @@ fn with_greatest_reactive_needs(edition: Edition, day: Day) -> Day {
     for setting in day.plan.intervals.iter_mut().flatten() {
         setting.reactive_power = HIGHEST_POWER;
     }
-    day
 }
 
 /// Limits, prices and lines at the ends of their ranges.
@@ -107,10 +105,7 @@ const HIGHEST_SLOPE: i128 = 10_000;
 /// The very high surplus day in edition 2 with as much of both reactive reserves as a device can
 /// hold, at the highest price, and no zone that needs them.
 pub fn costly_reactive_reserves_day() -> Day {
-    let mut day = Day {
-        edition: Edition::Two,
-        ..very_high_surplus_day()
-    };
+    let mut day = very_high_surplus_day(Edition::Two, Largest::SMALL);
     set_greatest_reactive_terms(&mut day.case);
     for setting in day.plan.intervals.iter_mut().flatten() {
         setting.reactive_reserves = ReactiveReserves::from_order([HIGHEST_POWER; 2]);
@@ -120,43 +115,42 @@ pub fn costly_reactive_reserves_day() -> Day {
 
 /// As many producing devices, paid for their power, as consuming ones at the highest price; no
 /// zones; each start in a state of the lowest cost.
-pub fn very_high_surplus_day() -> Day {
-    let producing = device(Side::Producing, -HIGHEST_PRICE, -HIGHEST_COST);
-    let consuming = device(Side::Consuming, HIGHEST_PRICE, -HIGHEST_COST);
-    full_day(Case {
+pub fn very_high_surplus_day(edition: Edition, largest: Largest) -> Day {
+    let producing = device(largest, Side::Producing, -HIGHEST_PRICE, -HIGHEST_COST);
+    let consuming = device(largest, Side::Consuming, HIGHEST_PRICE, -HIGHEST_COST);
+    let case = Case {
         mismatch_price: 1,
         overrun_price: 1,
-        durations: vec![360; MOST_INTERVALS],
+        durations: vec![LONGEST; largest.intervals],
         zones: Vec::new(),
         devices: [
-            vec![producing; MOST_DEVICES / 2],
-            vec![consuming; MOST_DEVICES / 2],
+            vec![producing; largest.devices / 2],
+            vec![consuming; largest.devices / 2],
         ]
         .concat(),
-    })
+    };
+    full_day(edition, case)
 }
 
-/// The most breaches that a plan can have: 16 devices that are switched in every interval, so that
-/// each breaks 15 rules in each of 48 intervals, rule 2 in the 24 in which it is on, rule 3 or 4 in
-/// all but the first, and rule 20 in four windows. From edition 2 on four rules more in each
-/// interval: 21 to 24, or, of a device whose link is an equality, 21, 22, 25 and 26.
+/// The most breaches that a plan can have: devices that are switched in every interval, so that each
+/// breaks 15 rules in each interval, rule 2 in every other, in which it is on, rule 3 or 4 in all but
+/// the first, and rule 20 in four windows. From edition 2 on four rules more in each interval: 21 to
+/// 24, or, of a device whose link is an equality, 21, 22, 25 and 26.
 ///
 /// No plan has more. Rules 5 and 6 are never broken at one place, nor rules 3 and 4; each interval
 /// more away from the initial state breaks rule 2 once more and is two switches less. No link is of
 /// two kinds.
-pub fn most_breaches_day(edition: Edition) -> Day {
-    let day = most_breaches_without_reactive_power();
+pub fn most_breaches_day(edition: Edition, largest: Largest) -> Day {
+    let mut day = most_breaches_without_reactive_power(edition, largest);
     if edition.has_reactive_power() {
-        with_most_reactive_breaches(edition, day)
-    } else {
-        day
+        add_most_reactive_breaches(&mut day);
     }
+    day
 }
 
 /// Limits and lines of 0, and both reserves as great as can be; every fourth device, two of either
 /// side, with an equality that its power is far from.
-fn with_most_reactive_breaches(edition: Edition, day: Day) -> Day {
-    let mut day = Day { edition, ..day };
+fn add_most_reactive_breaches(day: &mut Day) {
     let line = |slope| LinkLine { offset: 0, slope };
     for (number, device) in day.case.devices.iter_mut().enumerate() {
         device.link = match number / 2 % 4 {
@@ -170,10 +164,9 @@ fn with_most_reactive_breaches(edition: Edition, day: Day) -> Day {
     for setting in day.plan.intervals.iter_mut().flatten() {
         setting.reactive_reserves = ReactiveReserves::from_order([HIGHEST_POWER; 2]);
     }
-    day
 }
 
-fn most_breaches_without_reactive_power() -> Day {
+fn most_breaches_without_reactive_power(edition: Edition, largest: Largest) -> Day {
     const POWER_ON: i128 = 50_000;
     const POWER_OFF: i128 = 25_000;
     let is_on = |t: usize| t.is_multiple_of(2);
@@ -189,33 +182,34 @@ fn most_breaches_without_reactive_power() -> Day {
     };
     let device = |number: usize| {
         let side = [Side::Producing, Side::Consuming][number % 2];
-        never_allowed(side, (0..MOST_INTERVALS).map(terms).collect())
+        never_allowed(side, (0..largest.intervals).map(terms).collect())
     };
     Day {
-        edition: Edition::One,
+        edition,
         case: Case {
             mismatch_price: 1,
             overrun_price: 1,
-            durations: vec![SHORTEST; MOST_INTERVALS],
+            durations: vec![SHORTEST; largest.intervals],
             zones: Vec::new(),
-            devices: (0..MOST_DEVICES).map(device).collect(),
+            devices: (0..largest.devices).map(device).collect(),
         },
         plan: Plan {
-            intervals: (0..MOST_INTERVALS)
-                .map(|t| vec![setting(t); MOST_DEVICES])
+            intervals: (0..largest.intervals)
+                .map(|t| vec![setting(t); largest.devices])
                 .collect(),
         },
     }
 }
 
-/// The shortest interval, in minutes.
+/// The shortest and the longest interval, in minutes.
 const SHORTEST: i128 = 2;
+const LONGEST: i128 = 360;
 
 /// Off, with the longest minima, the slowest ramps, no reserve limits and no start allowed.
 fn never_allowed(side: Side, terms: Vec<Terms>) -> Device {
     let no_start = StartWindow {
         start: 0,
-        end: SHORTEST * MOST_INTERVALS as i128,
+        end: SHORTEST * terms.len() as i128,
         most_starts: 0,
     };
     Device {
@@ -234,7 +228,7 @@ fn never_allowed(side: Side, terms: Vec<Terms>) -> Device {
 }
 
 /// Initially off, without costs; every block at one price, every state at one cost.
-fn device(side: Side, price: i128, state_cost: i128) -> Device {
+fn device(largest: Largest, side: Side, price: i128, state_cost: i128) -> Device {
     let block = Block::plain(HIGHEST_POWER, price);
     let terms = Terms {
         status: Status::On,
@@ -250,7 +244,7 @@ fn device(side: Side, price: i128, state_cost: i128) -> Device {
     };
     let window = StartWindow {
         start: 0,
-        end: 17_280,
+        end: LONGEST * largest.intervals as i128,
         most_starts: 1,
     };
     Device {
@@ -267,22 +261,23 @@ fn device(side: Side, price: i128, state_cost: i128) -> Device {
         reserve_limits: Reserves::from_order([HIGHEST_POWER; 8]),
         startup_states: vec![state; MOST_STATES],
         start_windows: vec![window; MOST_ITEMS],
-        ..Device::plain(side, vec![terms; MOST_INTERVALS])
+        ..Device::plain(side, vec![terms; largest.intervals])
     }
 }
 
 /// Every device on at the highest power all day, without reserves.
-fn full_day(case: Case) -> Day {
+fn full_day(edition: Edition, case: Case) -> Day {
     let setting = Setting {
         on: true,
         online_power: HIGHEST_POWER,
         ..Setting::default()
     };
+    let settings = vec![setting; case.devices.len()];
     Day {
-        edition: Edition::One,
-        case,
+        edition,
         plan: Plan {
-            intervals: vec![vec![setting; MOST_DEVICES]; MOST_INTERVALS],
+            intervals: vec![settings; case.intervals()],
         },
+        case,
     }
 }

@@ -7,7 +7,7 @@ use crate::case::{
 use crate::clock::{spans, Span};
 use crate::edition::Edition;
 use crate::forced::{commit, Commitment};
-use crate::generate::device::{random_commitment, random_device, Scale};
+use crate::generate::device::{random_commitment, random_device, Built, Scale};
 use crate::generate::floors::scramble_floors;
 use crate::generate::reactive::{can_be_kept, scramble_reactive_power};
 use crate::generate::schedule::{schedule, Schedule, Waived};
@@ -39,9 +39,9 @@ pub struct Spoilt {
     pub schedule: Schedule,
 }
 
-/// A case of any edition whose devices can each follow some schedule.
+/// A case of any edition that can say its size, whose devices can each follow some schedule.
 pub fn random_sample(rng: &mut Rng, size: Size) -> Sample {
-    let edition = rng.pick(&Edition::ALL);
+    let edition = rng.pick(&size.editions());
     sample_in(rng, edition, size)
 }
 
@@ -67,18 +67,28 @@ pub fn sample_of(rng: &mut Rng, edition: Edition, shape: &Shape, scale: Scale) -
     };
     Sample {
         edition,
-        ..sample_with(rng, content, shape, scale)
+        ..sample_of_devices(rng, content, shape, scale, |_| true)
     }
 }
 
-/// A case with the content of an edition.
-fn sample_with(rng: &mut Rng, edition: Edition, shape: &Shape, scale: Scale) -> Sample {
+/// A case with the content of an edition, of devices that are drawn until each is wanted.
+pub fn sample_of_devices(
+    rng: &mut Rng,
+    edition: Edition,
+    shape: &Shape,
+    scale: Scale,
+    is_wanted: impl Fn(&Built) -> bool,
+) -> Sample {
     let durations = random_durations(rng, shape.intervals);
     let spans = spans(&durations);
     let mut devices = Vec::new();
     let mut pools = Vec::new();
     for _ in 0..shape.devices {
-        let built = random_device(rng, edition, shape, &spans, scale);
+        let mut draw = || random_device(rng, edition, shape, &spans, scale);
+        let mut built = draw();
+        while !is_wanted(&built) {
+            built = draw();
+        }
         pools.push(find_schedules(rng, &built.device, &spans, &built.on));
         devices.push(built.device);
     }
@@ -86,17 +96,11 @@ fn sample_with(rng: &mut Rng, edition: Edition, shape: &Shape, scale: Scale) -> 
     let zones = (0..shape.zones)
         .map(|_| random_zone(rng, edition, shape.intervals, scale))
         .collect();
-    let price = |rng: &mut Rng| match scale {
-        Scale::Calm => 1,
-        Scale::Low => rng.pick(&[1, 2, 7, 1_000]),
-        Scale::Wide => rng.from_to(1, 10_000),
-        Scale::Extreme => 10_000,
-    };
     Sample {
         edition,
         case: Case {
-            mismatch_price: price(rng),
-            overrun_price: price(rng),
+            mismatch_price: slack_price(rng, scale),
+            overrun_price: slack_price(rng, scale),
             durations,
             zones,
             devices,
@@ -146,6 +150,16 @@ fn random_zone(rng: &mut Rng, edition: Edition, intervals: usize, scale: Scale) 
         shares,
         shortfall_prices,
         minima,
+    }
+}
+
+/// A price of mismatch or overrun.
+fn slack_price(rng: &mut Rng, scale: Scale) -> i128 {
+    match scale {
+        Scale::Calm => 1,
+        Scale::Low => rng.pick(&[1, 2, 7, 1_000]),
+        Scale::Wide => rng.from_to(1, 10_000),
+        Scale::Extreme => 10_000,
     }
 }
 
@@ -289,7 +303,7 @@ fn propose(rng: &mut Rng, base: &[bool]) -> Vec<bool> {
 
 /// A case of figures drawn without regard to one another; few plans of it keep the rules.
 pub fn wild_case(rng: &mut Rng, size: Size) -> (Edition, Case) {
-    let edition = rng.pick(&Edition::ALL);
+    let edition = rng.pick(&size.editions());
     let shape = Shape::random(rng, size);
     let mut case = sample_of(rng, edition, &shape, Scale::Wide).case;
     for device in &mut case.devices {

@@ -3,10 +3,9 @@
 //! Unless a row says otherwise: one device, on for one interval of 10 minutes, mismatch price 1.
 
 use super::reactive::with_fields;
-use super::{crossing, draft, slow, Draft, Row};
-use crate::case::{read_case, Block, Side, StartWindow};
+use super::{crossing, draft, mixed, rewritten, slow, told_row, Draft, Row};
+use crate::case::{Block, Side, StartWindow};
 use crate::edition::Edition;
-use crate::plan::read_plan;
 use crate::worked_day::{floor_days, reactive_days};
 
 /// Every row of edition 3; those whose lists are worked out come last.
@@ -27,7 +26,7 @@ pub(super) fn rows() -> Vec<Row> {
 fn worked_rows() -> Vec<Row> {
     floor_days()
         .iter()
-        .map(|(about, day)| Row::new(about, day.edition, &day.case, &day.plan))
+        .map(|(about, day)| told_row(about, day))
         .collect()
 }
 
@@ -199,10 +198,6 @@ fn rows_of_two_editions() -> Vec<Row> {
         edition: Edition::Two,
         ..neutral.clone()
     };
-    let mixed = |about: &str, case: &Draft, plan: &Draft| Row {
-        plan: plan.row(about).plan,
-        ..case.row(about)
-    };
     let floored = running(Side::Producing, &[[100, 20, 7]], 20);
     vec![
         mixed(
@@ -225,19 +220,14 @@ fn rows_of_two_editions() -> Vec<Row> {
 fn neutral_rows() -> Vec<Row> {
     let zones = super::zone_rows();
     let others = super::trajectory_rows();
-    let worked: Vec<Row> = reactive_days()
+    let days = reactive_days();
+    let worked: Vec<Row> = days
         .iter()
-        .map(|(about, day)| Row::new(about, day.edition, &day.case, &day.plan))
+        .map(|(about, day)| told_row(about, day))
         .collect();
     [&zones[2], &others[8], &worked[4], &worked[6]]
-        .into_iter()
-        .map(|row| {
-            let (edition, case) = read_case(&row.case).expect("a day of an older edition");
-            let plan = read_plan(edition, &case, &row.plan).expect("its plan");
-            let about = format!("neutral figures in edition 3: {}", row.about);
-            Row::new(&about, Edition::Three, &case, &plan)
-        })
-        .collect()
+        .map(|row| rewritten(row, Edition::Three))
+        .into()
 }
 
 /// Lists: rule 19 below floors once at a place, in its turn; p is the whole power.

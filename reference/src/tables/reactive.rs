@@ -2,11 +2,10 @@
 //!
 //! Unless a row says otherwise: one device, on for one interval of 10 minutes, mismatch price 1.
 
-use super::{crossing, draft, slow, two_starts, Draft, Row};
+use super::{crossing, draft, mixed, rewritten, slow, told_row, two_starts, Draft, Row};
 use crate::bits::overwrite;
-use crate::case::{read_case, Link, LinkLine, ReactiveReserves, Side, StartWindow, Zone};
+use crate::case::{Link, LinkLine, ReactiveReserves, Side, StartWindow, Zone};
 use crate::edition::Edition;
-use crate::plan::read_plan;
 use crate::worked_day::reactive_days;
 
 /// Every row of edition 2; those whose lists are worked out come last.
@@ -33,7 +32,7 @@ pub(super) fn rows() -> Vec<Row> {
 fn worked_rows() -> Vec<Row> {
     reactive_days()
         .iter()
-        .map(|(about, day)| Row::new(about, day.edition, &day.case, &day.plan))
+        .map(|(about, day)| told_row(about, day))
         .collect()
 }
 
@@ -402,10 +401,6 @@ fn refused_plan_rows() -> Vec<Row> {
         edition: Edition::One,
         ..neutral.clone()
     };
-    let mixed = |about: &str, case: &Draft, plan: &Draft| Row {
-        plan: plan.row(about).plan,
-        ..case.row(about)
-    };
     vec![
         with("plan's q 100,001", (173, 18, 100_001)),
         with("plan's q −131,072", (173, 18, -131_072)),
@@ -431,14 +426,8 @@ fn neutral_rows() -> Vec<Row> {
     let zones = super::zone_rows();
     let others = super::trajectory_rows();
     [&zones[2], &zones[3], &others[8]]
-        .into_iter()
-        .map(|row| {
-            let (edition, case) = read_case(&row.case).expect("a day of edition 1");
-            let plan = read_plan(edition, &case, &row.plan).expect("its plan");
-            let about = format!("neutral figures in edition 2: {}", row.about);
-            Row::new(&about, Edition::Two, &case, &plan)
-        })
-        .collect()
+        .map(|row| rewritten(row, Edition::Two))
+        .into()
 }
 
 /// Lists: rules 21 to 26 behind 19 of their place, before the next place and before rule 20.

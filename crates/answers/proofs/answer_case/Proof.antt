@@ -7,6 +7,12 @@ use Rattle.answers.proofs.answer_case.Tie as tie
 message-at-requires : tie.Need-message-at-requires
 message-at-requires c κs = search needs
 
+cast-read-case : tie.Need-cast-read-case
+cast-read-case c = search needs
+
+cast-read-case-2 : tie.Need-cast-read-case-2
+cast-read-case-2 c = search needs
+
 read-case-requires : tie.Need-read-case-requires
 read-case-requires c κs = search needs
 
@@ -38,4 +44,5 @@ returns c =
     case-answered _ _ _ _ _ _ (start .message-at .ensures) (read .read-case .ensures) (c .before .before .case-line .ensures)
 
 pub answer-case-spec : {M : Type 1} → statement M
-answer-case-spec = tie.close (tie.spec message-at-requires read-case-requires case-line-requires same-length same-length-2 same-length-3 same-length-4 same-length-5 same-length-6 returns)
+answer-case-spec = tie.close (tie.spec message-at-requires cast-read-case cast-read-case-2 read-case-requires case-line-requires
+    same-length same-length-2 same-length-3 same-length-4 same-length-5 same-length-6 returns)

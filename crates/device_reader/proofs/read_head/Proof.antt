@@ -44,8 +44,9 @@ returns-2 c =
     let read-sides : _ = c .before .before .before .before .before .before .before .read-sides in
     let went : _ = c .before .before .before .before .before .went in
     let read-figures : _ = c .before .before .before .read-figures in
+    let a : _ = c .before .before .before .before .before .before .before .before .before .args in
     head-none _ _ _ _ _ _ (c .before .enum-told2 .given .1) (c .stopped2 .ensures)
-    (then-late (sides-natural _) _ _ _ (rest-natural _ _) (went-good _ (read-sides .ensures) (went .given .1))
+    (then-late (sides-natural _) _ _ _ (rest-natural (a .edition) (a .last)) (went-good _ (read-sides .ensures) (went .given .1))
     (then-off figures-natural _ _ _ (went-bad _ (read-figures .ensures) (c .before .enum-told2 .given .1))))
 
 read-items-requires : tie.Need-read-items-requires
@@ -71,8 +72,8 @@ returns-3 c =
     let read-items : _ = c .before .before .before .read-items in
     let a : _ = begin .args in
     head-none _ _ _ _ _ _ (c .before .enum-told3 .given .1) (c .stopped3 .ensures)
-    (then-late (sides-natural _) _ _ _ (rest-natural _ _) (went-good _ (read-sides .ensures) (went .given .1))
-    (then-late figures-natural _ _ _ (lists-natural _ _) (went-good _ (read-figures .ensures) (went2 .given .1))
+    (then-late (sides-natural _) _ _ _ (rest-natural (a .edition) (a .last)) (went-good _ (read-sides .ensures) (went .given .1))
+    (then-late figures-natural _ _ _ (lists-natural (a .edition) (a .last)) (went-good _ (read-figures .ensures) (went2 .given .1))
     (then-off (items-natural (a .edition) (a .last) States) _ _ _ (went-bad _ (read-items .ensures .is) (c .before .enum-told3 .given .1)))))
 
 read-items-requires-2 : tie.Need-read-items-requires-2
@@ -100,10 +101,10 @@ returns-4 c =
     let read-items2 : _ = c .before .before .before .read-items2 in
     let a : _ = begin .args in
     head-none _ _ _ _ _ _ (c .before .enum-told4 .given .1) (c .stopped4 .ensures)
-    (then-late (sides-natural _) _ _ _ (rest-natural _ _) (went-good _ (read-sides .ensures) (went .given .1))
-    (then-late figures-natural _ _ _ (lists-natural _ _) (went-good _ (read-figures .ensures) (went2 .given .1))
-    (then-late (items-natural (a .edition) (a .last) States) _ _ _ (windows-natural _ _) (went-good _ (read-items .ensures .is) (went3 .given .1))
-    (then-off (items-natural _ _ Starts) _ _ _ (went-bad _ (read-items2 .ensures .is) (c .before .enum-told4 .given .1))))))
+    (then-late (sides-natural _) _ _ _ (rest-natural (a .edition) (a .last)) (went-good _ (read-sides .ensures) (went .given .1))
+    (then-late figures-natural _ _ _ (lists-natural (a .edition) (a .last)) (went-good _ (read-figures .ensures) (went2 .given .1))
+    (then-late (items-natural (a .edition) (a .last) States) _ _ _ (windows-natural (a .edition) (a .last)) (went-good _ (read-items .ensures .is) (went3 .given .1))
+    (then-off (items-natural (a .edition) (a .last) Starts) _ _ _ (went-bad _ (read-items2 .ensures .is) (c .before .enum-told4 .given .1))))))
 
 read-items-requires-3 : tie.Need-read-items-requires-3
 read-items-requires-3 c κs = search needs
@@ -126,10 +127,12 @@ returns-5 c =
     let at-sides : _ = at-figures .before .before .before .before in
     let a : _ = at-sides .before .before .args in
     head-none _ _ _ _ _ _ (c .before .enum-told5 .given .1) (c .stopped5 .ensures)
-    (then-late (sides-natural _) _ _ _ (rest-natural _ _) (went-good _ (at-sides .read-sides .ensures) (at-figures .before .before .went .given .1))
-    (then-late figures-natural _ _ _ (lists-natural _ _) (went-good _ (at-figures .read-figures .ensures) (at-states .before .before .went2 .given .1))
-    (then-late (items-natural (a .edition) (a .last) States) _ _ _ (windows-natural _ _) (went-good _ (at-states .read-items .ensures .is) (at-starts .before .before .went3 .given .1))
-    (then-late (items-natural _ _ Starts) _ _ _ (energies-natural (a .edition) (a .last)) (went-good _ (at-starts .read-items2 .ensures .is) (at-energies .before .before .went4 .given .1))
+    (then-late (sides-natural _) _ _ _ (rest-natural (a .edition) (a .last)) (went-good _ (at-sides .read-sides .ensures) (at-figures .before .before .went .given .1))
+    (then-late figures-natural _ _ _ (lists-natural (a .edition) (a .last)) (went-good _ (at-figures .read-figures .ensures) (at-states .before .before .went2 .given .1))
+    (then-late (items-natural (a .edition) (a .last) States) _ _ _ (windows-natural (a .edition) (a .last))
+    (went-good _ (at-states .read-items .ensures .is) (at-starts .before .before .went3 .given .1))
+    (then-late (items-natural (a .edition) (a .last) Starts) _ _ _ (energies-natural (a .edition) (a .last))
+    (went-good _ (at-starts .read-items2 .ensures .is) (at-energies .before .before .went4 .given .1))
     (then-off (items-natural (a .edition) (a .last) Energies) _ _ _ (went-bad _ (at-energies .read-items3 .ensures .is) (c .before .enum-told5 .given .1)))))))
 
 read-link-requires : tie.Need-read-link-requires
@@ -156,11 +159,11 @@ returns-6 c =
     let l : _ = at-link .read-link .result .link in
     let v : _ = partsIn x f states starts energies l in
     head-done _ _ _ _ _ x f states starts energies (at-states .read-items .ensures) (at-starts .read-items2 .ensures) (at-energies .read-items3 .ensures) w l
-    (then-told (sides-natural _) _ _ _ w (v .1) (rest-natural _ _) (went-good _ (at-sides .read-sides .ensures) (at-figures .before .before .went .given .1))
-    (then-told figures-natural _ _ _ w (v .1 .1) (lists-natural _ _) (went-good _ (at-figures .read-figures .ensures) (at-states .before .before .went2 .given .1))
-    (then-told (items-natural (a .edition) (a .last) States) _ _ _ w (v .1 .1 .1) (windows-natural _ _)
+    (then-told (sides-natural _) _ _ _ w (v .1) (rest-natural (a .edition) (a .last)) (went-good _ (at-sides .read-sides .ensures) (at-figures .before .before .went .given .1))
+    (then-told figures-natural _ _ _ w (v .1 .1) (lists-natural (a .edition) (a .last)) (went-good _ (at-figures .read-figures .ensures) (at-states .before .before .went2 .given .1))
+    (then-told (items-natural (a .edition) (a .last) States) _ _ _ w (v .1 .1 .1) (windows-natural (a .edition) (a .last))
     (went-good _ (at-states .read-items .ensures .is) (at-starts .before .before .went3 .given .1))
-    (then-told (items-natural _ _ Starts) _ _ _ w (v .1 .1 .1 .1) (energies-natural (a .edition) (a .last))
+    (then-told (items-natural (a .edition) (a .last) Starts) _ _ _ w (v .1 .1 .1 .1) (energies-natural (a .edition) (a .last))
     (went-good _ (at-starts .read-items2 .ensures .is) (at-energies .before .before .went4 .given .1))
     (then-told (items-natural (a .edition) (a .last) Energies) _ _ _ w (linkIn l) (link-natural (a .edition))
     (went-good _ (at-energies .read-items3 .ensures .is) (at-link .before .before .went5 .given .1)) (at-link .read-link .ensures))))))

@@ -1,5 +1,7 @@
 use Rattle.front_reader.specs.Fronts.{largest}
 use Rattle.front_reader.proofs.FrontSteps.{devices-of, intervals-of, no-devices, no-intervals, no-zones, counts-done}
+use native.Mathlib.Omega.{arith}
+use Rattle.model.specs.Widths.{bounded}
 use borrow.Author.Needs.{needs}
 use Rattle.front_reader.proofs.read_counts.Statement.{statement}
 use Rattle.front_reader.proofs.read_counts.Tie as tie
@@ -11,7 +13,7 @@ devices-in-requires : tie.Need-devices-in-requires
 devices-in-requires c κs = search needs
 
 read-count-requires : tie.Need-read-count-requires
-read-count-requires c κs = search needs
+read-count-requires c κs = omega (arith, c .before .device-bits .ensures, bounded (c .before .before .before .args .edition) .deviceBits)
 
 enum-known-devices : tie.Need-enum-known-devices
 enum-known-devices c = search needs
@@ -42,7 +44,7 @@ intervals-in-requires : tie.Need-intervals-in-requires
 intervals-in-requires c κs = search needs
 
 read-count-requires-2 : tie.Need-read-count-requires-2
-read-count-requires-2 c κs = search needs
+read-count-requires-2 c κs = omega (arith, c .before .interval-bits .ensures, bounded (c .before .before .before .before .before .before .before .before .before .args .edition) .intervalBits)
 
 enum-known-intervals : tie.Need-enum-known-intervals
 enum-known-intervals c = search needs

@@ -1,11 +1,13 @@
 -- Start and end, then the edition's most starts.
 use mathlib.Core.Path.{sym}
-use Rattle.model.specs.ByEdition.{startWindow}
+use Rattle.model.specs.ByEdition.{startWindow, startWindowBy}
 use Rattle.fields.specs.Got.{nat-natural, went-good, went-bad}
 use Rattle.fields.proofs.Steps.{figure-on, figure-off}
 use Rattle.item_reader.specs.Naturals.{ends-natural, start-fields}
 use Rattle.fields.proofs.Chains.{stop, pass, held-off, held-on, then-off, then-late, then-on}
 use Rattle.item_reader.proofs.Steps.{figure-of}
+use native.Mathlib.Omega.{arith}
+use Rattle.model.specs.Widths.{bounded}
 use borrow.Author.Needs.{needs}
 use Rattle.item_reader.proofs.read_start.Statement.{statement}
 use Rattle.item_reader.proofs.read_start.Tie as tie
@@ -23,7 +25,7 @@ no-item-requires : tie.Need-no-item-requires
 no-item-requires c κs = search needs
 
 returns : tie.Need-returns
-unfolding startWindow
+unfolding startWindowBy
 returns c =
     let begin : _ = c .before .before .before .before .before in
     let read-ends : _ = c .before .before .before .read-ends in
@@ -37,7 +39,7 @@ most-starts-requires : tie.Need-most-starts-requires
 most-starts-requires c κs = search needs
 
 read-figure-requires : tie.Need-read-figure-requires
-read-figure-requires c κs = search needs
+read-figure-requires c κs = omega (arith, c .before .starts-bits .ensures, bounded (c .before .before .before .before .before .before .before .args .edition) .startsBits)
 
 enum-known-most : tie.Need-enum-known-most
 enum-known-most c = search needs
@@ -52,7 +54,7 @@ no-item-requires-2 : tie.Need-no-item-requires-2
 no-item-requires-2 c κs = search needs
 
 returns-2 : tie.Need-returns-2
-unfolding startWindow
+unfolding startWindowBy
 returns-2 c =
     let near : _ = c .before .before .before .before .before .before .before .before .before .before in
     let begin : _ = near .before .before in
@@ -68,7 +70,7 @@ returns-2 c =
     (then-late (ends-natural _) _ _ _ (nat-natural _) (went-good _ (read-ends .ensures) (went .given .1)) (figure-off most (enum-told2 .given .1))))
 
 returns-3 : tie.Need-returns-3
-unfolding startWindow
+unfolding startWindowBy
 returns-3 c =
     let near : _ = c .before .before .before .before .before .before .before .before .before .before in
     let begin : _ = near .before in

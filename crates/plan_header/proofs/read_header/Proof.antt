@@ -8,6 +8,8 @@ use Rattle.fields.specs.Got.{bad, figured}
 use Rattle.fields.specs.Since.{count-of}
 use Rattle.fields.proofs.Steps.{on, off}
 use Rattle.plan_header.specs.Plans.{header}
+use native.Mathlib.Omega.{arith}
+use Rattle.model.specs.Widths.{bounded}
 use borrow.Author.Needs.{needs}
 use Rattle.plan_header.proofs.read_header.Statement.{statement}
 use Rattle.plan_header.proofs.read_header.Tie as tie
@@ -46,7 +48,7 @@ device-bits-requires : tie.Need-device-bits-requires
 device-bits-requires c κs = search needs
 
 read-count-requires : tie.Need-read-count-requires
-read-count-requires c κs = search needs
+read-count-requires c κs = omega (arith, c .device-bits .ensures, bounded (c .before .before .before .before .before .before .before .before .before .before .args .edition) .deviceBits)
 
 enum-known-count : tie.Need-enum-known-count
 enum-known-count c = search needs
@@ -62,7 +64,8 @@ interval-bits-requires : tie.Need-interval-bits-requires
 interval-bits-requires c κs = search needs
 
 read-count-requires-2 : tie.Need-read-count-requires-2
-read-count-requires-2 c κs = search needs
+read-count-requires-2 c κs = let earlier : _ = c .before .before .before .before .before .before .before .before .before .before in
+    omega (arith, c .interval-bits .ensures, bounded (earlier .before .before .before .before .before .args .edition) .intervalBits)
 
 returns-4 : tie.Need-returns-4
 unfolding header held _then_

@@ -1,4 +1,6 @@
 -- The counts are those of the case that was read.
+use native.Mathlib.Omega.{arith}
+use Rattle.model.specs.Editions.{host}
 use Rattle.plan_unit.specs.Read.{inspect-fails, inspect-passes}
 use borrow.Author.Needs.{needs}
 use Rattle.plan_unit.proofs.inspect.Statement.{statement}
@@ -47,10 +49,11 @@ enum-told : tie.Need-enum-told
 enum-told c = search needs
 
 returns : tie.Need-returns
-returns c = inspect-fails _ _ _ _ _ _ _ _ _ (c .before .before .before .before .before .before .before .before .before .read-case .ensures) (c .before .ending .given .1)
+returns c = inspect-fails host (omega arith) (omega arith) _ _ _ _ _ _ _ _ _ (c .before .before .before .before .before .before .before .before .before .read-case .ensures)
+    (c .before .ending .given .1)
 
 returns-2 : tie.Need-returns-2
-returns-2 c = inspect-passes _ _ _ _ _ _ _ _ _ (c .before .before .before .before .before .before .before .before .read-case .ensures) (c .enum-told .given .1)
+returns-2 c = inspect-passes host (omega arith) (omega arith) _ _ _ _ _ _ _ _ _ (c .before .before .before .before .before .before .before .before .read-case .ensures) (c .enum-told .given .1)
 
 pub inspect-spec : {M : Type 1} → statement M
 inspect-spec = tie.close (tie.spec blank-zone-requires blank-minima-requires blank-device-requires blank-cell-requires cast-read-case cast-read-case-2 slice-aggregate-read-case

@@ -1,5 +1,6 @@
 -- The first parts of the owner's tables hold the case that was read.
 use native.Mathlib.Omega.{arith}
+use Rattle.model.specs.Editions.{host}
 use mathlib.Core.Path.{sym}
 use Rattle.plan_unit.specs.Read.{decoded-first, case-fails, case-passes}
 use Rattle.plan_unit.specs.Owned.{taken, few-cells, few-minima, work}
@@ -53,11 +54,11 @@ blank-setting-requires : tie.Need-blank-setting-requires
 blank-setting-requires c κs = search needs
 
 mul-k : tie.Need-mul-k
-mul-k c = let d = decoded-first _ _ _ _ _ _ _ _ _ (c .before .before .before .before .before .before .before .before .before .before .read-case .ensures)
+mul-k c = let d = decoded-first host (omega arith) (omega arith) _ _ _ _ _ _ _ _ _ (c .before .before .before .before .before .before .before .before .before .before .read-case .ensures)
     (c .before .enum-told .given .1) in omega (arith, few-cells d)
 
 mul-j : tie.Need-mul-j
-mul-j c = let d = decoded-first _ _ _ _ _ _ _ _ _ (c .before .before .before .before .before .before .before .before .before .before .read-case .ensures)
+mul-j c = let d = decoded-first host (omega arith) (omega arith) _ _ _ _ _ _ _ _ _ (c .before .before .before .before .before .before .before .before .before .before .read-case .ensures)
     (c .before .enum-told .given .1) in omega (arith, few-minima d)
 
 add-e : tie.Need-add-e
@@ -81,7 +82,7 @@ slice-aggregate-judge-plan-2 c = let reading : _ = c .before .before .before .be
     sym (reading .read-case .ensures .long (c .before .before .before .enum-told .given .1) .zones-long)
 
 array-share-prefix-minima : tie.Need-array-share-prefix-minima
-array-share-prefix-minima c = let d = decoded-first _ _ _ _ _ _ _ _ _
+array-share-prefix-minima c = let d = decoded-first host (omega arith) (omega arith) _ _ _ _ _ _ _ _ _
     (c .before .before .before .before .before .before .before .before .before .before .before .before .read-case .ensures)
     (c .before .before .before .enum-told .given .1) in omega (arith, few-minima d)
 
@@ -100,7 +101,7 @@ slice-aggregate-judge-plan-4 c = let earlier : _ = c .before .before .before .be
 array-share-prefix-cells : tie.Need-array-share-prefix-cells
 array-share-prefix-cells c =
     let d = let earlier : _ = c .before .before .before .before .before .before .before .before .before .before .before .before in
-    decoded-first _ _ _ _ _ _ _ _ _ (earlier .before .before .read-case .ensures) (c .before .before .before .before .before .enum-told .given .1) in
+    decoded-first host (omega arith) (omega arith) _ _ _ _ _ _ _ _ _ (earlier .before .before .read-case .ensures) (c .before .before .before .before .before .enum-told .given .1) in
     omega (arith, few-cells d)
 
 slice-aggregate-judge-plan-5 : tie.Need-slice-aggregate-judge-plan-5
@@ -110,12 +111,14 @@ slice-aggregate-judge-plan-5 c = let earlier : _ = c .before .before .before .be
 array-borrow-prefix-settings : tie.Need-array-borrow-prefix-settings
 array-borrow-prefix-settings c = let earlier : _ = c .before .before .before .before .before .before .before .before .before .before .before .before in
     let reading : _ = earlier .before .before .before in
-    let d = decoded-first _ _ _ _ _ _ _ _ _ (reading .read-case .ensures) (c .before .before .before .before .before .before .enum-told .given .1) in omega (arith, few-cells d)
+    let d = decoded-first host (omega arith) (omega arith) _ _ _ _ _ _ _ _ _ (reading .read-case .ensures)
+    (c .before .before .before .before .before .before .enum-told .given .1) in omega (arith, few-cells d)
 
 slice-aggregate-judge-plan-6 : tie.Need-slice-aggregate-judge-plan-6
 slice-aggregate-judge-plan-6 c = let earlier : _ = c .before .before .before .before .before .before .before .before .before .before .before .before in
     let reading : _ = earlier .before .before .before .before in
-    let d = decoded-first _ _ _ _ _ _ _ _ _ (reading .read-case .ensures) (c .before .before .before .before .before .before .before .enum-told .given .1) in taken _ 768 _ (omega (arith, few-cells d))
+    let d = decoded-first host (omega arith) (omega arith) _ _ _ _ _ _ _ _ _ (reading .read-case .ensures)
+    (c .before .before .before .before .before .before .before .enum-told .given .1) in taken _ 6144 _ (omega (arith, few-cells d))
 
 array-borrow-prefix-starts : tie.Need-array-borrow-prefix-starts
 array-borrow-prefix-starts c = let earlier : _ = c .before .before .before .before .before .before .before .before .before .before .before .before in
@@ -125,28 +128,30 @@ array-borrow-prefix-starts c = let earlier : _ = c .before .before .before .befo
 slice-aggregate-judge-plan-7 : tie.Need-slice-aggregate-judge-plan-7
 slice-aggregate-judge-plan-7 c = let earlier : _ = c .before .before .before .before .before .before .before .before .before .before .before .before in
     let reading : _ = earlier .before .before .before .before .before in
-    taken _ 49 _ (omega (arith, reading .read-case .ensures .counted (c .before .before .before .before .before .before .before .before .enum-told .given .1) .intervals))
+    taken _ 97 _ (omega (arith, reading .read-case .ensures .counted (c .before .before .before .before .before .before .before .before .enum-told .given .1) .intervals))
 
 array-borrow-prefix-powers : tie.Need-array-borrow-prefix-powers
 array-borrow-prefix-powers c = let earlier : _ = c .before .before .before .before .before .before .before .before .before .before .before .before in
     let reading : _ = earlier .before .before .before .before .before in
-    let d = decoded-first _ _ _ _ _ _ _ _ _ (reading .read-case .ensures) (c .before .before .before .before .before .before .before .before .enum-told .given .1) in omega (arith, few-cells d)
+    let d = decoded-first host (omega arith) (omega arith) _ _ _ _ _ _ _ _ _ (reading .read-case .ensures)
+    (c .before .before .before .before .before .before .before .before .enum-told .given .1) in omega (arith, few-cells d)
 
 slice-aggregate-judge-plan-8 : tie.Need-slice-aggregate-judge-plan-8
 slice-aggregate-judge-plan-8 c = let earlier : _ = c .before .before .before .before .before .before .before .before .before .before .before .before in
     let reading : _ = earlier .before .before .before .before .before .before in
-    let d = decoded-first _ _ _ _ _ _ _ _ _ (reading .read-case .ensures)
-    (c .before .before .before .before .before .before .before .before .before .enum-told .given .1) in taken _ 768 _ (omega (arith, few-cells d))
+    let d = decoded-first host (omega arith) (omega arith) _ _ _ _ _ _ _ _ _ (reading .read-case .ensures)
+    (c .before .before .before .before .before .before .before .before .before .enum-told .given .1) in taken _ 6144 _ (omega (arith, few-cells d))
 
 judge-plan-requires : tie.Need-judge-plan-requires
 judge-plan-requires c κs = let earlier : _ = c .before .before .before .before .before .before .before .before .before .before .before .before in
     let reading : _ = earlier .before .before .before .before .before .before .before in
-    let d = decoded-first _ _ _ _ _ _ _ _ _ (reading .read-case .ensures)
+    let d = decoded-first host (omega arith) (omega arith) _ _ _ _ _ _ _ _ _ (reading .read-case .ensures)
     (c .before .before .before .before .before .before .before .before .before .before .enum-told .given .1) in let k = few-cells d in
-    (d .decoded, work d (taken _ 768 _ (omega arith)) (taken _ 49 _ (omega (arith, d .few-intervals))) (taken _ 768 _ (omega arith)))
+    (d .decoded, work d (taken _ 6144 _ (omega arith)) (taken _ 97 _ (omega (arith, d .few-intervals))) (taken _ 6144 _ (omega arith)))
 
 returns : tie.Need-returns
-returns c = case-fails _ _ _ _ _ _ _ _ _ (c .before .before .before .before .before .before .before .before .before .before .read-case .ensures) _ _ (c .before .ending .given .1)
+returns c = case-fails host (omega arith) (omega arith) _ _ _ _ _ _ _ _ _ (c .before .before .before .before .before .before .before .before .before .before .read-case .ensures)
+    _ _ (c .before .ending .given .1)
 
 same-length : tie.Need-same-length
 same-length c = search needs
@@ -154,7 +159,7 @@ same-length c = search needs
 returns-2 : tie.Need-returns-2
 returns-2 c = let earlier : _ = c .before .before .before .before .before .before .before .before .before .before .before .before in
     let telling : _ = earlier .before .before .before .before in let reading : _ = telling .before .before .before .before .before .before .before .before .before
-    in case-passes _ _ _ _ _ _ _ _ _ (reading .read-case .ensures) _ (telling .enum-told .given .1)
+    in case-passes host (omega arith) (omega arith) _ _ _ _ _ _ _ _ _ (reading .read-case .ensures) _ (telling .enum-told .given .1)
     (c .before .before .before .before .before .judge-plan .ensures .verdict) (c .before .before .before .before .before .judge-plan .ensures .result)
 
 pub judge-spec : {M : Type 1} → statement M

@@ -11,14 +11,14 @@ returns : tie.Need-returns
 returns c = let a : _ = c .before .before .before .before .before .args in
     idle-here (a .d) (a .cells .now) (a .settings .now) (a .starts .now) (a .powers .now) (a .t) (c .before .idle-at .ensures (c .if1 .taken))
 
-bracket-at-requires : tie.Need-bracket-at-requires
-bracket-at-requires c κs = search needs
-
 mul-t14 : tie.Need-mul-t14
 mul-t14 c = search needs
 
 shared-slice-read-t16 : tie.Need-shared-slice-read-t16
 shared-slice-read-t16 c = search needs
+
+bracket-given-requires : tie.Need-bracket-given-requires
+bracket-given-requires c κs = search needs
 
 reactive-cell-at-requires : tie.Need-reactive-cell-at-requires
 reactive-cell-at-requires c κs = search needs
@@ -29,13 +29,13 @@ reactive-at-requires c κs = search needs
 failing-figures-requires : tie.Need-failing-figures-requires
 failing-figures-requires c κs = let s : _ = c .before .before .before .before .before .before .before .before .before .before in let a : _ = s .args in
     sized-here (a .d) (a .cells .now) (a .settings .now) (a .starts .now) (a .powers .now) (a .t) (c .before .reactive-cell-at .ensures) (c .reactive-at .ensures)
-    (c .before .before .before .bracket-at .ensures .1) (s .pre)
+    (c .before .before .bracket-given .ensures .1) (s .pre)
 
 returns-2 : tie.Need-returns-2
 returns-2 c = let a : _ = c .before .before .before .before .before .before .before .before .before .before .before .args in
     word-here (a .d) (a .cells .now) (a .settings .now) (a .starts .now) (a .powers .now) (a .t) (c .before .before .reactive-cell-at .ensures) (c .before .reactive-at .ensures)
-    (c .before .before .before .before .bracket-at .ensures .0) (c .failing-figures .ensures)
+    (c .before .before .before .bracket-given .ensures .0) (c .failing-figures .ensures)
 
 pub failing-reactive-spec : {M : Type 1} → statement M
-failing-reactive-spec = tie.close (tie.spec idle-at-requires returns bracket-at-requires mul-t14 shared-slice-read-t16 reactive-cell-at-requires reactive-at-requires
+failing-reactive-spec = tie.close (tie.spec idle-at-requires returns mul-t14 shared-slice-read-t16 bracket-given-requires reactive-cell-at-requires reactive-at-requires
     failing-figures-requires returns-2)

@@ -1,0 +1,218 @@
+//! The set for the host form: days of more than 16 devices or 48 intervals, and what the host form
+//! refuses.
+
+use super::{batch_of, batch_of_day, damaged_forms, grown_day, Maker, Set};
+use crate::batch::{append_length, append_message, join};
+use crate::busiest::busiest_batch;
+use crate::case::{Block, Case, Device, Ramps, Side, Terms};
+use crate::edition::Edition;
+use crate::encode::{encode_case, encode_plan};
+use crate::form::{Form, Largest};
+use crate::generate::batches::plan_of_another_edition;
+use crate::generate::breaks::plan_breaking;
+use crate::generate::damage::any_above_range;
+use crate::generate::device::Scale;
+use crate::generate::extreme::{most_breaches_day, very_low_surplus_day};
+use crate::generate::plans::good_plan;
+use crate::generate::sample::{sample_of, Sample};
+use crate::generate::shape::{Shape, Size};
+use crate::plan::{Plan, Setting};
+use crate::rng::Rng;
+use crate::worked_day::Day;
+
+pub(super) const HOST_SET: Set = Set {
+    form: Form::HOST,
+    head: HEAD,
+    numbers_note: NUMBERS_NOTE,
+    option: " --host",
+    parts: &PARTS,
+};
+
+const PARTS: [(&str, Maker); 8] = [
+    (
+        "the largest day, accepted and broken at its last place alone",
+        |_| vec![largest_day()],
+    ),
+    ("the most breaches of a plan", |_| vec![most_breaches()]),
+    ("days of more than 16 devices and 48 intervals", days_beyond),
+    (
+        "days of many devices or many intervals, and few of the other",
+        narrow_days,
+    ),
+    ("starts and trajectories over 96 intervals", |_| long_days()),
+    (
+        "days with as many devices or intervals as may be, and with more",
+        grown_days,
+    ),
+    ("damaged plans of 17 devices, most starts above 96", damage),
+    ("framing", |_| framing_batches()),
+];
+
+const LARGE: Largest = Largest::LARGE;
+
+/// The day of the lowest surplus, and its plan with the last device off in the last interval, which
+/// the case does not allow.
+fn largest_day() -> Vec<u8> {
+    let day = very_low_surplus_day(Edition::Four, LARGE);
+    let mut switched_off = day.plan.clone();
+    switched_off.intervals[LARGE.intervals - 1][LARGE.devices - 1].on = false;
+    batch_of(day.edition, &day.case, &[day.plan, switched_off])
+}
+
+fn most_breaches() -> Vec<u8> {
+    batch_of_day(&most_breaches_day(Edition::Four, LARGE))
+}
+
+/// A case of so many devices and intervals.
+fn sample(rng: &mut Rng, devices: usize, intervals: usize) -> Sample {
+    let shape = Shape {
+        size: Size::Beyond,
+        devices,
+        intervals,
+        zones: rng.below(5),
+    };
+    let scale = rng.pick(&[Scale::Calm, Scale::Low, Scale::Low, Scale::Wide]);
+    sample_of(rng, Edition::Four, &shape, scale)
+}
+
+/// A case with a plan that keeps every rule and, where one is drawn, a plan that breaks one.
+fn kept_and_broken(rng: &mut Rng, devices: usize, intervals: usize) -> Vec<u8> {
+    let sample = sample(rng, devices, intervals);
+    let rule = rng.from_to(1, i128::from(sample.edition.last_rule())) as u8;
+    let mut plans = vec![good_plan(rng, &sample)];
+    plans.extend(plan_breaking(rng, &sample, rule));
+    batch_of(sample.edition, &sample.case, &plans)
+}
+
+fn days_beyond(rng: &mut Rng) -> Vec<Vec<u8>> {
+    [(17, 49), (22, 55)]
+        .map(|(devices, intervals)| kept_and_broken(rng, devices, intervals))
+        .to_vec()
+}
+
+fn narrow_days(rng: &mut Rng) -> Vec<Vec<u8>> {
+    let many_devices = [(64, 1), (64, 2), (33, 3), (17, 4)];
+    let many_intervals = [(1, 96), (2, 96), (3, 65), (4, 49)];
+    [many_devices, many_intervals]
+        .concat()
+        .into_iter()
+        .map(|(devices, intervals)| kept_and_broken(rng, devices, intervals))
+        .collect()
+}
+
+/// A device of 96 intervals of 2 minutes that runs at 200 kW, and rises and falls by 1 kW in a
+/// minute.
+fn slow_day(initially_on: bool, is_on: impl Fn(usize) -> bool) -> Day {
+    const POWER: i128 = 200;
+    let terms = Terms {
+        pmin: POWER,
+        pmax: POWER,
+        blocks: vec![Block::plain(POWER, 1)],
+        ..Terms::default()
+    };
+    let device = Device {
+        initially_on,
+        initial_power: if initially_on { POWER } else { 8 },
+        ramps: Ramps {
+            up: 1,
+            down: 1,
+            starting: 1,
+            stopping: 1,
+        },
+        ..Device::plain(Side::Producing, vec![terms; LARGE.intervals])
+    };
+    let setting = |t: usize| Setting {
+        on: is_on(t),
+        online_power: if is_on(t) { POWER } else { 0 },
+        ..Setting::default()
+    };
+    Day {
+        edition: Edition::Four,
+        case: Case {
+            mismatch_price: 1,
+            overrun_price: 1,
+            durations: vec![2; LARGE.intervals],
+            zones: Vec::new(),
+            devices: vec![device],
+        },
+        plan: Plan {
+            intervals: (0..LARGE.intervals).map(|t| vec![setting(t)]).collect(),
+        },
+    }
+}
+
+/// A start in every other interval; one start in the last, whose startup power fills the day; a
+/// start in every other interval, whose startup powers all meet.
+fn long_days() -> Vec<Vec<u8>> {
+    let is_last = |t: usize| t + 1 == LARGE.intervals;
+    let is_even = |t: usize| t % 2 == 1;
+    vec![
+        busiest_batch(Edition::Four, 1, 1, LARGE.intervals),
+        batch_of_day(&slow_day(false, is_last)),
+        batch_of_day(&slow_day(true, is_even)),
+    ]
+}
+
+/// In edition 4 as many as the host form takes, one more and as many as the counts can say; in the
+/// older editions one more than they take.
+fn grown_days(rng: &mut Rng) -> Vec<Vec<u8>> {
+    const SAID: usize = 127;
+    let mut batches = Vec::new();
+    for devices in [LARGE.devices, LARGE.devices + 1, SAID] {
+        batches.push(grown_day(rng, Edition::Four, devices, 1));
+    }
+    for intervals in [LARGE.intervals, LARGE.intervals + 1, SAID] {
+        batches.push(grown_day(rng, Edition::Four, 1, intervals));
+    }
+    let small = Largest::SMALL;
+    for edition in Edition::Four.older() {
+        batches.push(grown_day(rng, edition, small.devices + 1, 1));
+        batches.push(grown_day(rng, edition, 1, small.intervals + 1));
+    }
+    batches
+}
+
+/// Plans of 17 devices damaged in every kind of field; cases with more most starts than 96.
+fn damage(rng: &mut Rng) -> Vec<Vec<u8>> {
+    let many = sample(rng, 17, 1);
+    let message = encode_plan(many.edition, &good_plan(rng, &many));
+    let mut batch = join(&[encode_case(many.edition, &many.case).bytes]);
+    append_message(&mut batch, &plan_of_another_edition(rng, &many));
+    for plan in damaged_forms(rng, &message) {
+        append_message(&mut batch, &plan);
+    }
+    append_message(&mut batch, &message.bytes);
+    let mut batches = vec![batch];
+    while batches.len() < 4 {
+        let Sample { edition, case, .. } = sample(rng, 1, 2);
+        let message = encode_case(edition, &case);
+        let above = any_above_range(rng, &message, "most starts");
+        batches.extend(above.map(|case| join(&[case])));
+    }
+    batches
+}
+
+/// A length one above the longest, the longest itself with nothing behind it, and one that the
+/// batch form alone refuses with 4.
+fn framing_batches() -> Vec<Vec<u8>> {
+    let longest = Form::HOST.longest_message;
+    [longest + 1, longest, Form::BATCH.longest_message + 1]
+        .map(|length| {
+            let mut batch = batch_of_day(&slow_day(true, |_| true));
+            append_length(&mut batch, length);
+            batch
+        })
+        .to_vec()
+}
+
+const HEAD: &str = "\
+# Days of the host form
+
+Batches of more devices or intervals than the batch program takes, and of what the host form
+refuses, with the output that the host library and the reference are both held to.
+";
+
+const NUMBERS_NOTE: &str = "\
+Lengths above 1,048,576 are framing 4. Every refusal of smaller days is in the batch program's
+corpus.
+";
