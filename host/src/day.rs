@@ -22,6 +22,12 @@ impl Day {
         let is_there = t < self.case.intervals.len() && j < self.case.devices.len();
         is_there.then_some(Point { day: self, t, j })
     }
+
+    /// The flow from bar 0 to bar 1 in an interval, counted from 1 as in a breach.
+    pub fn flow(&self, interval: usize) -> Option<i64> {
+        let row = self.plan.rows.get(interval.checked_sub(1)?)?;
+        Some(row.flow)
+    }
 }
 
 /// One device in one interval, both counted from 0.
@@ -42,7 +48,7 @@ impl<'a> Point<'a> {
     }
 
     pub fn setting(self) -> &'a Setting {
-        &self.day.plan.settings[self.t][self.j]
+        &self.day.plan.rows[self.t].settings[self.j]
     }
 
     pub fn reserve(self, reserve: Reserve) -> i64 {

@@ -3,7 +3,8 @@
 use crate::message::{Case, Device, Interval, Line, Link, Zone};
 
 /// The lines of a case, each with its end: the batch program's words and counts, the day, each
-/// zone's reactive needs where the edition has them, each device with its floors where it has them.
+/// zone's reactive needs where the edition has them, each device with its floors and its bar where
+/// it has them.
 pub fn describe(case: &Case) -> String {
     let mut lines = day_lines(case);
     if case.has_reactive_power() {
@@ -19,22 +20,20 @@ pub fn describe(case: &Case) -> String {
         if case.has_floors() {
             words.push(floor_words(device));
         }
+        if case.has_bars() {
+            words.push(format!("on bar {}", device.bar));
+        }
         lines.push(format!("device {number}: {}", words.join("; ")));
     }
     lines.join("\n") + "\n"
 }
 
-/// Counts, durations and prices of the day.
+/// Counts, durations, prices and the link limit of the day.
 fn day_lines(case: &Case) -> Vec<String> {
     let (devices, intervals) = (case.devices.len(), case.intervals.len());
     let zones = case.zones.len();
-    let mismatched = if case.has_reactive_power() {
-        "kW min and kvar min"
-    } else {
-        "kW min"
-    };
     let minutes = case.intervals.last().map_or(0, |last| last.end);
-    vec![
+    let mut lines = vec![
         format!("case {devices} {intervals} {zones}"),
         format!("edition {}", case.edition),
         format!("devices {devices}"),
@@ -44,11 +43,26 @@ fn day_lines(case: &Case) -> Vec<String> {
         ),
         format!("zones {zones}"),
         format!(
-            "mismatch price {} grains per {mismatched}",
-            case.mismatch_price
+            "mismatch price {} grains per {}",
+            case.mismatch_price,
+            mismatched(case)
         ),
         format!("overrun price {} grains per kW min", case.overrun_price),
-    ]
+    ];
+    if case.has_bars() {
+        let limit = case.link_limit;
+        lines.push(format!("link limit {limit} kW between bar 0 and bar 1"));
+    }
+    lines
+}
+
+/// What a mismatch is counted in.
+fn mismatched(case: &Case) -> &'static str {
+    match (case.has_reactive_power(), case.has_bars()) {
+        (_, true) => "kW min and kvar min of each bar",
+        (true, false) => "kW min and kvar min",
+        (false, false) => "kW min",
+    }
 }
 
 /// The greatest minima of the day, and what a shortfall costs.

@@ -54,7 +54,7 @@ impl fmt::Display for Breach {
 }
 
 /// What each rule is about, from rule 1.
-const RULES: [&str; 26] = [
+const RULES: [&str; 27] = [
     "fixed status",
     "initial state",
     "minimum down time",
@@ -81,6 +81,7 @@ const RULES: [&str; 26] = [
     "lower line of the link",
     "equality of the link",
     "reserves beside an equality",
+    "link limit",
 ];
 
 /// One line of a breach: its four numbers, then the rule, the place and both sides in words.
@@ -112,6 +113,7 @@ fn compare(day: &Day, breach: Breach) -> Option<Comparison> {
             day.point(at(breach.interval), at(breach.device))?,
             breach.rule,
         ),
+        27 if breach.device == 0 && breach.window == 0 => flow(day, at(breach.interval)),
         _ => None,
     }
 }
@@ -403,4 +405,16 @@ fn starts_in_window(day: &Day, device: usize, window: usize) -> Option<Compariso
         right: Figure::new(window.most_starts, ""),
         unit: Unit::Starts,
     })
+}
+
+/// Rule 27, by its upper bound where the flow is above it, else by its lower one.
+fn flow(day: &Day, interval: usize) -> Option<Comparison> {
+    let (flow, limit) = (day.flow(interval)?, day.case.link_limit);
+    let (relation, bound) = if flow > limit {
+        (Relation::AtMost, limit)
+    } else {
+        (Relation::AtLeast, -limit)
+    };
+    let [flow, bound] = [flow, bound].map(|kilowatts| Figure::new(kilowatts, ""));
+    Some(Comparison::kilowatts("flow is #", flow, relation, bound))
 }

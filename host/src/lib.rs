@@ -71,12 +71,12 @@ pub mod word {
 pub const LONGEST_MESSAGE: usize = 1_048_576;
 
 /// Bytes that hold every list of breaches: four for each of 25 rules of 64 devices in 96 intervals,
-/// and of 4 windows of each device.
-pub const LONGEST_LIST: usize = 4 * (64 * 96 * 25 + 64 * 4);
+/// of the link's in 96, and of 4 windows of each device.
+pub const LONGEST_LIST: usize = 4 * (64 * 96 * 25 + 96 + 64 * 4);
 
-/// Bytes that hold every completion: that of edition 4 with 64 devices, 96 intervals, 4 zones and 4
+/// Bytes that hold every completion: that of edition 5 with 64 devices, 96 intervals, 4 zones and 4
 /// energy windows of each device.
-pub const LONGEST_COMPLETION: usize = 70_324;
+pub const LONGEST_COMPLETION: usize = 70_876;
 
 /// Bytes of stack that a call takes at most; a thread has 2 MB of it unless told otherwise.
 pub const STACK: usize = 1_500_000;

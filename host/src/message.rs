@@ -7,13 +7,15 @@
 const CASE: i64 = 1;
 const PLAN: i64 = 2;
 /// The newest edition whose fields stand here.
-const NEWEST_EDITION: i64 = 4;
+const NEWEST_EDITION: i64 = 5;
 /// The edition that brought reactive power.
 const REACTIVE: i64 = 2;
 /// The edition that brought floors.
 const FLOORS: i64 = 3;
 /// The edition that brought larger days.
 const LARGER: i64 = 4;
+/// The edition that brought a second bar.
+const BARS: i64 = 5;
 
 const COUNT: usize = 3;
 const POWER: usize = 17;
@@ -31,13 +33,15 @@ const ZONE_MINIMA: usize = 2 * 23;
 /// A day to be planned. Power kW, reactive power kvar, time minutes, money grains.
 ///
 /// What an edition's messages lack is neutral: reactive figures 0, prices of a reactive shortfall 1,
-/// no link, floors 0.
+/// no link, floors 0, every device on bar 0, link limit and flows 0.
 #[derive(Clone, PartialEq, Eq, Debug)]
 pub struct Case {
     pub edition: i64,
     pub zones: Vec<Zone>,
     pub mismatch_price: i64,
     pub overrun_price: i64,
+    /// The most that flows between the bars, either way.
+    pub link_limit: i64,
     pub intervals: Vec<Interval>,
     pub devices: Vec<Device>,
 }
@@ -51,6 +55,11 @@ impl Case {
     /// Whether the blocks of its edition have floors.
     pub fn has_floors(&self) -> bool {
         self.edition >= FLOORS
+    }
+
+    /// Whether its edition has two bars.
+    pub fn has_bars(&self) -> bool {
+        self.edition >= BARS
     }
 }
 
@@ -117,6 +126,8 @@ pub struct Device {
     pub start_windows: Vec<StartWindow>,
     pub energy_windows: usize,
     pub link: Link,
+    /// 0 or 1.
+    pub bar: i64,
     /// Per interval.
     pub cells: Vec<Cell>,
 }
@@ -173,10 +184,19 @@ pub struct Block {
     pub floor: i64,
 }
 
-/// What a plan sets: by interval, then device.
+/// What a plan sets, by interval.
 #[derive(Clone, PartialEq, Eq, Debug)]
 pub struct Plan {
-    pub settings: Vec<Vec<Setting>>,
+    pub rows: Vec<Row>,
+}
+
+/// What a plan sets in an interval.
+#[derive(Clone, PartialEq, Eq, Debug)]
+pub struct Row {
+    /// Per device.
+    pub settings: Vec<Setting>,
+    /// From bar 0 to bar 1.
+    pub flow: i64,
 }
 
 #[derive(Clone, Copy, PartialEq, Eq, Debug)]
@@ -234,8 +254,8 @@ impl<'a> Fields<'a> {
         Some(value - (i64::from(is_negative) << width))
     }
 
-    /// A reactive power of either sign.
-    fn kvar(&mut self) -> Option<i64> {
+    /// A reactive power, or a flow, of either sign.
+    fn signed_power(&mut self) -> Option<i64> {
         self.signed(18)
     }
 
@@ -316,12 +336,14 @@ pub fn read_case(message: &[u8]) -> Option<Case> {
     let zones = fields.count(COUNT)?;
     let mismatch_price = fields.take(14)?;
     let overrun_price = fields.take(14)?;
+    let link_limit = fields.since(BARS, 0, |fields| fields.take(POWER))?;
     let times = read_intervals(&mut fields, intervals)?;
     let case = Case {
         edition: fields.edition,
         zones: fields.list(zones, |fields| read_zone(fields, intervals))?,
         mismatch_price,
         overrun_price,
+        link_limit,
         intervals: times,
         devices: fields.list(devices, |fields| read_device(fields, intervals))?,
     };
@@ -371,6 +393,7 @@ fn read_device(fields: &mut Fields, intervals: usize) -> Option<Device> {
         start_windows: read_start_windows(fields)?,
         energy_windows: fields.pass_counted(ENERGY_WINDOW)?,
         link: fields.reactive(Link::None, read_link)?,
+        bar: fields.since(BARS, 0, |fields| fields.take(1))?,
         cells: fields.list(intervals, read_cell)?,
     })
 }
@@ -400,7 +423,7 @@ fn read_link(fields: &mut Fields) -> Option<Link> {
 
 fn read_line(fields: &mut Fields) -> Option<Line> {
     Some(Line {
-        offset: fields.kvar()?,
+        offset: fields.signed_power()?,
         slope: fields.signed(15)?,
     })
 }
@@ -424,7 +447,7 @@ fn read_cell(fields: &mut Fields) -> Option<Cell> {
 
 /// qmin and qmax; of the reactive reserves' prices behind them no word is made.
 fn read_limits(fields: &mut Fields) -> Option<(i64, i64)> {
-    let limits = (fields.kvar()?, fields.kvar()?);
+    let limits = (fields.signed_power()?, fields.signed_power()?);
     fields.pass(REACTIVE_PRICES);
     Some(limits)
 }
@@ -446,9 +469,16 @@ pub fn read_plan(case: &Case, message: &[u8]) -> Option<Plan> {
     let (devices, intervals) = fields.counts()?;
     let fits = (fields.edition, devices, intervals)
         == (case.edition, case.devices.len(), case.intervals.len());
-    let settings = fields.list(intervals, |fields| fields.list(devices, read_setting))?;
+    let rows = fields.list(intervals, |fields| read_row(fields, devices))?;
     fields.end()?;
-    fits.then_some(Plan { settings })
+    fits.then_some(Plan { rows })
+}
+
+fn read_row(fields: &mut Fields, devices: usize) -> Option<Row> {
+    Some(Row {
+        settings: fields.list(devices, read_setting)?,
+        flow: fields.since(BARS, 0, Fields::signed_power)?,
+    })
 }
 
 fn read_setting(fields: &mut Fields) -> Option<Setting> {
@@ -458,7 +488,7 @@ fn read_setting(fields: &mut Fields) -> Option<Setting> {
         reserves: fields.eight()?,
         reactive: fields.reactive(Reactive::default(), |fields| {
             Some(Reactive {
-                q: fields.kvar()?,
+                q: fields.signed_power()?,
                 qru: fields.take(POWER)?,
                 qrd: fields.take(POWER)?,
             })

@@ -15,8 +15,10 @@ use reference::case::{
 };
 use reference::edition::Edition;
 use reference::judge::judge;
-use reference::plan::{read_plan, Setting};
-use reference::worked_day::{floor_days, lettered_days, reactive_days, two_set_day, Day, ToldDay};
+use reference::plan::{read_plan, Plan, Setting};
+use reference::worked_day::{
+    floor_days, lettered_days, link_days, reactive_days, two_set_day, Day, ToldDay,
+};
 
 /// What a run left: text of both outputs, exit status.
 #[derive(Debug)]
@@ -164,7 +166,7 @@ fn large_day() -> Day {
     let off = Setting::default();
     let quiet = vec![off, Setting { on: true, ..off }];
     let quiet = vec![quiet; intervals - day.plan.intervals.len()];
-    day.plan.intervals = [quiet, day.plan.intervals].concat();
+    day.plan = Plan::plain([quiet, day.plan.intervals].concat());
     for row in &mut day.plan.intervals {
         *row = [vec![off; 64 - row.len()], row.clone()].concat();
     }
@@ -192,6 +194,55 @@ fn judge_prints_the_verdict_in_edition_4() {
     hold_verdicts("judge-4", &days, &verdicts);
 }
 
+/// The worked day of edition 5, with device 2 on bar 1, and other limits and flows.
+fn barred_day(link_limit: i128, flows: [i128; 2]) -> Day {
+    let mut day = link_days()[0].1.clone();
+    day.case.link_limit = link_limit;
+    day.plan.flows = flows.to_vec();
+    day
+}
+
+/// The days of edition 5 that were worked by hand, in their order.
+#[test]
+fn judge_prints_the_verdict_in_edition_5() {
+    let verdicts = ["accepted 167860", "broken 27 2 0 0", "accepted -7032140"];
+    hold_verdicts("judge-5", &link_days(), &verdicts);
+}
+
+/// The field of so many bits at a place.
+fn field(message: &[u8], at: usize, width: usize) -> u64 {
+    (at..at + width).fold(0, |value, bit| {
+        2 * value + u64::from(message[bit / 8] >> (7 - bit % 8) & 1)
+    })
+}
+
+/// Puts a field of so many bits at a place.
+fn put(message: &mut [u8], at: usize, width: usize, value: u64) {
+    for (bit, below) in (at..at + width).zip((0..width).rev()) {
+        let mask = 1 << (7 - bit % 8);
+        message[bit / 8] &= !mask;
+        message[bit / 8] |= mask * (value >> below & 1) as u8;
+    }
+}
+
+/// 1 kW and 1 kvar more of load than comes over the link: 1,200 more of its block, less 60,000 for
+/// each mismatch. In the completion they stand behind the header's 25 bits and 2 devices of 73.
+#[test]
+fn mismatches_of_a_completion_are_those_of_bar_0_and_bar_1() {
+    let scratch = Scratch::new("bars");
+    let mut day = barred_day(150, [30, 150]);
+    day.plan.intervals[0][1].online_power = 31;
+    day.case.devices[1].terms[0].qmax = 1;
+    day.plan.intervals[0][1].reactive_power = 1;
+    let [case, plan] = scratch.day(&day);
+    let result = scratch.path("result");
+    let line = answer(&["judge", &case, &plan, "--result", &result], 0);
+    assert_eq!(line, "accepted 49060\n");
+    let completion = fs::read(&result).expect("a completion");
+    let mismatches = [0, 1, 2, 3].map(|k| field(&completion, 171 + 23 * k, 23));
+    assert_eq!(mismatches, [0, 1, 0, 1]);
+}
+
 /// The completion that `judge` writes to a file is the reference's, of so many bytes.
 fn hold_completion(scratch: &Scratch, day: &Day, bytes: usize) {
     let [case, plan] = scratch.day(day);
@@ -204,7 +255,7 @@ fn hold_completion(scratch: &Scratch, day: &Day, bytes: usize) {
 }
 
 /// A header of 22 bits, from edition 4 on 25; in each interval 73 for a device, 198 for a zone and 23,
-/// from edition 2 on 66 for a zone and 23 more; 64 of surplus.
+/// from edition 2 on 66 for a zone and 23 more, in edition 5 another 46; 64 of surplus.
 #[test]
 fn judge_writes_the_completion_of_an_accepted_plan_alone() {
     let scratch = Scratch::new("result");
@@ -214,6 +265,7 @@ fn judge_writes_the_completion_of_an_accepted_plan_alone() {
     hold_completion(&scratch, &reactive_days()[4].1, 125);
     hold_completion(&scratch, &floor_days()[0].1, 59);
     hold_completion(&scratch, &large_day(), 56_628);
+    hold_completion(&scratch, &barred_day(150, [30, 150]), 71);
     let [case, plan] = scratch.day(&lettered('b'));
     let other = scratch.path("other");
     answer(&["judge", "--result", &other, &case, &plan], 1);
@@ -240,8 +292,12 @@ fn lines_after(test: &str, change: impl Fn(&mut Day)) -> Vec<String> {
 
 #[test]
 fn no_breaches_of_an_accepted_plan() {
-    let reactive = reactive_days()[4].1.clone();
-    let later = [reactive, floor_days()[0].1.clone(), large_day()];
+    let later = [
+        reactive_days()[4].1.clone(),
+        floor_days()[0].1.clone(),
+        large_day(),
+        barred_day(150, [30, 150]),
+    ];
     for day in [two_set_day()].into_iter().chain(later) {
         let [case, plan] = Scratch::new("none").day(&day);
         assert_eq!(answer(&["breaches", &case, &plan], 0), "no breaches\n");
@@ -339,9 +395,8 @@ fn minimum_times_in_words() {
         let device_2 = &mut day.case.devices[1];
         (device_2.minimum_up, device_2.minimum_down) = (31, 61);
         let idle = Setting::default();
-        day.plan.intervals = [false, true, false]
-            .map(|on| vec![idle, Setting { on, ..idle }])
-            .to_vec();
+        let rows = [false, true, false].map(|on| vec![idle, Setting { on, ..idle }]);
+        day.plan = Plan::plain(rows.to_vec());
     });
     let expected = [
         "3 2 2 0 rule 3 (minimum down time) at interval 2, device 2: starts 60 min after its last stop (in interval 1), at least 61 min (minimum down)",
@@ -453,7 +508,7 @@ fn floors_and_trajectories_in_words() {
     }
     let (idle, on) = (day.plan.intervals[0][0], day.plan.intervals[1][0]);
     let load = day.plan.intervals[1][1];
-    day.plan.intervals = vec![vec![on, load], vec![idle, load], vec![on, load]];
+    day.plan = Plan::plain(vec![vec![on, load], vec![idle, load], vec![on, load]]);
     let lines = lines_of("floors-on", &day);
     let of_19: Vec<&String> = lines
         .iter()
@@ -535,7 +590,7 @@ fn trajectories_that_meet_in_words() {
     };
     let (off, on) = (day.plan.intervals[0][0], day.plan.intervals[1][0]);
     let load = day.plan.intervals[1][1];
-    day.plan.intervals = vec![vec![on, load], vec![off, load], vec![on, load]];
+    day.plan = Plan::plain(vec![vec![on, load], vec![off, load], vec![on, load]]);
     set(&mut day, (2, 1), [20, 3, 40]);
     let expected = [
         "21 2 1 0 rule 21 (highest reactive power) at interval 2, device 1: reactive power with up reserve is 23 kvar (q 20 + qru 3), at most 22 kvar (qmax 11 x n 2; n is on 0 + startups 1 + shutdowns 1)",
@@ -624,6 +679,38 @@ fn a_large_day_in_words() {
         "20 0 63 2 rule 20 (starts in a window) at device 63, window 2: has 1 start (from minute 5700 before minute 5760), at most 0 starts",
     ];
     assert_eq!(lines_of("large", &day), expected);
+}
+
+/// The limit holds either way.
+#[test]
+fn flows_in_words() {
+    let expected = [
+        "27 1 0 0 rule 27 (link limit) at interval 1: flow is -150 kW, at least -149 kW",
+        "27 2 0 0 rule 27 (link limit) at interval 2: flow is 150 kW, at most 149 kW",
+    ];
+    let lines = lines_of("flows", &barred_day(149, [-150, 150]));
+    assert_eq!(lines, expected);
+}
+
+/// Rule 27 comes behind the devices of its interval, before those of the next and before rule 20.
+#[test]
+fn flows_stand_behind_their_devices_in_words() {
+    let mut day = barred_day(0, [1, -1]);
+    day.case.devices[1].terms[0].status = Status::Off;
+    day.case.devices[0].start_windows = vec![StartWindow {
+        start: 60,
+        end: 120,
+        most_starts: 0,
+    }];
+    day.plan.intervals[1][0].online_power = 151;
+    let expected = [
+        "1 1 2 0 rule 1 (fixed status) at interval 1, device 2: is on, must be off (fixed by the case)",
+        "27 1 0 0 rule 27 (link limit) at interval 1: flow is 1 kW, at most 0 kW",
+        "5 2 1 0 rule 5 (ramp up) at interval 2, device 1: power rises by 121 kW (from 30 to 151), at most 120 kW (60 min at 2 kW/min starting)",
+        "27 2 0 0 rule 27 (link limit) at interval 2: flow is -1 kW, at least 0 kW",
+        "20 0 1 1 rule 20 (starts in a window) at device 1, window 1: has 1 start (from minute 60 before minute 120), at most 0 starts",
+    ];
+    assert_eq!(lines_of("behind", &day), expected);
 }
 
 #[test]
@@ -735,6 +822,24 @@ fn inspect_prints_what_a_large_case_holds() {
     assert!(lines[70].ends_with("; no link; block floors to 0 kW in an interval"));
 }
 
+#[test]
+fn inspect_prints_what_a_case_of_edition_5_holds() {
+    let [case, _] = Scratch::new("inspect-5").day(&barred_day(150, [30, 150]));
+    let expected = "\
+case 2 2 0
+edition 5
+devices 2
+intervals 2: 2 x 60 min; 120 min in all
+zones 0
+mismatch price 1000 grains per kW min and kvar min of each bar
+overrun price 1 grains per kW min
+link limit 150 kW between bar 0 and bar 1
+device 1: producing; in no zone; initially off for 600 min at 0 kW; minimum up 60 min, down 60 min; ramps up 10, down 10, starting 2, stopping 2 kW/min; pmin from 150 kW, pmax to 200 kW; costs in grains: on 4 per min, start 10000, stop 0; startup states 2, start windows 0, energy windows 0; qmin from 0 kvar, qmax to 0 kvar; no link; block floors to 0 kW in an interval; on bar 0
+device 2: consuming; in no zone; initially on for 600 min at 30 kW; minimum up 0 min, down 0 min; ramps up 100, down 100, starting 100, stopping 100 kW/min; pmin from 0 kW, pmax to 200 kW; costs in grains: on 0 per min, start 0, stop 0; startup states 0, start windows 0, energy windows 0; qmin from 0 kvar, qmax to 0 kvar; no link; block floors to 0 kW in an interval; on bar 1
+";
+    assert_eq!(answer(&["inspect", &case], 0), expected);
+}
+
 /// Plans of the worked day that are damaged, and how each is refused behind `refused`; `{}` is the
 /// file.
 fn refused_plans(whole: &[u8]) -> [(Vec<u8>, &'static str); 5] {
@@ -815,7 +920,7 @@ fn another_edition_is_told() {
     }
     let [.., [newest, _]] = &messages;
     let mut case = fs::read(newest).expect("a case");
-    case[0] = 0x15;
+    case[0] = 0x16;
     let unknown = scratch.file("unknown", &case);
     let expected = format!("refused 2 4: case {unknown}: {meaning}");
     assert_eq!(complaint(&["inspect", &unknown], 2), expected);
@@ -831,7 +936,7 @@ fn a_day_that_is_too_large_is_told() {
         day.case.durations = vec![2; intervals];
         let idle = Device::plain(Side::Producing, vec![Terms::default(); intervals]);
         day.case.devices = vec![idle; devices];
-        day.plan.intervals = vec![vec![Setting::default(); devices]; intervals];
+        day.plan = Plan::plain(vec![vec![Setting::default(); devices]; intervals]);
         scratch.day(&day)
     };
     for (edition, devices, intervals, bit) in [
@@ -872,10 +977,33 @@ fn most_starts_above_96_are_told() {
     assert_eq!(complaint(&["judge", &above, &plan], 2), expected);
 }
 
+/// The link limit stands behind 53 bits of the case; the flow of interval 1 behind 22 of the plan and
+/// two devices of 206.
+#[test]
+fn flows_and_limits_out_of_their_range_are_told() {
+    let scratch = Scratch::new("flow-range");
+    let [case, plan] = scratch.day(&barred_day(100_000, [-100_000, 100_000]));
+    assert!(answer(&["judge", &case, &plan], 0).starts_with("accepted -"));
+    let mut bytes = fs::read(&case).expect("a case");
+    assert_eq!(field(&bytes, 53, 17), 100_000);
+    put(&mut bytes, 53, 17, 100_001);
+    let above = scratch.file("above", &bytes);
+    let expected = format!("refused 4 53: case {above}: a field out of its range");
+    assert_eq!(complaint(&["inspect", &above], 2), expected);
+    let mut bytes = fs::read(&plan).expect("a plan");
+    assert_eq!(field(&bytes, 434, 18), (1 << 18) - 100_000);
+    for flow in [100_001, (1 << 18) - 100_001] {
+        put(&mut bytes, 434, 18, flow);
+        let beyond = scratch.file("beyond", &bytes);
+        let expected = format!("refused 4 434: plan {beyond}: a field out of its range");
+        assert_eq!(complaint(&["judge", &case, &beyond], 2), expected);
+    }
+}
+
 /// Behind pmin 201 and pmax 200 of device 2 in interval 2 of edition 1: 50 + 16 of the front, 455 and
 /// 430 of device 1, 361 and 183 of device 2, and 19. qmin 12 and qmax 11 of device 1 in interval 1
 /// of edition 2: 66, 457 and 215, and 18. The floor of its first block in edition 3: 66, 457, 39 and
-/// 17; in edition 4 the front has 3 bits more.
+/// 17; in edition 4 the front has 3 bits more, in edition 5 another 17, and the device a bar.
 #[test]
 fn a_contradiction_in_a_case_is_told() {
     let scratch = Scratch::new("contradiction");
@@ -886,11 +1014,13 @@ fn a_contradiction_in_a_case_is_told() {
     let mut floored = floored_day();
     floored.case.devices[0].terms[0].blocks[0].floor = 101;
     let larger = in_edition(Edition::Four, floored.clone());
+    let barred = in_edition(Edition::Five, floored.clone());
     for (day, bit) in [
         (real, 1_514),
         (reactive, 756),
         (floored, 579),
         (larger, 582),
+        (barred, 600),
     ] {
         let [case, plan] = scratch.day(&day);
         let expected = format!(
@@ -1032,8 +1162,9 @@ impl Sentence {
     /// The place in words, from the numbers.
     fn expected_place(&self) -> String {
         let [_, interval, device, window] = self.numbers;
-        match window {
-            0 => format!("interval {interval}, device {device}"),
+        match (device, window) {
+            (0, _) => format!("interval {interval}"),
+            (_, 0) => format!("interval {interval}, device {device}"),
             _ => format!("device {device}, window {window}"),
         }
     }
@@ -1093,7 +1224,7 @@ const LONG: usize = 500;
 #[test]
 fn sentences_of_the_corpus_tell_figures_that_break_the_rule() {
     let scratch = Scratch::new("corpus");
-    let (mut broken, mut runs, mut lines) = (0, 0, [0; 27]);
+    let (mut broken, mut runs, mut lines) = (0, 0, [0; 28]);
     each_broken(|case, plan, list| {
         broken += 1;
         if broken % EVERY != 0 && list.len() < LONG {

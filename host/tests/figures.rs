@@ -7,8 +7,8 @@ use common::{each_case, each_pair};
 use host::day::Day;
 use host::explain::{explain, Breach};
 use host::message::{
-    read_case, read_plan, Block, Case, Cell, Device, Interval, Line, Link, Plan, Reactive, Setting,
-    StartWindow, Zone,
+    read_case, read_plan, Block, Case, Cell, Device, Interval, Line, Link, Plan, Reactive, Row,
+    Setting, StartWindow, Zone,
 };
 use reference::breaches::breaches_of;
 use reference::case::{self, Reserves, Side, Status};
@@ -32,6 +32,7 @@ fn case_of(edition: Edition, case: &case::Case) -> Case {
         zones: case.zones.iter().map(zone_of).collect(),
         mismatch_price: small(case.mismatch_price),
         overrun_price: small(case.overrun_price),
+        link_limit: small(case.link_limit),
         intervals: spans(&case.durations)
             .iter()
             .map(|span| Interval {
@@ -88,6 +89,7 @@ fn device_of(device: &case::Device) -> Device {
         start_windows: device.start_windows.iter().map(window_of).collect(),
         energy_windows: device.energy_windows.len(),
         link: link_of(&device.link),
+        bar: device.bar as i64,
         cells: device.terms.iter().map(cell_of).collect(),
     }
 }
@@ -133,9 +135,12 @@ fn plan_of(plan: &plan::Plan) -> Plan {
             qrd: small(setting.reactive_reserves.qrd),
         },
     };
-    let row = |row: &Vec<plan::Setting>| row.iter().map(setting).collect();
+    let row = |(settings, flow): (&Vec<plan::Setting>, &i128)| Row {
+        settings: settings.iter().map(setting).collect(),
+        flow: small(*flow),
+    };
     Plan {
-        settings: plan.intervals.iter().map(row).collect(),
+        rows: plan.intervals.iter().zip(&plan.flows).map(row).collect(),
     }
 }
 
@@ -199,15 +204,16 @@ fn forced_figures_are_the_references() {
 fn places(day: &Day) -> impl Iterator<Item = Breach> {
     let byte = |count: usize| u8::try_from(count).expect("a count");
     let (intervals, devices) = (byte(day.case.intervals.len()), byte(day.case.devices.len()));
-    let cells = (1..=intervals).flat_map(move |interval| {
-        (1..=devices).flat_map(move |device| {
+    let in_intervals = (1..=intervals).flat_map(move |interval| {
+        let cells = (1..=devices).flat_map(move |device| {
             let rules = (1..=19).chain(21..=26);
             rules.map(move |rule| Breach::from([rule, interval, device, 0]))
-        })
+        });
+        cells.chain([Breach::from([27, interval, 0, 0])])
     });
     let windows = (1..=devices)
         .flat_map(|device| (1..=4).map(move |window| Breach::from([20, 0, device, window])));
-    cells.chain(windows)
+    in_intervals.chain(windows)
 }
 
 /// Every rule that the reference lists is borne out, and no other.
@@ -232,14 +238,19 @@ fn places_outside_the_day_are_not_told() {
     each_day(|day, _, _| {
         let (intervals, devices) = (day.case.intervals.len() as u8, day.case.devices.len() as u8);
         for rule in 0..=255 {
-            for breach in [
+            // Rule 27 alone is of no device.
+            let of_no_device = (rule != 27).then_some([rule, 1, 0, 0]);
+            let outside = [
+                [rule, 0, 0, 0],
                 [rule, 0, 1, 0],
-                [rule, 1, 0, 0],
+                [rule, 1, 0, 1],
+                [rule, intervals + 1, 0, 0],
                 [rule, intervals + 1, 1, 0],
                 [rule, 1, devices + 1, 0],
                 [rule, 1, 1, 1],
                 [rule, 0, 1, 5],
-            ] {
+            ];
+            for breach in outside.into_iter().chain(of_no_device) {
                 assert_eq!(explain(day, Breach::from(breach)), None);
             }
         }
@@ -258,7 +269,7 @@ fn what_does_not_pass_reading_has_no_figures() {
         cut += 1;
         assert_eq!(read_case(&[message, &[0]].concat()), None);
         longer += 1;
-        for first in [0x10, 0x15, 0x1f, 0x21, 0x01] {
+        for first in [0x10, 0x16, 0x1f, 0x21, 0x01] {
             assert_eq!(read_case(&[&[first], &message[1..]].concat()), None);
         }
     });

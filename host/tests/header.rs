@@ -13,7 +13,7 @@ use reference::case::read_case;
 use reference::completion::completion_bits;
 use reference::edition::Edition;
 use reference::worked_day::{
-    example_batch, floor_days, lettered_days, reactive_days, two_set_day, Day,
+    example_batch, floor_days, lettered_days, link_days, reactive_days, two_set_day, Day,
 };
 
 const HOST: &str = env!("CARGO_MANIFEST_DIR");
@@ -148,6 +148,24 @@ fn edition_4_in_c() {
     );
 }
 
+/// Device 2 on bar 1: flows of 30 and 150 within a link limit of 150, then above one of 149.
+#[test]
+fn edition_5_in_c() {
+    let tell = |day: &Day| {
+        let (case, plan) = day.messages();
+        run("edition-5", &[&case, &plan])
+    };
+    let days = link_days();
+    assert_eq!(
+        tell(&days[0].1),
+        "inspect 0 2 2 0 0\njudge 0 167860 0 0 0\nshort 0 0 0 0 0\nbreaches 0 0 0 0 0\n"
+    );
+    assert_eq!(
+        tell(&days[1].1),
+        "inspect 0 2 2 0 0\njudge 1 27 2 0 0\nshort 4 7 4 0 0\nbreaches 0 1 0 0 0\n27 2 0 0\n"
+    );
+}
+
 /// The example batch has a case of 210 bytes (66, 455 and 430, 361 and 366 bits), two plans of 80
 /// (19 and 616) and one of 1.
 #[test]
@@ -179,8 +197,8 @@ fn figures_are_the_headers() {
         behind.split_whitespace().next()?.parse().ok()
     };
     for (name, wrapper, by_hand) in [
-        ("LONGEST_LIST", LONGEST_LIST, 615_424),
-        ("LONGEST_COMPLETION", LONGEST_COMPLETION, 70_324),
+        ("LONGEST_LIST", LONGEST_LIST, 615_808),
+        ("LONGEST_COMPLETION", LONGEST_COMPLETION, 70_876),
         ("LONGEST_MESSAGE", LONGEST_MESSAGE, 1_048_576),
         ("STACK", STACK, 1_500_000),
     ] {
@@ -198,5 +216,8 @@ fn longest_completion_is_that_of_the_largest_case() {
         let (_, case) = read_case(batch::messages(&largest)[0]).expect("it passes reading");
         completion_bits(edition, &case).div_ceil(8)
     });
-    assert_eq!(longest, [12_165, 13_887, 13_887, LONGEST_COMPLETION]);
+    assert_eq!(
+        longest,
+        [12_165, 13_887, 13_887, 70_324, LONGEST_COMPLETION]
+    );
 }

@@ -5,7 +5,7 @@
 use crate::fault::{Fault, Number};
 
 /// The highest power a 17-bit field may hold: "A 17-bit power is 0..100,000." The 18 bits of a
-/// reactive power hold as much either way.
+/// reactive power or a flow hold as much either way.
 pub const HIGHEST_POWER: i128 = 100_000;
 
 /// A place in a message "that advances by one field", with the first contradiction met so far.
@@ -101,8 +101,8 @@ impl<'a> FieldReader<'a> {
         self.figure(17, 0, HIGHEST_POWER)
     }
 
-    /// A reactive power or an offset "in kvar (18 bits, ±100,000)".
-    pub fn reactive_power(&mut self) -> Result<i128, Fault> {
+    /// A reactive power, an offset or a flow: "18 bits, ±100,000".
+    pub fn power_either_way(&mut self) -> Result<i128, Fault> {
         self.signed(18, HIGHEST_POWER)
     }
 

@@ -1,7 +1,8 @@
 //! The busiest day that a plan unit can be given: every count at its largest, each device a member
 //! of every zone, and a plan that starts or stops every device in every interval. From edition 2 on
 //! each device has two link lines and every reactive price, and reactive reserves while on;
-//! from edition 3 on each block has a floor.
+//! from edition 3 on each block has a floor; in edition 5 devices of both sides are on each bar, with
+//! a flow between.
 
 use crate::batch::join;
 use crate::case::{
@@ -35,7 +36,19 @@ fn busiest_day(edition: Edition, devices: usize, intervals: usize) -> Day {
     if edition.has_floors() {
         add_floors(&mut day.case);
     }
+    if edition.has_bars() {
+        add_bars(&mut day);
+    }
     day
+}
+
+/// Two devices on bar 0, two on bar 1, and so on; 20 kW from bar 0 to bar 1 in each interval.
+fn add_bars(day: &mut Day) {
+    for (number, device) in day.case.devices.iter_mut().enumerate() {
+        device.bar = number / 2 % 2;
+    }
+    day.case.link_limit = 20;
+    day.plan.flows.fill(20);
 }
 
 /// 10 kW of each of four blocks: of 50 kW, 10 are left to the best price.
@@ -85,6 +98,7 @@ fn case(devices: usize, intervals: usize) -> Case {
     Case {
         mismatch_price: 10,
         overrun_price: 1,
+        link_limit: 0,
         durations: vec![MINUTES; intervals],
         zones: vec![zone; MOST_ZONES],
         devices: (0..devices)
@@ -140,9 +154,6 @@ fn plan(devices: usize, intervals: usize) -> Plan {
         },
         ..Setting::default()
     };
-    Plan {
-        intervals: (0..intervals)
-            .map(|interval| vec![setting(interval); devices])
-            .collect(),
-    }
+    let settings = (0..intervals).map(|interval| vec![setting(interval); devices]);
+    Plan::plain(settings.collect())
 }

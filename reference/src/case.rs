@@ -1,4 +1,5 @@
-//! The case: its figures and its reading ("Messages", paragraph **Case**, A.1, A.6 and A.8).
+//! The case: its figures and its reading ("Messages", paragraph **Case**, A.1, A.6, A.8 and
+//! A.12).
 
 use crate::bits::FieldReader;
 use crate::edition::{read_edition, Edition};
@@ -11,6 +12,8 @@ pub const MOST_ZONES: usize = 4;
 pub const MOST_STATES: usize = 3;
 /// Start windows and energy windows of a device, blocks of an interval.
 pub const MOST_ITEMS: usize = 4;
+/// Busbars: bar 0 and bar 1, joined by a DC link (A.12).
+pub const BARS: usize = 2;
 /// Shortfalls of a zone, those of reactive reserves included.
 pub const MOST_SHORTFALLS: usize = 8;
 /// Minima of a zone in an interval, those of reactive reserves included.
@@ -21,11 +24,14 @@ const NEUTRAL_PRICE: i128 = 1;
 /// A day to be planned. Power kW, reactive power kvar, time minutes, energy kW·min, money grains.
 ///
 /// Where an edition's messages lack a figure, it has its neutral value: reactive limits, prices and
-/// minima 0, prices of reactive shortfalls 1, no link, "floors of 0".
+/// minima 0, prices of reactive shortfalls 1, no link, "floors of 0", "the sets of older editions on
+/// bar 0, limit 0".
 #[derive(Clone, PartialEq, Eq, Debug)]
 pub struct Case {
     pub mismatch_price: i128,
     pub overrun_price: i128,
+    /// The most kW that may flow between the bars, either way.
+    pub link_limit: i128,
     pub durations: Vec<i128>,
     pub zones: Vec<Zone>,
     pub devices: Vec<Device>,
@@ -254,6 +260,8 @@ pub struct Device {
     pub start_windows: Vec<StartWindow>,
     pub energy_windows: Vec<EnergyWindow>,
     pub link: Link,
+    /// 0 or 1.
+    pub bar: usize,
     /// Per interval.
     pub terms: Vec<Terms>,
 }
@@ -283,6 +291,7 @@ impl Device {
             start_windows: Vec::new(),
             energy_windows: Vec::new(),
             link: Link::None,
+            bar: 0,
             terms,
         }
     }
@@ -305,6 +314,11 @@ impl Case {
     pub fn has_floors(&self) -> bool {
         let terms = self.devices.iter().flat_map(|device| &device.terms);
         terms.map(Terms::sum_of_floors).any(|floors| floors > 0)
+    }
+
+    /// Whether any figure of A.12 has another than its neutral value.
+    pub fn has_bars(&self) -> bool {
+        self.link_limit != 0 || self.devices.iter().any(|device| device.bar != 0)
     }
 
     /// Whether any figure of A.1 has another than its neutral value.
@@ -336,6 +350,7 @@ fn read_content(fields: &mut FieldReader, form: Form, edition: Edition) -> Resul
     let zones = fields.count(edition.zones().width, 0, edition.zones().most)?;
     let mismatch_price = fields.figure(14, 1, 10_000)?;
     let overrun_price = fields.figure(14, 1, 10_000)?;
+    let link_limit = read_link_limit(fields, edition)?;
     let durations = list(intervals, || Ok(2 * fields.figure(8, 1, 180)?))?;
     let frame = Frame {
         edition,
@@ -346,10 +361,20 @@ fn read_content(fields: &mut FieldReader, form: Form, edition: Edition) -> Resul
     Ok(Case {
         mismatch_price,
         overrun_price,
+        link_limit,
         durations,
         zones: list(zones, || read_zone(fields, &frame))?,
         devices: list(devices, || read_device(fields, &frame))?,
     })
+}
+
+/// "the case a link limit (17 bits, after the overrun price)".
+fn read_link_limit(fields: &mut FieldReader, edition: Edition) -> Result<i128, Fault> {
+    if edition.has_bars() {
+        fields.power()
+    } else {
+        Ok(0)
+    }
 }
 
 /// What the reading of a zone or a device needs of the fields before it.
@@ -423,6 +448,7 @@ fn read_device(fields: &mut FieldReader, frame: &Frame) -> Result<Device, Fault>
             read_energy_window(fields, frame.last_end)
         })?,
         link: read_link(fields, edition)?,
+        bar: read_bar(fields, edition)?,
         terms: list(frame.intervals, || read_terms(fields, edition))?,
     })
 }
@@ -517,9 +543,14 @@ fn read_link(fields: &mut FieldReader, edition: Edition) -> Result<Link, Fault> 
     })
 }
 
+/// "each device a bar (1 bit, last before its intervals)".
+fn read_bar(fields: &mut FieldReader, edition: Edition) -> Result<usize, Fault> {
+    Ok(usize::from(edition.has_bars() && fields.flag()?))
+}
+
 fn read_link_line(fields: &mut FieldReader) -> Result<LinkLine, Fault> {
     Ok(LinkLine {
-        offset: fields.reactive_power()?,
+        offset: fields.power_either_way()?,
         slope: fields.signed(15, 10_000)?,
     })
 }
@@ -581,9 +612,9 @@ fn read_floor(fields: &mut FieldReader, cap: i128) -> Result<i128, Fault> {
 /// prices, and the reactive reserves' "prices of 14 bits (0..10,000)". "A qmin above qmax is a
 /// contradiction at qmax."
 fn read_reactive_terms(fields: &mut FieldReader, terms: &mut Terms) -> Result<(), Fault> {
-    terms.qmin = fields.reactive_power()?;
+    terms.qmin = fields.power_either_way()?;
     let first_bit_of_qmax = fields.place();
-    terms.qmax = fields.reactive_power()?;
+    terms.qmax = fields.power_either_way()?;
     if terms.qmin > terms.qmax {
         fields.contradiction_at(first_bit_of_qmax);
     }

@@ -8,7 +8,7 @@ use crate::edition::Edition;
 use crate::form::Largest;
 
 /// One more than the greatest number of a rule.
-const RULES: usize = 27;
+const RULES: usize = 28;
 /// One more than the greatest number of an edition.
 const EDITIONS: usize = Edition::ALL.len() + 1;
 
@@ -28,7 +28,7 @@ pub struct Census {
     pub empty_batches: usize,
     pub cases: usize,
     pub accepted: usize,
-    /// Plans by the first rule that they break, 1 to 26.
+    /// Plans by the first rule that they break, 1 to 27.
     pub broken: [usize; RULES],
     /// Entries in the lists of breaches, by rule.
     pub listed: [usize; RULES],

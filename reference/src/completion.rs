@@ -1,8 +1,8 @@
-//! The completion message: its fields and its bytes ("Messages", paragraph **Completion**, and
-//! A.1).
+//! The completion message: its fields and its bytes ("Messages", paragraph **Completion**,
+//! A.1 and A.12).
 
 use crate::bits::BitWriter;
-use crate::case::{Case, MOST_ITEMS, MOST_SHORTFALLS};
+use crate::case::{Case, BARS, MOST_ITEMS, MOST_SHORTFALLS};
 use crate::edition::Edition;
 
 pub const KIND_COMPLETION: i128 = 3;
@@ -23,10 +23,10 @@ pub struct IntervalChoices {
     pub devices: Vec<DeviceChoices>,
     /// Per zone, in W: rgu, rgd, scr, nsc, rru, rrd; then in var: qru, qrd.
     pub shortfalls: Vec<[i128; MOST_SHORTFALLS]>,
-    /// In kW.
-    pub mismatch: i128,
-    /// In kvar.
-    pub reactive_mismatch: i128,
+    /// Of each bar, in kW; of bar 0 alone where the edition has one busbar.
+    pub mismatches: [i128; BARS],
+    /// Of each bar, in kvar.
+    pub reactive_mismatches: [i128; BARS],
 }
 
 #[derive(Clone, Copy, PartialEq, Eq, Debug)]
@@ -83,7 +83,7 @@ pub fn completion_bytes(
 }
 
 /// "the reactive shortfalls (var, 33 bits each, after the zone's six) and mismatch (23 bits, after
-/// the real one) too".
+/// the real one) too"; "the real mismatches, bar 0 first, then the reactive alike".
 fn put_interval(message: &mut BitWriter, edition: Edition, interval: &IntervalChoices) {
     for device in &interval.devices {
         message.put(1, device.started);
@@ -98,8 +98,9 @@ fn put_interval(message: &mut BitWriter, edition: Edition, interval: &IntervalCh
             message.put(SHORTFALL_BITS, shortfall);
         }
     }
-    let mismatches = [interval.mismatch, interval.reactive_mismatch];
-    for &mismatch in &mismatches[..edition.mismatches()] {
+    let real = &interval.mismatches[..edition.bars()];
+    let reactive = &interval.reactive_mismatches[..edition.bars()];
+    for &mismatch in real.iter().chain(reactive).take(edition.mismatches()) {
         message.put(MISMATCH_BITS, mismatch);
     }
 }

@@ -31,7 +31,7 @@ use crate::packed::{output, pack, unpack};
 use crate::plan::{Plan, Setting};
 use crate::rng::Rng;
 use crate::tables;
-use crate::worked_day::{example_batch, floor_days, lettered_days, reactive_days, Day};
+use crate::worked_day::{example_batch, floor_days, lettered_days, link_days, reactive_days, Day};
 
 mod host;
 
@@ -134,7 +134,7 @@ const BATCH_SET: Set = Set {
 /// Each part has batches of every edition.
 const PARTS: [(&str, Maker); 14] = [
     (
-        "the paper's example batch, days (a) to (m), worked days of editions 2 and 3",
+        "the paper's example batch, days (a) to (m), worked days of later editions",
         |_| worked_days(),
     ),
     ("tiny days at the edges of the wording", |_| edge_days()),
@@ -205,8 +205,8 @@ fn batch_of_day(day: &Day) -> Vec<u8> {
 fn worked_days() -> Vec<Vec<u8>> {
     let mut batches = vec![example_batch()];
     batches.extend(lettered_days().iter().map(|(_, day)| batch_of_day(day)));
-    batches.extend(reactive_days().iter().map(|(_, day)| batch_of_day(day)));
-    batches.extend(floor_days().iter().map(|(_, day)| batch_of_day(day)));
+    let later = [reactive_days(), floor_days(), link_days()].concat();
+    batches.extend(later.iter().map(|(_, day)| batch_of_day(day)));
     batches
 }
 
@@ -411,8 +411,7 @@ fn cases_with_later_faults_in(rng: &mut Rng, edition: Edition) -> Vec<Vec<u8>> {
     }
     for &contradiction in contradictions(edition) {
         for _ in 0..3 {
-            let mut case = case_with_every_field(rng, edition).case;
-            while !contradict(rng, &mut case, contradiction) {}
+            let case = contradictory_case(rng, edition, contradiction);
             cases.push(encode_case(edition, &case).bytes);
         }
     }
@@ -421,6 +420,16 @@ fn cases_with_later_faults_in(rng: &mut Rng, edition: Edition) -> Vec<Vec<u8>> {
     }
     cases.extend(zone_bits_above_every_count(rng, edition));
     cases.into_iter().map(|case| join(&[case])).collect()
+}
+
+/// A case that contradicts itself in one way; another is drawn where the figures leave no room for it.
+fn contradictory_case(rng: &mut Rng, edition: Edition, contradiction: Contradiction) -> Case {
+    loop {
+        let mut case = case_with_every_field(rng, edition).case;
+        if contradict(rng, &mut case, contradiction) {
+            return case;
+        }
+    }
 }
 
 /// For each zone count and each zone above it, a case with that zone's bit alone set above it.
@@ -559,16 +568,17 @@ const LAST_DEVICE: usize = Largest::SMALL.devices - 1;
 
 /// Plans of the largest counts that keep every rule until device 16 in interval 48: there they are
 /// broken at one of rules 5 to 19 or 21 to 26, or switched off, which breaks rule 1 where the
-/// device must be on. In edition 3 at rules 17 to 19 alone, rule 19 several times; in edition 4 at
-/// few.
+/// device must be on. In edition 3 at rules 17 to 19 alone, rule 19 several times; in editions 4 and
+/// 5 at few.
 fn broken_at_the_end(rng: &mut Rng) -> Vec<Vec<u8>> {
     let all = |edition: Edition| (5..=edition.last_rule()).collect();
-    let endings: [(Edition, bool, Vec<u8>); 5] = [
+    let endings: [(Edition, bool, Vec<u8>); 6] = [
         (Edition::One, true, all(Edition::One)),
         (Edition::One, false, all(Edition::One)),
         (Edition::Two, true, all(Edition::Two)),
         (Edition::Three, true, vec![17, 18, 19, 19, 19, 19]),
-        (Edition::Four, true, vec![5, 19, 21]),
+        (Edition::Four, true, vec![19]),
+        (Edition::Five, true, vec![5, 21]),
     ];
     endings
         .map(|(edition, on, rules)| batch_broken_at_the_end(rng, edition, on, &rules))
@@ -624,9 +634,9 @@ fn random_batches(rng: &mut Rng) -> Vec<Vec<u8>> {
     for (size, count, plans) in [
         (Size::Tiny, 30, 20),
         (Size::Small, 60, 20),
-        (Size::Medium, 25, 12),
-        (Size::Large, 3, 5),
-        (Size::Full, 2, 5),
+        (Size::Medium, 20, 12),
+        (Size::Large, 3, 4),
+        (Size::Full, 2, 3),
     ] {
         for _ in 0..count {
             batches.push(random_batch(rng, Form::BATCH, size, plans));
@@ -637,8 +647,8 @@ fn random_batches(rng: &mut Rng) -> Vec<Vec<u8>> {
         for scale in [Scale::Low, Scale::Extreme] {
             let shape = Shape::random(rng, Size::Full);
             let sample = sample_of(rng, edition, &shape, scale);
-            let plans = [(); 2].map(|_| good_plan(rng, &sample));
-            batches.push(batch_of(edition, &sample.case, &plans));
+            let plan = good_plan(rng, &sample);
+            batches.push(batch_of(edition, &sample.case, &[plan]));
         }
     }
     batches
@@ -667,7 +677,7 @@ fn cases_with_many_states(rng: &mut Rng) -> Vec<Vec<u8>> {
             let plans = [(); 3].map(|_| good_plan(rng, &sample));
             batches.push(batch_of(edition, &sample.case, &plans));
             if count > MOST_STATES {
-                while !contradict(rng, &mut sample.case, Contradiction::PminAbovePmax) {}
+                contradict(rng, &mut sample.case, Contradiction::ZoneBitAboveCount);
                 batches.push(batch_of(edition, &sample.case, &plans[..1]));
             }
         }
@@ -699,7 +709,7 @@ fn metered_days(rng: &mut Rng) -> Vec<Vec<u8>> {
             batches.push(batch_of(*edition, case, &metered));
         }
     }
-    for edition in Edition::ALL {
+    for edition in [Edition::One, Edition::Two, Edition::NEWEST] {
         batches.push(batch_of_day(&most_breaches_day(edition, Largest::SMALL)));
     }
     batches
@@ -750,7 +760,7 @@ fn days_with_many_devices_or_intervals(rng: &mut Rng) -> Vec<Vec<u8>> {
         }
     }
     let (devices, intervals) = (Largest::SMALL.devices + 1, Largest::SMALL.intervals + 1);
-    batches.push(grown_day(rng, Edition::Four, devices, intervals));
+    batches.push(grown_day(rng, Edition::NEWEST, devices, intervals));
     batches
 }
 
@@ -814,7 +824,7 @@ fn readme(set: &Set, seed: u64, parts: &[Part], stdin: &[u8], stdout: &str) -> S
         totals_paragraph(&census),
         table(
             "| Rule | Plans, by the first rule broken | Breaches listed |",
-            (1..=26).map(|rule| rule_row(&census, rule)),
+            (1..=Edition::NEWEST.last_rule()).map(|rule| rule_row(&census, rule)),
         ),
         table(
             "| Edition | Cases read | Plans accepted | Broken | Refused |",
@@ -876,11 +886,9 @@ fn part_row(part: &Part) -> String {
     format!("| {} | {} | {bytes} |", part.about, part.batches.len())
 }
 
-fn rule_row(census: &Census, rule: usize) -> String {
-    format!(
-        "| {rule} | {} | {} |",
-        census.broken[rule], census.listed[rule]
-    )
+fn rule_row(census: &Census, rule: u8) -> String {
+    let at = usize::from(rule);
+    format!("| {rule} | {} | {} |", census.broken[at], census.listed[at])
 }
 
 fn edition_row(census: &Census, edition: Edition) -> String {
@@ -926,5 +934,5 @@ A plan has no field that could contradict another, so number 5 is never a plan's
 short buffer, which the batch program has not; the reference's own tests hold it. Two kinds of field
 of a case (its edition and, up to edition 3, its zone count) and one of a plan (its edition) are
 never cut: no byte ends before or inside them. Framing has the numbers 1 and 4 alone. Rules 21 to 26
-are there from edition 2 on; rule 19 has its lower bound from edition 3 on.
+are there from edition 2 on, rule 27 in edition 5; rule 19 has its lower bound from edition 3 on.
 ";

@@ -16,10 +16,12 @@ use crate::ours::{complete, complete_by, downtime};
 use crate::plan::{read_plan, Plan};
 use crate::rules::{broken_rules, most_fall, most_rise, Place};
 
+mod bars;
 mod counts;
 mod floors;
 mod reactive;
 
+use bars::{BAR_ACCEPTED_EDGES, BAR_BROKEN_EDGES};
 use counts::{COUNT_ACCEPTED_EDGES, LARGE_ACCEPTED_EDGES, LARGE_BROKEN_EDGES};
 use floors::{FLOOR_ACCEPTED_EDGES, FLOOR_BROKEN_EDGES};
 use reactive::{REACTIVE_ACCEPTED_EDGES, REACTIVE_BROKEN_EDGES};
@@ -41,8 +43,14 @@ const EDGES: (&[&[AcceptedEdge]], &[&[BrokenEdge]]) = (
         REACTIVE_ACCEPTED_EDGES,
         FLOOR_ACCEPTED_EDGES,
         COUNT_ACCEPTED_EDGES,
+        BAR_ACCEPTED_EDGES,
     ],
-    &[BROKEN_EDGES, REACTIVE_BROKEN_EDGES, FLOOR_BROKEN_EDGES],
+    &[
+        BROKEN_EDGES,
+        REACTIVE_BROKEN_EDGES,
+        FLOOR_BROKEN_EDGES,
+        BAR_BROKEN_EDGES,
+    ],
 );
 
 /// Those that plans can show in the host form alone.

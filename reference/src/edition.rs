@@ -5,7 +5,7 @@
 //! two is the case" but reading and writing.
 
 use crate::bits::FieldReader;
-use crate::case::MOST_ZONES;
+use crate::case::{BARS, MOST_ZONES};
 use crate::fault::Fault;
 use crate::form::Largest;
 
@@ -23,6 +23,9 @@ pub enum Edition {
     /// "Edition 4 holds all of 3, has 7-bit device and interval counts and 7-bit most starts
     /// (0..96), and raises the limits to 64 and 96." (A.8)
     Four,
+    /// "Edition 5 adds to 4: it gives each device a bar [...], the case a link limit [...], and the
+    /// plan, after each interval's devices, a flow from bar 0 to bar 1". (A.12)
+    Five,
 }
 
 /// A count's width in bits, and the most that it may say.
@@ -34,8 +37,14 @@ pub struct CountField {
 
 impl Edition {
     /// Every edition, oldest first.
-    pub const ALL: [Edition; 4] = [Edition::One, Edition::Two, Edition::Three, Edition::Four];
-    pub const NEWEST: Edition = Edition::Four;
+    pub const ALL: [Edition; 5] = [
+        Edition::One,
+        Edition::Two,
+        Edition::Three,
+        Edition::Four,
+        Edition::Five,
+    ];
+    pub const NEWEST: Edition = Edition::Five;
 
     /// The number that stands in a message.
     pub fn figure(self) -> i128 {
@@ -44,6 +53,7 @@ impl Edition {
             Edition::Two => 2,
             Edition::Three => 3,
             Edition::Four => 4,
+            Edition::Five => 5,
         }
     }
 
@@ -68,6 +78,11 @@ impl Edition {
         self >= Edition::Four
     }
 
+    /// Whether messages have the bars, the link's limit and the flows of A.12.
+    pub fn has_bars(self) -> bool {
+        self >= Edition::Five
+    }
+
     /// The editions before it, oldest first.
     pub fn older(self) -> impl Iterator<Item = Edition> {
         let all = Edition::ALL.into_iter();
@@ -83,7 +98,7 @@ impl Edition {
         }
     }
 
-    /// "devices 5 (1..16)", in edition 4 "7-bit".
+    /// "devices 5 (1..16)", from edition 4 on "7-bit".
     pub fn devices(self) -> CountField {
         CountField {
             width: if self.has_large_counts() { 7 } else { 5 },
@@ -91,7 +106,7 @@ impl Edition {
         }
     }
 
-    /// "intervals 6 (1..48)", in edition 4 "7-bit".
+    /// "intervals 6 (1..48)", from edition 4 on "7-bit".
     pub fn intervals(self) -> CountField {
         CountField {
             width: if self.has_large_counts() { 7 } else { 6 },
@@ -107,8 +122,8 @@ impl Edition {
         }
     }
 
-    /// "most starts 6 (0..48)", in edition 4 "7-bit most starts (0..96)": a figure that goes with
-    /// the interval count, whatever form reads it.
+    /// "most starts 6 (0..48)", from edition 4 on "7-bit most starts (0..96)": a figure that goes
+    /// with the interval count, whatever form reads it.
     pub fn most_starts(self) -> CountField {
         self.intervals()
     }
@@ -132,19 +147,32 @@ impl Edition {
         }
     }
 
-    /// How many mismatches an interval has: the real one, and "A reactive mismatch is priced like
-    /// the real one."
-    pub fn mismatches(self) -> usize {
-        if self.has_reactive_power() {
-            2
+    /// How many bars have mismatches of their own: "Item 2's one busbar then stands for editions 1
+    /// to 4".
+    pub fn bars(self) -> usize {
+        if self.has_bars() {
+            BARS
         } else {
             1
         }
     }
 
-    /// The greatest number of a rule: "Rules 21 to 26 [...] come after 19 and before 20."
-    pub fn last_rule(self) -> u8 {
+    /// How many mismatches an interval has: of each bar the real one and, from edition 2 on, the
+    /// reactive one, which "is priced like the real one."
+    pub fn mismatches(self) -> usize {
         if self.has_reactive_power() {
+            2 * self.bars()
+        } else {
+            self.bars()
+        }
+    }
+
+    /// The greatest number of a rule: "Rules 21 to 26 [...] come after 19 and before 20"; "Rule 27,
+    /// flow within the limit either way".
+    pub fn last_rule(self) -> u8 {
+        if self.has_bars() {
+            27
+        } else if self.has_reactive_power() {
             26
         } else {
             20

@@ -130,7 +130,7 @@ impl Encoder {
         self.figure(name, 17, HIGHEST_POWER, value);
     }
 
-    fn reactive_power(&mut self, name: &'static str, value: i128) {
+    fn power_either_way(&mut self, name: &'static str, value: i128) {
         self.signed(name, 18, HIGHEST_POWER, value);
     }
 
@@ -159,6 +159,10 @@ pub fn encode_case(edition: Edition, case: &Case) -> Encoded {
         edition.has_floors() || !case.has_floors(),
         "editions 1 and 2 cannot say a floor"
     );
+    assert!(
+        edition.has_bars() || !case.has_bars(),
+        "editions 1 to 4 cannot say a bar or a limit"
+    );
     let mut message = Encoder::default();
     message.kind("case kind", KIND_CASE);
     let editions = (Edition::ALL[0].figure(), Edition::NEWEST.figure());
@@ -168,6 +172,9 @@ pub fn encode_case(edition: Edition, case: &Case) -> Encoded {
     message.header_count("zones", edition.zones(), 0, case.zones.len());
     message.price("mismatch price", 14, 10_000, case.mismatch_price);
     message.price("overrun price", 14, 10_000, case.overrun_price);
+    if edition.has_bars() {
+        message.power("link limit", case.link_limit);
+    }
     for &duration in &case.durations {
         assert!(duration % 2 == 0, "a duration is sent as its half");
         message.price("d/2", 8, 180, duration / 2);
@@ -233,6 +240,9 @@ fn put_device(message: &mut Encoder, edition: Edition, device: &Device) {
     if edition.has_reactive_power() {
         put_link(message, &device.link);
     }
+    if edition.has_bars() {
+        message.figure("bar", 1, 1, device.bar as i128);
+    }
     for terms in &device.terms {
         put_terms(message, edition, terms);
     }
@@ -289,7 +299,7 @@ fn put_link(message: &mut Encoder, link: &Link) {
 }
 
 fn put_link_line(message: &mut Encoder, [offset, slope]: [&'static str; 2], line: &LinkLine) {
-    message.reactive_power(offset, line.offset);
+    message.power_either_way(offset, line.offset);
     message.signed(slope, 15, 10_000, line.slope);
 }
 
@@ -335,8 +345,8 @@ fn put_terms(message: &mut Encoder, edition: Edition, terms: &Terms) {
         message.figure(name, 14, 10_000, price);
     }
     if edition.has_reactive_power() {
-        message.reactive_power("qmin", terms.qmin);
-        message.reactive_power("qmax", terms.qmax);
+        message.power_either_way("qmin", terms.qmin);
+        message.power_either_way("qmax", terms.qmax);
         message.figure("qru price", 14, 10_000, terms.reactive_prices.qru);
         message.figure("qrd price", 14, 10_000, terms.reactive_prices.qrd);
     }
@@ -348,17 +358,27 @@ pub fn encode_plan(edition: Edition, plan: &Plan) -> Encoded {
         edition.has_reactive_power() || !plan.has_reactive_power(),
         "edition 1 cannot say a reactive figure"
     );
+    assert!(
+        edition.has_bars() || !plan.has_flows(),
+        "editions 1 to 4 cannot say a flow"
+    );
     let mut message = Encoder::default();
     let devices = plan.intervals[0].len();
     let intervals = plan.intervals.len();
+    assert_eq!(plan.flows.len(), intervals, "an interval has one flow");
     message.kind("plan kind", KIND_PLAN);
     message.kind("plan edition", edition.figure());
     let only = |count: usize| (count as i128, count as i128);
     let (device_bits, interval_bits) = (edition.devices().width, edition.intervals().width);
     message.count("plan devices", device_bits, only(devices), devices);
     message.count("plan intervals", interval_bits, only(intervals), intervals);
-    for setting in plan.intervals.iter().flatten() {
-        put_setting(&mut message, edition, setting);
+    for (settings, &flow) in plan.intervals.iter().zip(&plan.flows) {
+        for setting in settings {
+            put_setting(&mut message, edition, setting);
+        }
+        if edition.has_bars() {
+            message.power_either_way("flow", flow);
+        }
     }
     message.into_encoded()
 }
@@ -370,7 +390,7 @@ fn put_setting(message: &mut Encoder, edition: Edition, setting: &Setting) {
         message.power(name, reserve);
     }
     if edition.has_reactive_power() {
-        message.reactive_power("q", setting.reactive_power);
+        message.power_either_way("q", setting.reactive_power);
         message.power("qru", setting.reactive_reserves.qru);
         message.power("qrd", setting.reactive_reserves.qrd);
     }

@@ -1,7 +1,7 @@
 //! An independent reading of paper 01, "Plan unit: judging a day's commitment", with requests A.4
 //! (three startup states), A.3 (energy by the minute), A.5 (every broken rule), A.1 (reactive
-//! power: edition 2), A.6 (take-or-pay blocks: edition 3) and A.8 (sixty-four sets, ninety-six
-//! intervals: edition 4) of paper 02.
+//! power: edition 2), A.6 (take-or-pay blocks: edition 3), A.8 (sixty-four sets, ninety-six
+//! intervals: edition 4) and A.12 (two busbars and a DC link: edition 5) of paper 02.
 //!
 //! Written from the papers alone, it shares no code and no tables with the product that it is held
 //! against. Every figure is an `i128` and arithmetic is checked in every profile, so that nothing
@@ -25,8 +25,8 @@
 //! What tries it, and the product:
 //!
 //! - [`encode`]: writing of messages, with a record of their fields.
-//! - [`worked_day`]: the paper's worked day and example batch, the worked days of editions 2 and
-//!   3.
+//! - [`worked_day`]: the paper's worked day and example batch, the worked days of editions 2, 3
+//!   and 5.
 //! - [`busiest`], [`ordinary`]: the days on which instructions are counted.
 //! - [`rng`], [`generate`]: random cases, plans and batches from a seed.
 //! - [`rivals`]: other completions of a plan.

@@ -42,6 +42,11 @@ pub fn broken_rules_at(case: &Case, plan: &Plan, interval: usize, device: usize)
     Day { case, plan }.broken_rules_at(device, interval)
 }
 
+/// Whether rule 27 holds in an interval, counted from 1.
+pub fn keeps_rule_27(case: &Case, plan: &Plan, interval: usize) -> bool {
+    Day { case, plan }.keeps_rule_27(interval)
+}
+
 /// The start windows, from 1, in which a device breaks rule 20.
 pub fn windows_broken(case: &Case, plan: &Plan, device: usize) -> Vec<usize> {
     Day { case, plan }.windows_broken(device)
@@ -197,7 +202,14 @@ impl Day<'_> {
             self.intervals()
                 .all(|t| self.broken_rules_at(j, t).is_empty())
                 && self.windows_broken(j).is_empty()
-        })
+        }) && self.intervals().all(|t| self.keeps_rule_27(t))
+    }
+
+    /// "Rule 27: −limit ≤ flow ≤ limit."
+    fn keeps_rule_27(&self, t: usize) -> bool {
+        let flow = self.plan.flows[t - 1];
+        let limit = self.case.link_limit;
+        -limit <= flow && flow <= limit
     }
 
     /// The numbers of rules 1 to 19 and 21 to 26 that device `j` breaks in interval `t`.
@@ -360,10 +372,7 @@ impl Day<'_> {
                     && self
                         .zones()
                         .all(|z| self.shortfalls_suffice(z, t, &choices.shortfalls[z - 1]))
-                    && self.mismatch_suffices(choices.mismatch, |j| self.p(j, t))
-                    && self.mismatch_suffices(choices.reactive_mismatch, |j| {
-                        self.setting(j, t).reactive_power
-                    })
+                    && self.mismatches_suffice(t, choices)
             })
     }
 
@@ -474,15 +483,29 @@ impl Day<'_> {
         ]
     }
 
-    fn mismatch_suffices(&self, mismatch: i128, power: impl Fn(usize) -> i128) -> bool {
-        let sum_of = |side: Side| -> i128 {
-            self.devices()
-                .filter(|&j| self.device(j).side == side)
-                .map(&power)
-                .sum()
+    /// "Bar 0: real mismatch ≥ |consuming p + flow − producing p| of its sets; bar 1: ≥ |consuming p
+    /// − producing p − flow|. Reactive: |consuming q − producing q| of each bar."
+    fn mismatches_suffice(&self, t: usize, choices: &IntervalChoices) -> bool {
+        let p = |side, bar| self.sum_on_bar(side, bar, |j| self.p(j, t));
+        let q = |side, bar| self.sum_on_bar(side, bar, |j| self.setting(j, t).reactive_power);
+        let flow = self.plan.flows[t - 1];
+        let suffices = |mismatch: i128, load: i128, production: i128| {
+            mismatch >= load - production && mismatch >= production - load
         };
-        let difference = sum_of(Side::Consuming) - sum_of(Side::Producing);
-        mismatch >= difference && mismatch >= -difference
+        use Side::{Consuming, Producing};
+        let [real_0, real_1] = choices.mismatches;
+        let [reactive_0, reactive_1] = choices.reactive_mismatches;
+        suffices(real_0, p(Consuming, 0) + flow, p(Producing, 0))
+            && suffices(real_1, p(Consuming, 1), p(Producing, 1) + flow)
+            && suffices(reactive_0, q(Consuming, 0), q(Producing, 0))
+            && suffices(reactive_1, q(Consuming, 1), q(Producing, 1))
+    }
+
+    fn sum_on_bar(&self, side: Side, bar: usize, power: impl Fn(usize) -> i128) -> i128 {
+        self.devices()
+            .filter(|&j| self.device(j).side == side && self.device(j).bar == bar)
+            .map(power)
+            .sum()
     }
 
     fn overruns_suffice(&self, energy_rule: EnergyRule, completion: &Completion) -> bool {
@@ -554,8 +577,7 @@ impl Day<'_> {
                 reserve_costs += d * self.reserve_money(j, t);
             }
             shortfall_and_mismatch += d * self.shortfall_money(choices);
-            shortfall_and_mismatch += d * self.case.mismatch_price * choices.mismatch;
-            shortfall_and_mismatch += d * self.case.mismatch_price * choices.reactive_mismatch;
+            shortfall_and_mismatch += d * self.mismatch_money(choices);
         }
         let overrun: i128 = completion.overruns.iter().flatten().sum();
         consuming_blocks
@@ -576,6 +598,13 @@ impl Day<'_> {
             }
         }
         money
+    }
+
+    /// "All four cost d·mismatch price", here without d.
+    fn mismatch_money(&self, choices: &IntervalChoices) -> i128 {
+        let [real_0, real_1] = choices.mismatches;
+        let [reactive_0, reactive_1] = choices.reactive_mismatches;
+        self.case.mismatch_price * (real_0 + real_1 + reactive_0 + reactive_1)
     }
 
     fn block_money(&self, j: usize, t: usize, chosen: &DeviceChoices) -> i128 {

@@ -7,7 +7,7 @@
 
 use crate::case::{
     Block, Case, Device, EnergyKind, EnergyWindow, ReactiveReserves, Reserves, Side, Terms, Zone,
-    MOST_ITEMS, MOST_SHORTFALLS,
+    BARS, MOST_ITEMS, MOST_SHORTFALLS,
 };
 use crate::clock::Span;
 use crate::completion::{Completion, DeviceChoices, IntervalChoices};
@@ -80,14 +80,15 @@ impl Day<'_> {
         for (zone, shortfall) in self.case.zones.iter().zip(&shortfalls) {
             *surplus -= duration * product_sum(&zone.shortfall_prices, shortfall);
         }
-        let mismatch = self.mismatch(|j| self.forced[j].power[t]);
-        let reactive_mismatch = self.mismatch(|j| self.plan.intervals[t][j].reactive_power);
-        *surplus -= duration * self.case.mismatch_price * (mismatch + reactive_mismatch);
+        let mismatches = self.mismatches(t);
+        let reactive_mismatches = self.reactive_mismatches(t);
+        let all: i128 = mismatches.iter().chain(&reactive_mismatches).sum();
+        *surplus -= duration * self.case.mismatch_price * all;
         IntervalChoices {
             devices,
             shortfalls,
-            mismatch,
-            reactive_mismatch,
+            mismatches,
+            reactive_mismatches,
         }
     }
 
@@ -189,18 +190,28 @@ impl Day<'_> {
         held
     }
 
-    /// "Mismatch ≥ |consuming − producing p|", and of reactive power alike (000 (18)).
-    fn mismatch(&self, power: impl Fn(usize) -> i128) -> i128 {
-        let consuming_minus_producing: i128 = (0..self.forced.len())
-            .map(|j| {
-                if self.is_consuming(j) {
-                    power(j)
-                } else {
-                    -power(j)
-                }
-            })
-            .sum();
-        consuming_minus_producing.abs()
+    /// "Mismatch ≥ |consuming − producing p|" of each bar: "Flow counts as load on bar 0 and as
+    /// production on bar 1".
+    fn mismatches(&self, t: usize) -> [i128; BARS] {
+        let [bar_0, bar_1] = self.balances(|j| self.forced[j].power[t]);
+        let flow = self.plan.flows[t];
+        [(bar_0 + flow).abs(), (bar_1 - flow).abs()]
+    }
+
+    /// The same of reactive power (000 (18)): "the link carries no reactive power".
+    fn reactive_mismatches(&self, t: usize) -> [i128; BARS] {
+        let balances = self.balances(|j| self.plan.intervals[t][j].reactive_power);
+        balances.map(i128::abs)
+    }
+
+    /// What the devices of each bar consume less what they produce.
+    fn balances(&self, power: impl Fn(usize) -> i128) -> [i128; BARS] {
+        let mut balances = [0; BARS];
+        for (j, device) in self.case.devices.iter().enumerate() {
+            let sign = if self.is_consuming(j) { 1 } else { -1 };
+            balances[device.bar] += sign * power(j);
+        }
+        balances
     }
 
     fn overruns(&self, j: usize) -> Vec<i128> {

@@ -1,4 +1,4 @@
-//! The plan: its figures and its reading ("Messages", paragraph **Plan**, and A.1).
+//! The plan: its figures and its reading ("Messages", paragraph **Plan**, A.1 and A.12).
 
 use crate::bits::FieldReader;
 use crate::case::{Case, ReactiveReserves, Reserves};
@@ -11,6 +11,8 @@ pub const KIND_PLAN: i128 = 2;
 #[derive(Clone, PartialEq, Eq, Debug)]
 pub struct Plan {
     pub intervals: Vec<Vec<Setting>>,
+    /// Per interval, the "flow from bar 0 to bar 1" in kW; 0 where the edition has none.
+    pub flows: Vec<i128>,
 }
 
 /// What a plan sets for one device in one interval. The reactive figures are 0 where the edition
@@ -26,6 +28,19 @@ pub struct Setting {
 }
 
 impl Plan {
+    /// A plan without flows.
+    pub fn plain(intervals: Vec<Vec<Setting>>) -> Plan {
+        Plan {
+            flows: vec![0; intervals.len()],
+            intervals,
+        }
+    }
+
+    /// Whether any flow is other than 0.
+    pub fn has_flows(&self) -> bool {
+        self.flows.iter().any(|&flow| flow != 0)
+    }
+
     /// Whether any figure of A.1 is other than 0.
     pub fn has_reactive_power(&self) -> bool {
         self.intervals.iter().flatten().any(|setting| {
@@ -33,9 +48,9 @@ impl Plan {
         })
     }
 
-    /// The plan with every figure of A.1 at 0.
-    pub fn without_reactive_power(&self) -> Plan {
-        let mut plan = self.clone();
+    /// The plan with every figure of A.1 and A.12 at 0.
+    pub fn in_figures_of_edition_1(&self) -> Plan {
+        let mut plan = Plan::plain(self.intervals.clone());
         for setting in plan.intervals.iter_mut().flatten() {
             setting.reactive_power = 0;
             setting.reactive_reserves = ReactiveReserves::default();
@@ -54,18 +69,26 @@ pub fn read_plan(edition: Edition, case: &Case, message: &[u8]) -> Result<Plan, 
     fields.fixed(4, edition.figure())?;
     fields.count(edition.devices().width, devices, devices)?;
     fields.count(edition.intervals().width, intervals, intervals)?;
-    let mut plan = Plan {
-        intervals: Vec::with_capacity(intervals),
-    };
+    let mut plan = Plan::plain(Vec::with_capacity(intervals));
     for _ in 0..intervals {
         let mut settings = Vec::with_capacity(devices);
         for _ in 0..devices {
             settings.push(read_setting(&mut fields, edition)?);
         }
         plan.intervals.push(settings);
+        plan.flows.push(read_flow(&mut fields, edition)?);
     }
     fields.finish()?;
     Ok(plan)
+}
+
+/// "the plan, after each interval's devices, a flow from bar 0 to bar 1 (18 bits, ±100,000)".
+fn read_flow(fields: &mut FieldReader, edition: Edition) -> Result<i128, Fault> {
+    if edition.has_bars() {
+        fields.power_either_way()
+    } else {
+        Ok(0)
+    }
 }
 
 /// "on 1, online power 17, eight reserves 17 each"; "The plan gains q (as qmax) and two reactive
@@ -84,7 +107,7 @@ fn read_setting(fields: &mut FieldReader, edition: Edition) -> Result<Setting, F
         ..Setting::default()
     };
     if edition.has_reactive_power() {
-        setting.reactive_power = fields.reactive_power()?;
+        setting.reactive_power = fields.power_either_way()?;
         setting.reactive_reserves.qru = fields.power()?;
         setting.reactive_reserves.qrd = fields.power()?;
     }

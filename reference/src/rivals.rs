@@ -8,7 +8,8 @@ use crate::rng::Rng;
 
 /// Another completion of a plan, made from ours by a few random changes of the kinds that rules
 /// allow: power moved between blocks, above their floors or not, another startup state, more
-/// shortfall, mismatch or overrun. Reactive choices are changed where the edition's completions have them.
+/// shortfall, mismatch or overrun. Reactive choices and those of bar 1 are changed where the edition's
+/// completions have them.
 ///
 /// Whether it meets every rule is for [`crate::meets::meets`] to say.
 pub fn random_rival(
@@ -74,15 +75,17 @@ fn add_shortfall_or_mismatch(rng: &mut Rng, edition: Edition, rival: &mut Comple
     }
 }
 
-/// The mismatch of an interval, real or reactive.
+/// A mismatch of an interval, of any bar, real or reactive.
 fn any_mismatch<'a>(
     rng: &mut Rng,
     edition: Edition,
     interval: &'a mut IntervalChoices,
 ) -> &'a mut i128 {
-    match rng.below(edition.mismatches()) {
-        0 => &mut interval.mismatch,
-        _ => &mut interval.reactive_mismatch,
+    let bar = rng.below(edition.bars());
+    if edition.has_reactive_power() && rng.chance(50) {
+        &mut interval.reactive_mismatches[bar]
+    } else {
+        &mut interval.mismatches[bar]
     }
 }
 

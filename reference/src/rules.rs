@@ -19,9 +19,12 @@ pub struct Place {
 const RULES_OF_A_POINT: std::ops::RangeInclusive<u8> = 1..=19;
 /// The rule of a device's start windows.
 const RULE_OF_WINDOWS: u8 = 20;
+/// The rule of the flow between the bars.
+const RULE_OF_FLOW: u8 = 27;
 
 /// Every broken rule: "Checked by interval, then device, then number. Rule 20 comes after all
-/// intervals, by device, then window." Rules 21 to 26 "come after 19 and before 20".
+/// intervals, by device, then window." Rules 21 to 26 "come after 19 and before 20"; rule 27 "stands
+/// after an interval's devices".
 pub fn broken_rules<'a>(
     case: &'a Case,
     spans: &'a [Span],
@@ -29,13 +32,14 @@ pub fn broken_rules<'a>(
     forced: &'a [Forced],
 ) -> impl Iterator<Item = Place> + 'a {
     let at_points = (0..spans.len()).flat_map(move |t| {
-        (0..case.devices.len()).flat_map(move |j| {
+        let at_devices = (0..case.devices.len()).flat_map(move |j| {
             let setting = &plan.intervals[t][j];
             broken_at_point(
                 Point::new(&case.devices[j], spans, setting, &forced[j], t),
                 j,
             )
-        })
+        });
+        at_devices.chain(broken_by_flow(case, plan, t))
     });
     let in_windows = (0..case.devices.len())
         .flat_map(move |j| broken_in_windows(&case.devices[j], spans, &forced[j].commitment, j));
@@ -59,6 +63,17 @@ fn broken_at_point(point: Point<'_>, j: usize) -> impl Iterator<Item = Place> + 
             device: j + 1,
             window: 0,
         })
+}
+
+/// Rule 27, "flow within the limit either way", "with device 0 in its place".
+fn broken_by_flow(case: &Case, plan: &Plan, t: usize) -> Option<Place> {
+    let is_broken = plan.flows[t].abs() > case.link_limit;
+    is_broken.then_some(Place {
+        rule: RULE_OF_FLOW,
+        interval: t + 1,
+        device: 0,
+        window: 0,
+    })
 }
 
 /// The start windows of device `j` in which rule 20 is broken.

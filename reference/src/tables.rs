@@ -27,6 +27,7 @@ use crate::plan::{read_plan, Plan, Setting};
 use crate::rng::Rng;
 use crate::worked_day::Day;
 
+mod bars;
 mod counts;
 mod floors;
 mod reactive;
@@ -308,13 +309,12 @@ fn draft(side: Side, initially_on: bool, minutes: i128, on: &[bool]) -> Draft {
         case: Case {
             mismatch_price: 1,
             overrun_price: 3,
+            link_limit: 0,
             durations: vec![minutes; on.len()],
             zones: Vec::new(),
             devices: vec![device],
         },
-        plan: Plan {
-            intervals: on.iter().map(|on| vec![setting(on)]).collect(),
-        },
+        plan: Plan::plain(on.iter().map(|on| vec![setting(on)]).collect()),
     }
 }
 
@@ -377,6 +377,7 @@ pub fn written_rows() -> Vec<Row> {
     rows.extend(reactive::rows());
     rows.extend(floors::rows());
     rows.extend(counts::rows());
+    rows.extend(bars::rows());
     rows
 }
 

@@ -1,5 +1,5 @@
 //! "A two-set day": the paper's worked case, its plan, the variations (a) to (m), and those of
-//! editions 2 and 3 that were worked by hand.
+//! editions 2, 3 and 5 that were worked by hand.
 //!
 //! Only what is given as input stands here; the figures given as results are in the tests.
 
@@ -78,13 +78,12 @@ pub fn two_set_day() -> Day {
         case: Case {
             mismatch_price: 1_000,
             overrun_price: 1,
+            link_limit: 0,
             durations: vec![60, 60],
             zones: Vec::new(),
             devices: vec![device_1, device_2],
         },
-        plan: Plan {
-            intervals: vec![vec![off, on(30)], vec![on(150), on(150)]],
-        },
+        plan: Plan::plain(vec![vec![off, on(30)], vec![on(150), on(150)]]),
     }
 }
 
@@ -264,6 +263,25 @@ pub fn floor_days() -> Vec<ToldDay> {
             "floors 71 and 80 of device 1, above 150 kW",
             with_floors([71, 80]),
         ),
+    ]
+}
+
+/// The days of edition 5 that were worked by hand, in order: device 2 on bar 1.
+pub fn link_days() -> Vec<ToldDay> {
+    let linked = |link_limit, flows: [i128; 2]| {
+        let mut day = Day {
+            edition: Edition::Five,
+            ..two_set_day()
+        };
+        day.case.link_limit = link_limit;
+        day.case.devices[1].bar = 1;
+        day.plan.flows = flows.to_vec();
+        day
+    };
+    vec![
+        ("two bars in balance at the limit", linked(150, [30, 150])),
+        ("150 kW above a limit of 149", linked(149, [30, 150])),
+        ("30 kW the wrong way", linked(150, [-30, 150])),
     ]
 }
 

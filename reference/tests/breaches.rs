@@ -13,7 +13,7 @@ use reference::generate::plans::{good_plan, wild_plan};
 use reference::generate::sample::{random_sample, wild_case, Sample};
 use reference::generate::shape::Size;
 use reference::judge::{find, judge, Finding, Refusal, Verdict};
-use reference::meets::{broken_rules_at, windows_broken};
+use reference::meets::{broken_rules_at, keeps_rule_27, windows_broken};
 use reference::plan::{read_plan, Plan, Setting};
 use reference::rng::Rng;
 use reference::rules::Place;
@@ -117,9 +117,9 @@ fn a_rule_broken_in_two_ways_is_one_breach() {
         let device_2 = &mut day.case.devices[1];
         (device_2.minimum_up, device_2.minimum_down) = (200, 200);
         let idle = Setting::default();
-        day.plan.intervals = [false, true, false, true, false]
-            .map(|on| vec![idle, Setting { on, ..idle }])
-            .to_vec();
+        let settings =
+            [false, true, false, true, false].map(|on| vec![idle, Setting { on, ..idle }]);
+        day.plan = Plan::plain(settings.to_vec());
     });
     let expected = [[3, 2, 2, 0], [4, 3, 2, 0], [3, 4, 2, 0], [4, 5, 2, 0]];
     assert_eq!(switched, expected);
@@ -162,7 +162,8 @@ fn lists_at_the_largest_counts() {
 /// 16 devices: 15 rules in each of 48 intervals, from edition 2 on four more, rule 2 in 24, rule 3
 /// or 4 in 47, rule 20 in four windows; in all 12,720 breaches, 50,880 bytes, or 15,792 and 63,168.
 /// 64 devices: 19 rules in each of 96 intervals, rule 2 in 48, rule 3 or 4 in 95, rule 20 in four
-/// windows; 126,144 breaches, 504,576 bytes.
+/// windows; 126,144 breaches, 504,576 bytes. In edition 5 rule 27 in each interval: 15,840 and
+/// 126,240 breaches.
 #[test]
 fn the_longest_list() {
     let longest = [
@@ -171,6 +172,8 @@ fn the_longest_list() {
         (Edition::Three, Largest::SMALL, 15_792),
         (Edition::Four, Largest::SMALL, 15_792),
         (Edition::Four, Largest::LARGE, 126_144),
+        (Edition::Five, Largest::SMALL, 15_840),
+        (Edition::Five, Largest::LARGE, 126_240),
     ];
     for (edition, largest, count) in longest {
         let day = most_breaches_day(edition, largest);
@@ -257,6 +260,14 @@ fn second_list(case: &Case, plan: &Plan) -> Vec<Place> {
                 window: 0,
             }));
         }
+        if !keeps_rule_27(case, plan, interval) {
+            list.push(Place {
+                rule: 27,
+                interval,
+                device: 0,
+                window: 0,
+            });
+        }
     }
     for device in 1..=case.devices.len() {
         let broken = windows_broken(case, plan, device);
@@ -279,16 +290,18 @@ fn hold_to_second_writing(case: &Case, plan: &Plan) -> usize {
         Finding::Accepted { .. } => assert!(list.is_empty()),
         Finding::Broken(place) => assert_eq!(list.first(), Some(&place)),
     }
-    // Rule 20 has interval 0 in its place, and comes after all intervals.
+    // Rule 20 has interval 0 in its place, and comes after all intervals; rule 27 has device 0, and
+    // comes after all devices of its interval.
     let rank = |place: &Place| {
         let after_all = place.interval == 0;
+        let after_devices = place.device == 0;
         let Place {
             rule,
             interval,
             device,
             window,
         } = *place;
-        (after_all, interval, device, rule, window)
+        (after_all, interval, after_devices, device, rule, window)
     };
     assert!(list.windows(2).all(|pair| rank(&pair[0]) < rank(&pair[1])));
     list.len()

@@ -9,12 +9,14 @@ use reference::ordinary::ordinary_batch;
 use reference::plan::read_plan;
 
 /// Editions and counts, with the largest messages of each: case, plan and completion.
-const DAYS: [(Edition, [usize; 2], [usize; 3]); 5] = [
+const DAYS: [(Edition, [usize; 2], [usize; 3]); 7] = [
     (Edition::One, [16, 48], [29_812, 14_787, 12_165]),
     (Edition::Two, [16, 48], [37_203, 19_779, 13_887]),
     (Edition::Three, [16, 48], [43_731, 19_779, 13_887]),
     (Edition::Four, [16, 48], [43_739, 19_779, 13_888]),
     (Edition::Four, [64, 96], [328_103, 158_211, 70_324]),
+    (Edition::Five, [16, 48], [43_743, 19_887, 14_164]),
+    (Edition::Five, [64, 96], [328_113, 158_427, 70_876]),
 ];
 
 /// Holds that a batch is a case and two plans of these lengths, and that both plans are accepted.
@@ -66,6 +68,7 @@ fn ordinary_day_is_accepted() {
             assert_eq!(is_linked, edition.has_reactive_power());
         }
         assert_eq!(plan.has_reactive_power(), edition.has_reactive_power());
+        assert_eq!(case.has_bars() && plan.has_flows(), edition.has_bars());
     }
 }
 

@@ -31,10 +31,10 @@ fn reference_is_held_to_the_corpus() {
         "{census}"
     );
     assert!(
-        census.listed[1..].iter().all(|&count| count >= 300),
+        census.listed[1..].iter().all(|&count| count >= 150),
         "{census}"
     );
-    assert_eq!(census.longest_list, 15_792);
+    assert_eq!(census.longest_list, 15_840);
     assert!(
         census.refused_cases[1..].iter().all(|&count| count >= 5),
         "{census}"
@@ -50,7 +50,7 @@ fn reference_is_held_to_the_corpus() {
     assert_eq!(census.greatest, [16, 48, 4]);
     for edition in Edition::ALL {
         let of = census.of(edition);
-        assert!(of.cases >= 100 && of.accepted >= 200, "{census}");
+        assert!(of.cases >= 90 && of.accepted >= 200, "{census}");
         assert!(of.broken >= 250 && of.refused >= 250, "{census}");
     }
 }
@@ -61,7 +61,7 @@ fn reference_is_held_to_the_corpus_of_the_host_form() {
     let census = check(&directory, Form::HOST, DEFAULT_SEED).expect("the corpus holds");
     println!("{census}");
     assert_eq!(census.greatest, [64, 96, 4]);
-    assert_eq!(census.longest_list, 126_144);
+    assert_eq!(census.longest_list, 126_240);
     assert!((20..=40).contains(&census.batches), "{census}");
     assert!(
         census.large.accepted >= 15 && census.large.broken >= 10,

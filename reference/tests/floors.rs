@@ -208,7 +208,7 @@ fn floors_do_not_bind_where_trajectories_meet() {
             let load = day.plan.intervals[1][1];
             let mut low = load;
             low.online_power = 60;
-            day.plan.intervals = vec![vec![on, load], vec![off, low], vec![on, load]];
+            day.plan = Plan::plain(vec![vec![on, load], vec![off, low], vec![on, load]]);
         })
     };
     assert_eq!(with_floors([0, 0, 0]), Ok(346_720));

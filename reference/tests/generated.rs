@@ -89,7 +89,7 @@ fn good_plans_are_accepted() {
 
 #[test]
 fn broken_plans_break_the_rule_they_are_made_to_break() {
-    let mut made = [0; 27];
+    let mut made = [0; 28];
     for (mut rng, sample) in samples(200) {
         for rule in 1..=sample.edition.last_rule() {
             if let Some(plan) = plan_breaking(&mut rng, &sample, rule) {
@@ -186,8 +186,8 @@ fn hold_to_fields(message: &Encoded, read: impl Fn(&[u8]) -> Result<(), Fault>) 
     }
 }
 
-/// The fields that editions 2 and 3 add to case and plan.
-const FIELDS_OF_LATER_EDITIONS: [&str; 19] = [
+/// The fields that editions 2, 3 and 5 add to case and plan.
+const FIELDS_OF_LATER_EDITIONS: [&str; 22] = [
     "qru shortfall price",
     "qrd shortfall price",
     "qru minimum",
@@ -207,6 +207,9 @@ const FIELDS_OF_LATER_EDITIONS: [&str; 19] = [
     "qru",
     "qrd",
     "block floor",
+    "link limit",
+    "bar",
+    "flow",
 ];
 
 #[test]

@@ -18,6 +18,7 @@ use reference::generate::shape::Size;
 use reference::judge::{find, judge, Finding, Verdict};
 use reference::meets::{broken_rules_at, keeps_every_rule, meets, surplus_of};
 use reference::ours::complete;
+use reference::plan::Plan;
 use reference::reactive::ReactivePoint;
 use reference::rng::Rng;
 use reference::rules::Place;
@@ -443,7 +444,7 @@ fn meeting(day: &mut Day) {
     day.case.devices[0].initial_power = 150;
     let (off, on) = (day.plan.intervals[0][0], day.plan.intervals[1][0]);
     let load = day.plan.intervals[1][1];
-    day.plan.intervals = vec![vec![on, load], vec![off, load], vec![on, load]];
+    day.plan = Plan::plain(vec![vec![on, load], vec![off, load], vec![on, load]]);
     limit(day, 1, (-5, 5));
 }
 

@@ -211,7 +211,7 @@ fn surplus_goes_by_the_choices_as_they_stand() {
         surplus_with(|c| c.intervals[0].devices[1].blocks[0] += 1),
         1_200
     );
-    assert_eq!(surplus_with(|c| c.intervals[0].mismatch += 1), -60_000);
+    assert_eq!(surplus_with(|c| c.intervals[0].mismatches[0] += 1), -60_000);
 }
 
 /// Of the worked day in a zone, −372,560: reactive shortfalls in var at 3 and 5, mismatch in kvar
@@ -241,9 +241,9 @@ fn reactive_choices_are_at_or_above_their_needs() {
         assert_eq!(less, None);
     }
     for t in [0, 1] {
-        let more = surplus_with(&|c| c.intervals[t].reactive_mismatch += 1);
+        let more = surplus_with(&|c| c.intervals[t].reactive_mismatches[0] += 1);
         assert_eq!(more, Some(-60_000));
-        let less = surplus_with(&|c| c.intervals[t].reactive_mismatch -= 1);
+        let less = surplus_with(&|c| c.intervals[t].reactive_mismatches[0] -= 1);
         assert_eq!(less, None);
     }
 }

@@ -3,6 +3,7 @@
 
 use reference::case::{Reserves, StartWindow, Status};
 use reference::judge::{find, Finding};
+use reference::plan::Plan;
 use reference::rules::Place;
 use reference::worked_day::{two_set_day, Day};
 
@@ -344,7 +345,7 @@ fn rule_18_pmax_while_off() {
             let off = day.plan.intervals[0][0];
             let on = day.plan.intervals[1][0];
             let load = day.plan.intervals[1][1];
-            day.plan.intervals = vec![vec![on, load], vec![off, load], vec![on, load]];
+            day.plan = Plan::plain(vec![vec![on, load], vec![off, load], vec![on, load]]);
         })
     };
     assert_eq!(reach_back(2), None);

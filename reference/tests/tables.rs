@@ -390,8 +390,97 @@ const COUNT_VERDICTS: [&str; 37] = [
     "refused case 3 8",
 ];
 
+/// What each written row of edition 5 must give, in order.
+const BAR_VERDICTS: [&str; 51] = [
+    // The two-set day.
+    "accepted 167860",
+    "broken 27 2 0 0",
+    "accepted -7032140",
+    // Days of older editions: their verdicts there.
+    "accepted 167860",
+    "broken 5 2 1 0",
+    "accepted -372560",
+    "accepted 164260",
+    // 1,400 and, for 10 minutes, 20 + 0; 0 + 20; 40 + 20; 0 + 20; 20 + 0; 20 + 40 kW of mismatch.
+    "accepted -1600",
+    "accepted -1600",
+    "accepted -2000",
+    "accepted -1600",
+    "accepted -1600",
+    "accepted -2000",
+    // 0 + 20; 40 + 20; 99,980 + 100,000; 100,020 + 100,000 kW of mismatch.
+    "accepted -1600",
+    "broken 27 1 0 0",
+    "accepted -2000",
+    "broken 27 1 0 0",
+    "broken 27 1 0 0",
+    "accepted -2001200",
+    "accepted -2001600",
+    // Blocks of both sides cancel: 0; 20 + 20; 0; 1 + 1; 40 + 40 kW; 0, then 5 + 5 kvar; a share of
+    // 1,000 W in rgu, scr and nsc, then 1 + 1 kW more.
+    "accepted 0",
+    "accepted -400",
+    "accepted 0",
+    "accepted -20",
+    "accepted -800",
+    "accepted 0",
+    "accepted -100",
+    "accepted -30000",
+    "accepted -30020",
+    // Refusals; bar 1 leaves 20 kW of mismatch on bar 0 and 40 on bar 1.
+    "refused case 4 53",
+    "refused case 4 53",
+    "refused case 4 39",
+    "accepted -2000",
+    "refused case 4 439",
+    "refused case 6 706",
+    "refused plan 4 228",
+    "refused plan 4 228",
+    "refused plan 4 228",
+    "refused plan 6 246",
+    "refused case 1 53",
+    "refused case 1 70",
+    "refused plan 1 211",
+    "refused plan 1 228",
+    "refused plan 1 228",
+    // Editions.
+    "refused plan 2 4",
+    "refused plan 2 4",
+    "accepted -1600",
+    "accepted -1600",
+    // Lists.
+    "broken 27 1 0 0",
+    "broken 27 1 0 0",
+    "broken 27 1 0 0",
+];
+
 /// A list of breaches.
 type List = &'static [[u8; 4]];
+
+/// The lists of the last three rows of edition 5.
+const BAR_LISTS: [List; 3] = [
+    &[
+        [27, 1, 0, 0],
+        [7, 2, 1, 0],
+        [9, 2, 1, 0],
+        [10, 2, 1, 0],
+        [27, 2, 0, 0],
+        [20, 0, 1, 1],
+    ],
+    &[
+        [27, 1, 0, 0],
+        [7, 2, 1, 0],
+        [9, 2, 1, 0],
+        [10, 2, 1, 0],
+        [7, 2, 2, 0],
+        [9, 2, 2, 0],
+        [10, 2, 2, 0],
+        [27, 2, 0, 0],
+        [20, 0, 1, 1],
+        [20, 0, 2, 1],
+    ],
+    &[[27, 1, 0, 0]],
+];
 
 /// The lists of the last three rows of edition 3.
 const FLOOR_LISTS: [List; 3] = [
@@ -458,7 +547,7 @@ const LISTS: [List; 10] = [
 fn written_rows_give_what_was_worked_out() {
     let rows = written_rows();
     let of_older = [&VERDICTS[..], &REACTIVE_VERDICTS, &FLOOR_VERDICTS].concat();
-    let verdicts = [&of_older[..], &COUNT_VERDICTS].concat();
+    let verdicts = [&of_older[..], &COUNT_VERDICTS, &BAR_VERDICTS].concat();
     assert_eq!(rows.len(), verdicts.len());
     for (row, verdict) in rows.iter().zip(verdicts) {
         let printed = row.printed();
@@ -473,11 +562,13 @@ fn lists_of_written_rows_are_what_was_worked_out() {
     let rows = written_rows();
     let (of_edition_1, later) = rows.split_at(VERDICTS.len());
     let (of_edition_2, later) = later.split_at(REACTIVE_VERDICTS.len());
-    let (of_edition_3, _) = later.split_at(FLOOR_VERDICTS.len());
-    let of_editions: [(&[Row], &[List]); 3] = [
+    let (of_edition_3, later) = later.split_at(FLOOR_VERDICTS.len());
+    let (_, of_edition_5) = later.split_at(COUNT_VERDICTS.len());
+    let of_editions: [(&[Row], &[List]); 4] = [
         (of_edition_1, &LISTS),
         (of_edition_2, &REACTIVE_LISTS),
         (of_edition_3, &FLOOR_LISTS),
+        (of_edition_5, &BAR_LISTS),
     ];
     let with_lists = of_editions.into_iter().flat_map(|(rows, lists)| {
         let last = &rows[rows.len() - lists.len()..];
@@ -507,8 +598,8 @@ fn lists_begin_with_the_verdict() {
 }
 
 /// Small enough to be worked out by hand; the paper's worked case has 210 bytes, in edition 2 and
-/// with a zone 278, in edition 3 290, in edition 4 291.
-const MOST_CASE_BYTES: usize = 291;
+/// with a zone 278, in edition 3 290, in edition 4 291, in edition 5 293.
+const MOST_CASE_BYTES: usize = 293;
 
 #[test]
 fn rows_reach_every_rule_and_every_refusal() {
@@ -523,7 +614,7 @@ fn rows_reach_every_rule_and_every_refusal() {
             Verdict::Refused(Refusal::BufferTooShort { .. }) => ("buffer", 7),
         });
     }
-    assert!((1..=26).all(|rule| reached.contains(&("rule", rule))));
+    assert!((1..=27).all(|rule| reached.contains(&("rule", rule))));
     assert!((1..=6).all(|number| reached.contains(&("case", number))));
     assert!([1, 2, 3, 4, 6]
         .iter()

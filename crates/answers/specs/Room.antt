@@ -35,7 +35,7 @@ module _ (x : Stated) (r : SystemRange (x .case .system)) (few : devices (x .cas
       (all-upTo _ (devices q) (λ i l. all-at (DeviceRange (length (q .halves))) noDevice (q .devices) (r .eachDevice) i l .energies)) in
       omega (arith, s, length-range 0 (devices q), few)
 
-  interval-small : intervalWidth (x .edition) (devices q) (zones q) ≤ 2270
+  interval-small : intervalWidth (x .edition) (devices q) (zones q) ≤ 2316
   interval-small = omega (arith, interval-few (x .edition) (devices q) (zones q) 16 mostZones few (r .zones))
 
   pub completion-fits : (p : Plan) → length (completionBytes x p) ≤ resultRoom

@@ -1,7 +1,7 @@
 -- The breaches of a word's bits, from its lowest on, and the loop that notes them.
 use mathlib.Core.Path.{_≡_, refl, ap}
-use mathlib.Core.Bool.{Bool, true, false}
-use mathlib.Core.List.{List, [], _∷_, _++_, map}
+use mathlib.Core.Bool.{Bool}
+use mathlib.Core.List.{List, [], _++_, map}
 use Prim.Native.Nat.{ℕ, suc, _+_, _-_, _/_, _%_, _≤_, _<_}
 use native.Mathlib.Omega.{arith}
 use native.Mathlib.Decide.{decLe}
@@ -9,9 +9,8 @@ use borrow.Author.Tests.{eq-eqb, ne-eqb}
 use lib.Dec.{eqb}
 use lib.ListN.{length, length-append}
 use Rattle.model.specs.declared.Breach.{Breach}
-use Rattle.model.specs.Rules.{cellBreach, windowBreach}
+use Rattle.model.specs.Rules.{cellBreach, linkBreach, windowBreach}
 use Rattle.model.specs.Editions.{mostDevices, mostIntervals, mostWindows}
-use Rattle.model.specs.Breaches.{unless}
 use Rattle.cell_bounds.specs.Word.{bitsFrom, numbersIn}
 use Rattle.breach_entries.specs.Noted.{noteIf, Notes, NotesLeft, left-start, left-part, left-done, InBytes}
 
@@ -76,3 +75,6 @@ cell-bytes h l m e = rw e (record { rule = omega arith; interval = omega arith; 
 
 pub window-bytes : {i w : ℕ} {x : Breach} → i < mostDevices → w < mostWindows → x ≡ windowBreach i w 20 → InBytes x
 window-bytes h l e = rw e (record { rule = omega arith; interval = omega arith; device = omega arith; window = omega arith })
+
+pub link-bytes : {t : ℕ} {x : Breach} → t < mostIntervals → x ≡ linkBreach t 27 → InBytes x
+link-bytes h e = rw e (record { rule = omega arith; interval = omega arith; device = omega arith; window = omega arith })

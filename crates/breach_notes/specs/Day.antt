@@ -1,6 +1,6 @@
 -- The day's breaches by the rows' counts, and a cell's by its word.
 use mathlib.Core.Path.{_≡_, refl, sym, ap}
-use mathlib.Core.List.{List, map}
+use mathlib.Core.List.{List}
 use Prim.Native.Nat.{ℕ, _+_, _*_, _≤_}
 use native.Mathlib.Omega.{arith}
 use native.Mathlib.Nat.{mul-le-mul, le-refl}
@@ -8,14 +8,14 @@ use lib.ListN.{length, length-append}
 use Rattle.numbers.specs.Base.{range, upTo, gather}
 use Rattle.model.specs.Case.{System, Plan}
 use Rattle.model.specs.Forced.{intervals}
-use Rattle.model.specs.Rules.{cellBreach, cellNumbers}
+use Rattle.model.specs.Rules.{cellNumbers}
 use Rattle.model.specs.Breaches.{failing, cellTests, cellBreaches, windowBreaches, breaches}
 use Rattle.model.specs.declared.Breach.{Breach}
 use Rattle.row_places.specs.declared.Front.{Front}
-use Rattle.records.specs.Views.{systemIn, planIn, CaseRows}
+use Rattle.records.specs.Views.{systemIn, planIn, mostDevices, CaseRows}
 use Rattle.records.specs.Viewed.{devices-are, intervals-are}
 use Rattle.cell_bounds.specs.Word.{numbersIn}
-use Rattle.failing_rules.specs.Day.{intervalBreaches, dayBreaches, dayWindows, day-is}
+use Rattle.failing_rules.specs.Day.{intervalCells, intervalBreaches, dayBreaches, dayWindows, day-is}
 use Rattle.listings.specs.Sizes.{breaches-few}
 use Rattle.breach_entries.specs.Noted.{Notes, notes-as, notes-append, mostEntries}
 use Rattle.breach_notes.specs.Bits.{wordBreaches}
@@ -32,9 +32,9 @@ module _ (halves : List ℕ) (zones minima devices cells settings : List (List �
   abbrev p : Plan
   p = planIn (length devices) (length halves) settings
 
-  pub interval-is : (t : ℕ) → intervalBreaches q p t ≡ gather (cellBreaches q p t) (upTo (length devices))
-  unfolding intervalBreaches
-  interval-is t = rw (devices-are halves zones minima devices cells) refl
+  pub interval-cells : (t : ℕ) → intervalCells q p t ≡ gather (cellBreaches q p t) (upTo (length devices))
+  unfolding intervalCells
+  interval-cells t = rw (devices-are halves zones minima devices cells) refl
 
   pub cells-are : dayBreaches q p ≡ gather (intervalBreaches q p) (upTo (length halves))
   unfolding dayBreaches
@@ -62,6 +62,10 @@ module _ (halves : List ℕ) (zones minima devices cells settings : List (List �
     pub few : r ≤ mostEntries
 
   module _ {front : Front} (rows : CaseRows front halves zones minima devices cells) where
+    -- each rule of each device in an interval, and the link's
+    each : length devices * length cellNumbers + 1 ≤ mostDevices * length cellNumbers + 1
+    each = omega (arith, mul-le-mul (rows .few-devices) (le-refl (length cellNumbers)))
+
     all-few : length (dayBreaches sys plan) + length (dayWindows sys plan) ≤ mostEntries
     unfolding range
     all-few = omega (
@@ -69,12 +73,12 @@ module _ (halves : List ℕ) (zones minima devices cells settings : List (List �
       breaches-few sys plan (rows .range .system),
       ap length (day-is sys plan),
       length-append (dayBreaches sys plan) (dayWindows sys plan),
-      mul-le-mul (rows .few-intervals) (mul-le-mul (rows .few-devices) (le-refl (length cellNumbers))),
+      mul-le-mul (rows .few-intervals) each,
       rows .few-devices,
       devices-are halves zones minima devices cells,
       intervals-are halves zones minima devices cells,
-      ap (λ (n : ℕ). intervals sys * (n * length cellNumbers)) (devices-are halves zones minima devices cells),
-      ap (λ (m : ℕ). m * (length devices * length cellNumbers)) (intervals-are halves zones minima devices cells),
+      ap (λ (n : ℕ). intervals sys * (n * length cellNumbers + 1)) (devices-are halves zones minima devices cells),
+      ap (λ (m : ℕ). m * (length devices * length cellNumbers + 1)) (intervals-are halves zones minima devices cells),
     )
 
     pub cells-room : 0 + length (dayBreaches sys plan) ≤ mostEntries

@@ -1,3 +1,4 @@
 pub mod Bits
 pub mod Windows
+pub mod Link
 pub mod Day

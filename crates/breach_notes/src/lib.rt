@@ -8,12 +8,14 @@ ghost use Rattle.breach_entries.specs.Noted.{Notes, mostEntries};
 ghost use Rattle.failing_rules.specs.Parts.{windowsHere};
 ghost use Rattle.breach_notes.specs.Bits.{wordBreaches};
 ghost use Rattle.breach_notes.specs.Day.{NotesAll};
-ghost use Rattle.failing_rules.specs.Day.{intervalBreaches, dayBreaches, dayWindows};
+ghost use Rattle.failing_rules.specs.Day.{intervalCells, intervalBreaches, dayBreaches, dayWindows};
 use breach_entries::note_if;
 use device_rows::device_at;
 use failing_rules::cell_breach;
 use failing_rules::failing_in;
+use failing_rules::link_breach;
 use failing_rules::window_breach;
+use link_rules::link_kept;
 use row_places::CellRow;
 use row_places::Device;
 use row_places::DeviceRow;
@@ -83,7 +85,7 @@ fn note_cell(
 }
 
 // Rules 1 to 19 and 21 to 26 of the devices in an interval.
-fn note_interval(
+fn note_interval_cells(
     front: Front,
     halves: &[u32],
     zones: &[ZoneRow],
@@ -98,9 +100,9 @@ fn note_interval(
     list: &mut [u8],
 ) -> usize
     requires { ⌜ Ready front (now halves) (now zones) (now minima) (now devices) (now cells) (now settings) (now starts) (now powers) × (t < length (now halves)) ⌝ }
-    requires { ⌜ k + length (intervalBreaches (systemIn (now halves) (now zones) (now minima) (now devices) (now cells)) (planIn (length (now devices)) (length (now halves))
+    requires { ⌜ k + length (intervalCells (systemIn (now halves) (now zones) (now minima) (now devices) (now cells)) (planIn (length (now devices)) (length (now halves))
         (now settings)) t) ≤ mostEntries ⌝ }
-    ensures { λ r. ⌜ Notes k (intervalBreaches (systemIn (now (halves .entry)) (now (zones .entry)) (now (minima .entry)) (now (devices .entry)) (now (cells .entry))) (planIn
+    ensures { λ r. ⌜ Notes k (intervalCells (systemIn (now (halves .entry)) (now (zones .entry)) (now (minima .entry)) (now (devices .entry)) (now (cells .entry))) (planIn
         (length (now (devices .entry))) (length (now (halves .entry))) (now (settings .entry))) t) (now (list .entry)) (now (list .exit)) r ⌝ }
 {
     let mut i = 0;
@@ -129,7 +131,47 @@ fn note_interval(
     n
 }
 
-// Rules 1 to 19 and 21 to 26 of the day.
+// Rules 1 to 19 and 21 to 26 of the devices in an interval, then rule 27.
+fn note_interval(
+    front: Front,
+    halves: &[u32],
+    zones: &[ZoneRow],
+    minima: &[MinimaRow],
+    devices: &[DeviceRow],
+    cells: &[CellRow],
+    settings: &[SettingRow],
+    starts: &[u32],
+    powers: &[u32],
+    t: usize,
+    k: usize,
+    list: &mut [u8],
+) -> usize
+    requires { ⌜ Ready front (now halves) (now zones) (now minima) (now devices) (now cells) (now settings) (now starts) (now powers) × (t < length (now halves)) ⌝ }
+    requires { ⌜ k + length (intervalBreaches (systemIn (now halves) (now zones) (now minima) (now devices) (now cells)) (planIn (length (now devices)) (length (now halves))
+        (now settings)) t) ≤ mostEntries ⌝ }
+    ensures { λ r. ⌜ Notes k (intervalBreaches (systemIn (now (halves .entry)) (now (zones .entry)) (now (minima .entry)) (now (devices .entry)) (now (cells .entry))) (planIn
+        (length (now (devices .entry))) (length (now (halves .entry))) (now (settings .entry))) t) (now (list .entry)) (now (list .exit)) r ⌝ }
+{
+    let n = note_interval_cells(
+        front,
+        halves,
+        zones,
+        minima,
+        devices,
+        cells,
+        settings,
+        starts,
+        powers,
+        t,
+        k,
+        list,
+    );
+    let kept = link_kept(devices, settings, t);
+    let b = link_breach(t);
+    note_if(!kept, b, n, list)
+}
+
+// Rules 1 to 19 and 21 to 27 of the day.
 fn note_cells(
     front: Front,
     halves: &[u32],
@@ -269,7 +311,8 @@ fn note_devices(
     n
 }
 
-// Every broken rule: "by interval, then device, then number. Rule 20 comes after all intervals, by device, then window." Answers how many there are.
+// Every broken rule: "by interval, then device, then number. Rule 20 comes after all intervals, by device, then window"; rule 27 "stands after an interval's
+// devices". Answers how many there are.
 pub fn note_all(
     front: Front,
     halves: &[u32],

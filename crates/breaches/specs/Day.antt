@@ -1,23 +1,23 @@
--- The loops over the breaches of an interval, of the day's cells and of its windows, and a day without any.
+-- The loops over the breaches of an interval's cells, of all intervals and of the day's windows, and a day without any.
 use mathlib.Core.Path.{_≡_, refl, sym, _∙_}
-use mathlib.Core.List.{List, [], _++_}
+use mathlib.Core.List.{[]}
 use Prim.Native.Nat.{ℕ, _+_, _≤_, _<_}
 use native.Mathlib.Omega.{arith}
 use native.Mathlib.Decide.{decLe}
-use Rattle.numbers.specs.Base.{upTo, gather}
+use Rattle.numbers.specs.Base.{upTo}
 use Rattle.numbers.specs.Every.{all-upTo}
 use Rattle.numbers.specs.Gather.{gather-none}
 use Rattle.model.specs.Case.{System, Plan}
 use Rattle.model.specs.Forced.{intervals, devices}
-use Rattle.model.specs.Breaches.{cellBreaches, windowBreaches, breaches}
-use Rattle.failing_rules.specs.Day.{intervalBreaches, dayBreaches, dayWindows, day-is}
+use Rattle.model.specs.Breaches.{cellBreaches, linkBreaches, windowBreaches, breaches}
+use Rattle.failing_rules.specs.Day.{intervalCells, intervalBreaches, dayBreaches, dayWindows, interval-is, day-is}
 use Rattle.model.specs.declared.Breach.{Breach}
 use Rattle.breaches.specs.First.{first, orElse, first-append, else-stop, else-pass, Left, loop-start, loop-held, loop-broken, loop-done}
 use Rattle.breaches.specs.declared.Check.{Check}
 use Rattle.breaches.specs.declared.Check.the-variants.{Held, Broken}
 
 module _ (q : System) (p : Plan) where
-  -- the cells' breaches, then the windows'
+  -- the intervals' breaches, then the windows'
   day-first : first (breaches q p) ≡ orElse (first (dayBreaches q p)) (first (dayWindows q p))
   day-first = rw (day-is q p) (first-append (dayBreaches q p) (dayWindows q p))
 
@@ -26,6 +26,14 @@ module _ (q : System) (p : Plan) where
 
   pub day-pass : {x y : Check} → x ≡ first (dayBreaches q p) → x ≡ Held → y ≡ first (dayWindows q p) → y ≡ first (breaches q p)
   day-pass e b f = rw day-first (else-pass e b f)
+
+  -- the cells' breaches of an interval, then its link's
+  module _ (t : ℕ) where
+    interval-first : first (intervalBreaches q p t) ≡ orElse (first (intervalCells q p t)) (first (linkBreaches q p t))
+    interval-first = rw (interval-is q p t) (first-append (intervalCells q p t) (linkBreaches q p t))
+
+    pub interval-found : {x y z : Check} → x ≡ first (intervalCells q p t) → y ≡ first (linkBreaches q p t) → z ≡ orElse x y → z ≡ first (intervalBreaches q p t)
+    interval-found e f g = g ∙ rw (e, f) (sym interval-first)
 
   -- ---- the loops over devices, intervals, and devices again: what is left gives what the whole gives
 
@@ -52,12 +60,12 @@ module _ (q : System) (p : Plan) where
       pub cells-held : x ≡ Held → CellsLeft t (i + 1)
       cells-held b = record { left = loop-held _ (omega arith) (left .left) e b }
 
-      pub cells-broken : {y : Breach} → x ≡ Broken y → x ≡ first (intervalBreaches q p t)
-      unfolding intervalBreaches
+      pub cells-broken : {y : Breach} → x ≡ Broken y → x ≡ first (intervalCells q p t)
+      unfolding intervalCells
       cells-broken b = loop-broken _ (omega arith) (left .left) e b
 
-    pub cells-done : {t i : ℕ} → n ≤ i → CellsLeft t i → Held ≡ first (intervalBreaches q p t)
-    unfolding intervalBreaches
+    pub cells-done : {t i : ℕ} → n ≤ i → CellsLeft t i → Held ≡ first (intervalCells q p t)
+    unfolding intervalCells
     cells-done l left = loop-done _ (omega arith) (left .left)
 
     module _ {i : ℕ} {x : Check} (l : i < n) (left : WindowsLeft i) (e : x ≡ first (windowBreaches q p i)) where
@@ -106,11 +114,15 @@ module _ (q : System) (p : Plan) where
       go i l (yes x) = let z : i ≡ n = omega arith in rw z e
       go i l (no x) = h .at i (omega arith)
 
-  pub none-at-all : {m n : ℕ} → intervals q ≡ m → devices q ≡ n → HoldTo m n → breaches q p ≡ []
-  unfolding breaches
-  none-at-all e f h = rw (
-    gather-none (λ t. gather (cellBreaches q p t) (upTo (devices q))) (upTo (intervals q)) (all-upTo _ _ (λ t a.
-        gather-none (cellBreaches q p t) (upTo (devices q)) (all-upTo _ _ (λ i b. h .at i (omega arith) .cells t (omega arith))))),
+  pub none-at-all : {m n : ℕ} → intervals q ≡ m → devices q ≡ n → ((t : ℕ) → t < m → linkBreaches q p t ≡ []) → HoldTo m n → breaches q p ≡ []
+  unfolding intervalCells dayBreaches dayWindows
+  none-at-all e f l h = rw (
+    day-is q p,
+    gather-none (intervalBreaches q p) (upTo (intervals q)) (all-upTo _ _ (λ t a. rw (
+      interval-is q p t,
+      gather-none (cellBreaches q p t) (upTo (devices q)) (all-upTo _ _ (λ i b. h .at i (omega arith) .cells t (omega arith))),
+      l t (omega arith),
+    ) refl)),
     gather-none (windowBreaches q p) (upTo (devices q)) (all-upTo _ _ (λ i b. h .at i (omega arith) .windows)),
   ) refl
 

@@ -7,17 +7,21 @@ ghost use lib.ListN.{length};
 ghost use Rattle.model.specs.Breaches.{cellBreaches, windowBreaches, breaches};
 ghost use Rattle.records.specs.Views.{systemIn, planIn, mostWindows, mostDevices, mostIntervals, Ready};
 ghost use Rattle.cell_bounds.specs.Word.{numbersIn};
-ghost use Rattle.breaches.specs.First.{first};
+ghost use Rattle.breaches.specs.First.{first, orElse};
 ghost use Rattle.breaches.specs.Bits.{firstOf};
 ghost use Rattle.failing_rules.specs.Parts.{windowsHere};
-ghost use Rattle.failing_rules.specs.Day.{intervalBreaches, dayBreaches, dayWindows};
-ghost use Rattle.breaches.specs.Day.{DeviceHolds};
+ghost use Rattle.failing_rules.specs.Day.{intervalCells, intervalBreaches, dayBreaches, dayWindows};
+ghost use Rattle.breaches.specs.Day.{DeviceHolds, HoldTo};
+ghost use Rattle.link_rules.specs.Link.{linkHere, LinkRow};
 use cell_bounds::bounds_of;
 use device_rows::device_at;
 use device_rules::held_all;
 use failing_rules::cell_breach;
 use failing_rules::failing_in;
+use failing_rules::link_breach;
 use failing_rules::window_breach;
+use link_rules::link_held;
+use link_rules::link_kept;
 use model::Breach;
 use reactive_rules::reactive_bounds_of;
 use reactive_rules::reactive_held;
@@ -35,6 +39,16 @@ use start_windows::window_kept;
 pub enum Check {
     Held,
     Broken(Breach),
+}
+
+// What the first checks found, else what those after them did.
+fn or_else(first: Check, after: Check) -> Check
+    ensures { λ r. ⌜ r ≡ orElse first after ⌝ }
+{
+    let Check::Held = first else {
+        return first;
+    };
+    after
 }
 
 // The first of the rules that a word names, bit n for rule n.
@@ -92,7 +106,7 @@ fn cell_check(
 }
 
 // Rules 1 to 19 and 21 to 26 of the devices in an interval.
-fn interval_rules(
+fn interval_cells(
     front: Front,
     halves: &[u32],
     zones: &[ZoneRow],
@@ -105,7 +119,7 @@ fn interval_rules(
     t: usize,
 ) -> Check
     requires { ⌜ Ready front (now halves) (now zones) (now minima) (now devices) (now cells) (now settings) (now starts) (now powers) × (t < length (now halves)) ⌝ }
-    ensures { λ r. ⌜ r ≡ first (intervalBreaches (systemIn (now (halves .entry)) (now (zones .entry)) (now (minima .entry)) (now (devices .entry))
+    ensures { λ r. ⌜ r ≡ first (intervalCells (systemIn (now (halves .entry)) (now (zones .entry)) (now (minima .entry)) (now (devices .entry))
         (now (cells .entry))) (planIn (length (now (devices .entry))) (length (now (halves .entry))) (now (settings .entry))) t) ⌝ }
 {
     let mut i = 0;
@@ -134,7 +148,51 @@ fn interval_rules(
     Check::Held
 }
 
-// Rules 1 to 19 and 21 to 26 of the day.
+// Rule 27 of an interval.
+fn link_check(devices: &[DeviceRow], settings: &[SettingRow], t: usize) -> Check
+    requires { ⌜ LinkRow (now devices) (now settings) t × (t < mostIntervals) ⌝ }
+    ensures { λ r. ⌜ r ≡ first (linkHere (now (devices .entry)) (now (settings .entry)) t) ⌝ }
+{
+    if !link_kept(devices, settings, t) {
+        return Check::Broken(link_breach(t));
+    }
+    Check::Held
+}
+
+// Rules 1 to 19 and 21 to 26 of the devices in an interval, then rule 27.
+fn interval_rules(
+    front: Front,
+    halves: &[u32],
+    zones: &[ZoneRow],
+    minima: &[MinimaRow],
+    devices: &[DeviceRow],
+    cells: &[CellRow],
+    settings: &[SettingRow],
+    starts: &[u32],
+    powers: &[u32],
+    t: usize,
+) -> Check
+    requires { ⌜ Ready front (now halves) (now zones) (now minima) (now devices) (now cells) (now settings) (now starts) (now powers) × (t < length (now halves)) ⌝ }
+    ensures { λ r. ⌜ r ≡ first (intervalBreaches (systemIn (now (halves .entry)) (now (zones .entry)) (now (minima .entry)) (now (devices .entry))
+        (now (cells .entry))) (planIn (length (now (devices .entry))) (length (now (halves .entry))) (now (settings .entry))) t) ⌝ }
+{
+    let cells_first = interval_cells(
+        front,
+        halves,
+        zones,
+        minima,
+        devices,
+        cells,
+        settings,
+        starts,
+        powers,
+        t,
+    );
+    let link_first = link_check(devices, settings, t);
+    or_else(cells_first, link_first)
+}
+
+// Rules 1 to 19 and 21 to 27 of the day.
 fn day_rules(
     front: Front,
     halves: &[u32],
@@ -291,8 +349,8 @@ fn device_held(
     true
 }
 
-// Whether a plan breaks no rule, device by device: true where it breaks none, and false says nothing.
-pub fn no_breach(
+// Whether no device breaks a rule: true where none does, and false says nothing.
+fn devices_held(
     front: Front,
     halves: &[u32],
     zones: &[ZoneRow],
@@ -304,8 +362,8 @@ pub fn no_breach(
     powers: &[u32],
 ) -> bool
     requires { ⌜ Ready front (now halves) (now zones) (now minima) (now devices) (now cells) (now settings) (now starts) (now powers) ⌝ }
-    ensures { λ r. ⌜ (r ≡ true → breaches (systemIn (now (halves .entry)) (now (zones .entry)) (now (minima .entry)) (now (devices .entry))
-        (now (cells .entry))) (planIn (length (now (devices .entry))) (length (now (halves .entry))) (now (settings .entry))) ≡ []) ⌝ }
+    ensures { λ r. ⌜ (r ≡ true → HoldTo (systemIn (now (halves .entry)) (now (zones .entry)) (now (minima .entry)) (now (devices .entry))
+        (now (cells .entry))) (planIn (length (now (devices .entry))) (length (now (halves .entry))) (now (settings .entry))) (length (now (halves .entry))) (length (now (devices .entry)))) ⌝ }
 {
     let mut i = 0;
     let mut a = 0;
@@ -331,7 +389,39 @@ pub fn no_breach(
     true
 }
 
-// Interval by interval, device by device; then the windows by device.
+// Whether a plan breaks no rule, by the link and device by device: true where it breaks none, and false says nothing.
+pub fn no_breach(
+    front: Front,
+    halves: &[u32],
+    zones: &[ZoneRow],
+    minima: &[MinimaRow],
+    devices: &[DeviceRow],
+    cells: &[CellRow],
+    settings: &[SettingRow],
+    starts: &[u32],
+    powers: &[u32],
+) -> bool
+    requires { ⌜ Ready front (now halves) (now zones) (now minima) (now devices) (now cells) (now settings) (now starts) (now powers) ⌝ }
+    ensures { λ r. ⌜ (r ≡ true → breaches (systemIn (now (halves .entry)) (now (zones .entry)) (now (minima .entry)) (now (devices .entry))
+        (now (cells .entry))) (planIn (length (now (devices .entry))) (length (now (halves .entry))) (now (settings .entry))) ≡ []) ⌝ }
+{
+    if !link_held(halves, devices, settings) {
+        return false;
+    }
+    devices_held(
+        front,
+        halves,
+        zones,
+        minima,
+        devices,
+        cells,
+        settings,
+        starts,
+        powers,
+    )
+}
+
+// Interval by interval, its devices, then its link; then the windows by device.
 fn exact_breach(
     front: Front,
     halves: &[u32],
@@ -374,7 +464,8 @@ fn exact_breach(
     )
 }
 
-// The first broken rule: "Checked by interval, then device, then number. Rule 20 comes after all intervals, by device, then window."
+// The first broken rule: "Checked by interval, then device, then number. Rule 20 comes after all intervals, by device, then window"; rule 27 "stands after an
+// interval's devices".
 pub fn first_breach(
     front: Front,
     halves: &[u32],

@@ -16,6 +16,7 @@ use Rattle.model.specs.Messages.{apart}
 use Rattle.model.specs.ByEdition.{Stated, content, contentBy, caseLayout, statedIn}
 use Rattle.model.specs.AsBefore.{stated}
 use Rattle.ranges.specs.Ranges.{StatedRange, stated-sure, stated-range}
+use Rattle.kilowatts.specs.declared.Kw.{Kw}
 use Rattle.row_places.specs.declared.Counts.{Counts}
 use Rattle.row_places.specs.declared.Front.{Front}
 use Rattle.fields.specs.declared.Went.{Went}
@@ -29,7 +30,7 @@ use Rattle.zone_reader.proofs.ZoneSteps.{zone-natural}
 use Rattle.device_reader.specs.Devices.{device-natural}
 use Rattle.front_reader.specs.Fronts.{largest, Within, front, frontIn, FrontDone}
 use Rattle.case_reader.specs.Whole.{CaseRoom, caseOf, bodyGot, BodyRoom, BodyDone, FieldsDone, CaseDone}
-use Rattle.front_reader.proofs.FrontSteps.{counts-natural, front-natural}
+use Rattle.front_reader.proofs.FrontSteps.{counts-natural, limit-natural, front-natural}
 
 layout-is : (l : Largest) (s : List ℕ) → got (caseLayout l) s begin ≡ front l .read s begin bad (λ h p. bodyGot h s p)
 unfolding caseLayout contentBy held _then_ apart bodyGot
@@ -38,15 +39,16 @@ layout-is l s = refl
 case-natural : (l : Largest) → Natural (caseLayout l)
 unfolding caseLayout contentBy apart
 case-natural l = held-natural _ _ (then-natural (nat-natural _) (λ k. then-natural (nat-natural _) (λ e. held-natural _ _
-    (then-natural (counts-natural e l) (λ n. then-natural (nat-natural _) (λ a. then-natural (nat-natural _) (λ b.
+    (then-natural (counts-natural e l) (λ n. then-natural (nat-natural _) (λ a. then-natural (nat-natural _) (λ b. then-natural (limit-natural e) (λ x.
     then-natural (list-natural (n .intervals) (nat-natural _)) (λ halves.
     then-natural (held-natural _ _ (list-natural (n .zones) (zone-natural e (n .intervals)))) (λ z.
-    held-natural _ _ (list-natural (n .devices) (device-natural e (n .intervals) (n .zones) _)))))))))))
+    held-natural _ _ (list-natural (n .devices) (device-natural e (n .intervals) (n .zones) _))))))))))))
 
 -- tables with room for the largest counts have room for fewer
 pub room-within : {n m : ℕ} {c : Counts} {halves : List ℕ} {zones minima devices cells : List (List ℕ)} → CaseRoom n m halves zones minima devices cells → Within (largest n m) c
     → BodyRoom c halves zones minima devices cells
 room-within {n} {m} {c} r w = record {
+  some-devices = w .some;
   few-zones = w .zones;
   room = omega (arith, w .intervals, r .room-halves);
   zones-fit = record {
@@ -76,20 +78,20 @@ tables-kept r a b e f g = record {
 
 -- ---- every field
 
-module _ (n m : ℕ) (s : List ℕ) (f : Front) (c : Counts) {x : Went} (e : FrontDone (largest n m) s x f c) where
+module _ (n m : ℕ) (s : List ℕ) (f : Front) (c : Counts) (k : Kw) {x : Went} (e : FrontDone (largest n m) s x f c k) where
   pub fields-no-front : (halves : List ℕ) (zones minima devices cells : List (List ℕ)) {y : Fault} → x ≡ W.Off y → FieldsDone n m s x f c halves zones minima devices cells
   fields-no-front halves zones minima devices cells o = record {
     is = told-off (stated (f .edition) (caseOf f c halves zones minima devices cells)) o
-        (layout-is (largest n m) s ∙ goes-off (front-natural (largest n m)) s begin bad _ (went-bad (frontIn f c) (e .is) o));
+        (layout-is (largest n m) s ∙ goes-off (front-natural (largest n m)) s begin bad _ (went-bad (frontIn f c k) (e .is) o));
     within = λ q k. absurd (let z : _≡_ {A = ℕ} 0 1 = cc in omega (arith, z));
     manned = λ q k. absurd (let z : _≡_ {A = ℕ} 0 1 = cc in omega (arith, z));
   }
 
-  pub fields-done : {p : Place} {w : Went} {halves : List ℕ} {zones minima devices cells : List (List ℕ)} → x ≡ W.On p → BodyDone s p f c w halves zones minima devices cells
+  pub fields-done : {p : Place} {w : Went} {halves : List ℕ} {zones minima devices cells : List (List ℕ)} → x ≡ W.On p → BodyDone s p f c k w halves zones minima devices cells
       → FieldsDone n m s w f c halves zones minima devices cells
   fields-done {p} o b = record {
-    is = b .is ∙ sym (layout-is (largest n m) s ∙ goes-on (front-natural (largest n m)) s begin bad _ (went-good (frontIn f c) (e .is) o));
-    within = λ q k. e .within p o;
+    is = b .is ∙ sym (layout-is (largest n m) s ∙ goes-on (front-natural (largest n m)) s begin bad _ (went-good (frontIn f c k) (e .is) o));
+    within = λ q _. e .within p o;
     manned = b .manned;
   }
 

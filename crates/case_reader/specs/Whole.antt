@@ -9,12 +9,12 @@ use Rattle.layouts.specs.Layout.{list, figure, begin}
 use Rattle.layouts.specs.Numbers.{Tells}
 use Rattle.model.specs.Case.{Case, Zone, Kinds, Device, DevicePrices}
 use Rattle.model.specs.Editions.{mostZones}
-use Rattle.model.specs.Messages as M
 use Rattle.model.specs.Messages.{lastEnd}
 use Rattle.model.specs.ByEdition as B
 use Rattle.model.specs.ByEdition.{Stated, caseLayout, statedIn}
 use Rattle.model.specs.AsBefore.{stated}
 use Rattle.ranges.specs.Ranges.{StatedRange}
+use Rattle.kilowatts.specs.declared.Kw.{Kw}
 use Rattle.row_places.specs.declared.Counts.{Counts}
 use Rattle.row_places.specs.declared.Front.{Front}
 use Rattle.records.specs.Views.{mostDevices, mostIntervals, caseIn, CaseRows}
@@ -24,7 +24,7 @@ use Rattle.fields.specs.declared.Ending.{Ending}
 use Rattle.fields.specs.declared.Ending.the-variants.{Passes, Fails}
 use Rattle.fields.specs.Got.{Got, good, bad, got, told}
 use Rattle.fields.specs.Ended.{ended}
-use Rattle.front_reader.specs.Fronts.{largest, Within, frontIn}
+use Rattle.front_reader.specs.Fronts.{largest, Within, Ahead, frontIn}
 use Rattle.zone_table.specs.Tables.{Fits, Manned}
 
 -- tables with room for so many devices and intervals
@@ -43,14 +43,14 @@ caseOf f c halves zones minima devices cells =
     caseIn f (take (c .intervals) halves) (take (c .zones) zones) (take (c .zones * c .intervals) minima) (take (c .devices) devices) (take (c .devices * c .intervals) cells)
 
 -- a case from its front, durations, zones and devices
-abbrev pub madeOf : ℕ × (M.Counts × (ℕ × ℕ)) → List ℕ → List (Zone × Kinds) → List (Device × DevicePrices) → Stated
+abbrev pub madeOf : Ahead → List ℕ → List (Zone × Kinds) → List (Device × DevicePrices) → Stated
 madeOf h halves zs ds = stated (h .0) (record {
-  system = record { halves = halves; zones = map (λ z. z .0) zs; devices = map (λ d. d .0) ds };
-  prices = record { mismatch = h .1 .1 .0; overrun = h .1 .1 .1; zones = map (λ z. z .1) zs; devices = map (λ d. d .1) ds };
+  system = record { halves = halves; linkLimit = h .1 .1 .1 .1; zones = map (λ z. z .0) zs; devices = map (λ d. d .0) ds };
+  prices = record { mismatch = h .1 .1 .0; overrun = h .1 .1 .1 .0; zones = map (λ z. z .1) zs; devices = map (λ d. d .1) ds };
 })
 
 -- what reading the rest behind a front gives
-unfoldable pub bodyGot : ℕ × (M.Counts × (ℕ × ℕ)) → List ℕ → Place → Got Stated
+unfoldable pub bodyGot : Ahead → List ℕ → Place → Got Stated
 bodyGot h s p =
     let n = h .1 .0 in
     list (n .intervals) (figure 8 1 180) .read s p bad (λ halves p.
@@ -59,13 +59,14 @@ bodyGot h s p =
 
 -- room for the figures behind a front
 pub record BodyRoom (c : Counts) (halves : List ℕ) (zones minima devices cells : List (List ℕ)) : Type 0 where
+  pub some-devices : 1 ≤ c .devices
   pub few-zones : c .zones ≤ mostZones
   pub room : c .intervals ≤ length halves
   pub zones-fit : Fits (c .zones) (c .intervals) zones minima
   pub devices-fit : Fits (c .devices) (c .intervals) devices cells
 
-pub record BodyDone (s : List ℕ) (p : Place) (f : Front) (c : Counts) (w : Went) (halves : List ℕ) (zones minima devices cells : List (List ℕ)) : Type 0 where
-  pub is : told w (stated (f .edition) (caseOf f c halves zones minima devices cells)) ≡ bodyGot (frontIn f c) s p
+pub record BodyDone (s : List ℕ) (p : Place) (f : Front) (c : Counts) (x : Kw) (w : Went) (halves : List ℕ) (zones minima devices cells : List (List ℕ)) : Type 0 where
+  pub is : told w (stated (f .edition) (caseOf f c halves zones minima devices cells)) ≡ bodyGot (frontIn f c x) s p
   pub manned : (q : Place) → w ≡ On q → Manned (c .devices) (c .intervals) devices cells
 
 -- what reading every field leaves, up to so many devices n and intervals m

@@ -2,6 +2,7 @@
 use fields::Ending;
 use fields::Went;
 use front_reader::FrontRead;
+use kilowatts::Kw;
 use layouts::Place;
 use row_places::CellRow;
 use row_places::Counts;
@@ -24,12 +25,13 @@ pub struct CaseRead {
     pub counts: Counts,
 }
 
-// The durations, zones and devices behind a front.
+// The durations, zones and devices behind a front; the link's limit goes into the first device's row.
 fn read_body(
     s: &[u8],
     p: Place,
     front: Front,
     counts: Counts,
+    limit: Kw,
     halves: &mut [u32],
     zones: &mut [ZoneRow],
     minima: &mut [MinimaRow],
@@ -37,7 +39,7 @@ fn read_body(
     cells: &mut [CellRow],
 ) -> Went
     requires { ⌜ BodyRoom counts (now halves) (now zones) (now minima) (now devices) (now cells) ⌝ }
-    ensures { λ r. ⌜ BodyDone (now (s .entry)) p front counts r (now (halves .exit)) (now (zones .exit)) (now (minima .exit)) (now (devices .exit)) (now (cells .exit)) ⌝ }
+    ensures { λ r. ⌜ BodyDone (now (s .entry)) p front counts limit r (now (halves .exit)) (now (zones .exit)) (now (minima .exit)) (now (devices .exit)) (now (cells .exit)) ⌝ }
 {
     let edition = front.edition;
     let m = counts.intervals;
@@ -50,7 +52,7 @@ fn read_body(
     let Went::On(at_devices) = zoned else {
         return zoned;
     };
-    device_table::read_devices(
+    let manned = device_table::read_devices(
         s,
         at_devices,
         edition,
@@ -60,7 +62,9 @@ fn read_body(
         last,
         devices,
         cells,
-    )
+    );
+    device_store::put_limit(devices, limit);
+    manned
 }
 
 // Every field of a case, in message order.
@@ -85,11 +89,24 @@ fn read_fields(
     };
     let front = ahead.front;
     let counts = ahead.counts;
-    let went = read_body(s, p, front, counts, halves, zones, minima, devices, cells);
+    let limit = ahead.limit;
+    let went = read_body(
+        s,
+        p,
+        front,
+        counts,
+        limit,
+        halves,
+        zones,
+        minima,
+        devices,
+        cells,
+    );
     FrontRead {
         went,
         front,
         counts,
+        limit,
     }
 }
 

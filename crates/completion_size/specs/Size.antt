@@ -20,7 +20,7 @@ use Rattle.model.specs.ByEdition as B
 use Rattle.model.specs.Forced.{intervals, devices, zones, device}
 use Rattle.model.specs.Judgement.{written, countsOf, energyWindows}
 use Rattle.model.specs.Messages as M
-use Rattle.model.specs.Messages.{Counts, DeviceChoice, IntervalChoice, Written}
+use Rattle.model.specs.Messages.{Counts, DeviceChoice, Bars, noBars, IntervalChoice, Written}
 use Rattle.model.specs.Judgement.{completionIn}
 use Rattle.model.specs.Widths.{bounded}
 
@@ -46,19 +46,29 @@ twoWidth e = gate (has 2 e) (2 * 33)
 abbrev pub zoneWidth : ℕ → ℕ
 zoneWidth e = sixWidth + twoWidth e
 
--- "mismatch 23"; since edition 2 the reactive one, "(23 bits, after the real one)"
+-- "mismatch 23"; since edition 5 one for each bar
 abbrev pub mismatchWidth : ℕ
 mismatchWidth = 23
 
-abbrev pub reactiveMismatchWidth : ℕ → ℕ
-reactiveMismatchWidth e = gate (has 2 e) 23
+abbrev pub barsWidth : ℕ → ℕ
+barsWidth e = mismatchWidth + gate (has 5 e) mismatchWidth
+
+-- since edition 2 the reactive ones, "(23 bits, after the real one)"
+abbrev pub reactiveBarsWidth : ℕ → ℕ
+reactiveBarsWidth e = gate (has 2 e) (barsWidth e)
 
 abbrev pub mismatchesWidth : ℕ → ℕ
-mismatchesWidth e = mismatchWidth + reactiveMismatchWidth e
+mismatchesWidth e = barsWidth e + reactiveBarsWidth e
 
 -- what an edition has or lacks is no wider than it is
-pub since-few : (e : ℕ) → (twoWidth e ≤ 2 * 33) × (reactiveMismatchWidth e ≤ 23)
-since-few e = (gate-le (has 2 e) (2 * 33) (2 * 33) (omega arith), gate-le (has 2 e) 23 23 (omega arith))
+pub two-few : (e : ℕ) → twoWidth e ≤ 2 * 33
+two-few e = gate-le (has 2 e) (2 * 33) (2 * 33) (omega arith)
+
+pub bars-few : (e : ℕ) → barsWidth e ≤ 2 * mismatchWidth
+bars-few e = omega (arith, gate-le (has 5 e) mismatchWidth mismatchWidth (omega arith))
+
+pub reactive-bars-few : (e : ℕ) → reactiveBarsWidth e ≤ 2 * mismatchWidth
+reactive-bars-few e = gate-le (has 2 e) (barsWidth e) (2 * mismatchWidth) (bars-few e)
 
 abbrev pub overrunWidth : ℕ
 overrunWidth = 32
@@ -76,10 +86,10 @@ abbrev pub needed : ℕ → ℕ → ℕ → ℕ → ℕ → ℕ
 needed e devices intervals zones windows = bytesFor (completionWidth e devices intervals zones windows)
 
 -- an interval of counts up to these, in whatever edition
-pub interval-few : (e d z n k : ℕ) → d ≤ n → z ≤ k → intervalWidth e d z ≤ n * deviceWidth + (k * (sixWidth + 2 * 33) + (mismatchWidth + 23))
+pub interval-few : (e d z n k : ℕ) → d ≤ n → z ≤ k → intervalWidth e d z ≤ n * deviceWidth + (k * (sixWidth + 2 * 33) + 4 * mismatchWidth)
 interval-few e d z n k h l =
-    let w : zoneWidth e ≤ sixWidth + 2 * 33 = omega (arith, since-few e) in
-    omega (arith, since-few e, mul-le-mul l w)
+    let w : zoneWidth e ≤ sixWidth + 2 * 33 = omega (arith, two-few e) in
+    omega (arith, bars-few e, reactive-bars-few e, mul-le-mul l w)
 
 -- ---- a completion's message has the shape of its counts
 
@@ -130,9 +140,14 @@ zone-wide e r =
     length-append (M.six (any 33) .write (r .six)) _
     ∙ omega (arith, six-wide (r .six), present-wide (has 2 e) noReactiveReserves B.reactiveChoice (2 * 33) (r .reactive) (two-wide (r .reactive)))
 
-mismatches-wide : (e : ℕ) (r : IntervalChoice) → length (since e 2 0 (any 23) .write (r .reactiveMismatch)) ≡ reactiveMismatchWidth e
-unfolding nat
-mismatches-wide e r = present-wide (has 2 e) 0 (any 23) 23 (r .reactiveMismatch) (length-bits 23 (r .reactiveMismatch))
+bars-wide : (e : ℕ) (r : Bars) → length (B.barsChoice e .write r) ≡ barsWidth e
+unfolding B.barsChoice held _then_ nat
+bars-wide e r =
+    length-append (bitsOf 23 (r .first)) _
+    ∙ omega (arith, length-bits 23 (r .first), present-wide (has 5 e) 0 (any 23) 23 (r .second) (length-bits 23 (r .second)))
+
+reactive-bars-wide : (e : ℕ) (r : Bars) → length (since e 2 noBars (B.barsChoice e) .write r) ≡ reactiveBarsWidth e
+reactive-bars-wide e r = present-wide (has 2 e) noBars (B.barsChoice e) (barsWidth e) r (bars-wide e r)
 
 pub front-wide : (e : ℕ) (n m : Counts) → length (B.completionFront e n .write m) ≡ frontWidth e
 unfolding B.completionFrontBy held _then_ nat
@@ -147,7 +162,8 @@ interval-wide e n r s =
       arith,
       gather-wide (M.deviceChoice .write) deviceWidth (r .devices) (all-map (λ d h. device-wide d h) (r .devices) (s .four)),
       z,
-      mismatches-wide e r,
+      bars-wide e (r .mismatch),
+      reactive-bars-wide e (r .reactiveMismatch),
       s .each,
     ))
 

@@ -2,7 +2,7 @@
 ghost use mathlib.Core.Path.{_≡_};
 ghost use Prim.Native.Nat.{_+_, _*_, _^_, _≤_, _<_};
 ghost use Rattle.model.specs.Editions.{mostDevices, mostIntervals, mostZones, mostWindows};
-ghost use Rattle.completion_size.specs.Size.{frontWidth, zoneWidth, mismatchesWidth, intervalWidth, needed};
+ghost use Rattle.completion_size.specs.Size.{frontWidth, zoneWidth, barsWidth, mismatchesWidth, intervalWidth, needed};
 use editions::bits_since;
 use editions::device_bits;
 use editions::interval_bits;
@@ -31,6 +31,9 @@ const SURPLUS_BITS: u64 = 64;
 // The edition with which reactive shortfalls and mismatches came.
 pub const REACTIVE_EDITION: u32 = 2;
 
+// The edition with which a mismatch for each bar came.
+pub const BARS_EDITION: u32 = 5;
+
 // A device's part of an interval; a zone's shortfalls of real power, and of reactive power.
 const DEVICE_BITS: u64 = FLAG_BITS + FLAG_BITS + STATE_BITS + 4 * POWER_BITS;
 
@@ -52,11 +55,19 @@ fn zone_bits(edition: u32) -> u64
     SIX_BITS + bits_since(edition, REACTIVE_EDITION, TWO_BITS)
 }
 
+// The bits of the bars' mismatches, real or reactive.
+fn bars_bits(edition: u32) -> u64
+    ensures { λ r. ⌜ (r ≡ barsWidth edition) × (r ≤ 46) ⌝ }
+{
+    MISMATCH_BITS + bits_since(edition, BARS_EDITION, MISMATCH_BITS)
+}
+
 // The bits of an interval's mismatches.
 fn mismatches_bits(edition: u32) -> u64
-    ensures { λ r. ⌜ (r ≡ mismatchesWidth edition) × (r ≤ 46) ⌝ }
+    ensures { λ r. ⌜ (r ≡ mismatchesWidth edition) × (r ≤ 92) ⌝ }
 {
-    MISMATCH_BITS + bits_since(edition, REACTIVE_EDITION, MISMATCH_BITS)
+    let bars = bars_bits(edition);
+    bars + bits_since(edition, REACTIVE_EDITION, bars)
 }
 
 // The bits of its intervals.

@@ -19,7 +19,7 @@ use Rattle.model.specs.Case.{System, Six, Kinds, ReactiveReserves, noReactiveRe
 use Rattle.model.specs.Forced.{intervals, devices, zones, device}
 use Rattle.model.specs.Rules.{blocks}
 use Rattle.model.specs.Completion.{Completion, shortfalls, rgu, rgd, scr, nsc, rru, rrd, qru, qrd}
-use Rattle.model.specs.Messages.{six, DeviceChoice, IntervalChoice}
+use Rattle.model.specs.Messages.{six, DeviceChoice, Bars, noBars, IntervalChoice}
 use Rattle.model.specs.ByEdition as B
 use Rattle.model.specs.ByEdition.{completionFront, deviceChoice}
 use Rattle.model.specs.Judgement.{written, countsOf, energyWindows}
@@ -28,7 +28,8 @@ use Rattle.pen.specs.declared.Pen.{Pen}
 use Rattle.pen.specs.Pens.{Ready, Pushes, Finishes, pushes-then}
 use Rattle.pen.specs.Runs.{run, fresh, Room, pushes-as, pushes-whole, run-none, run-more, room-at}
 use Rattle.field_groups.specs.Fields.{choiceIn, sixOf}
-use Rattle.completion_size.specs.Size.{frontWidth, deviceWidth, sixWidth, twoWidth, zoneWidth, mismatchWidth, reactiveMismatchWidth, overrunWidth, surplusWidth, intervalWidth, needed}
+use Rattle.completion_writer.specs.Bars.{barsOf}
+use Rattle.completion_size.specs.Size.{frontWidth, deviceWidth, sixWidth, twoWidth, zoneWidth, barsWidth, reactiveBarsWidth, overrunWidth, surplusWidth, intervalWidth, needed}
 
 -- ---- lists written one element behind the other
 
@@ -65,12 +66,21 @@ deviceBits x t i = deviceChoice .write (deviceAt x t i)
 abbrev pub zoneBits : ℕ → Completion ℕ → ℕ → ℕ → List ℕ
 zoneBits e x t z = B.zoneChoice e .write (kindsAt x t z)
 
--- the mismatch, and since edition 2 the reactive one
-abbrev pub reactiveMismatchBits : ℕ → Completion ℕ → ℕ → List ℕ
-reactiveMismatchBits e x t = since e 2 0 (any 23) .write (x .reactiveMismatch t)
+-- the mismatches, and since edition 2 the reactive ones
+abbrev pub barsAt : Completion ℕ → ℕ → Bars
+barsAt x t = barsOf (x .mismatch t 0) (x .mismatch t 1)
+
+abbrev pub reactiveBarsAt : Completion ℕ → ℕ → Bars
+reactiveBarsAt x t = barsOf (x .reactiveMismatch t 0) (x .reactiveMismatch t 1)
+
+abbrev pub barsBits : ℕ → Completion ℕ → ℕ → List ℕ
+barsBits e x t = B.barsChoice e .write (barsAt x t)
+
+abbrev pub reactiveBarsBits : ℕ → Completion ℕ → ℕ → List ℕ
+reactiveBarsBits e x t = since e 2 noBars (B.barsChoice e) .write (reactiveBarsAt x t)
 
 unfoldable pub intervalBits : ℕ → System → Completion ℕ → ℕ → List ℕ
-intervalBits e q x t = run (deviceBits x t) (devices q) ++ (run (zoneBits e x t) (zones q) ++ (any 23 .write (x .mismatch t) ++ reactiveMismatchBits e x t))
+intervalBits e q x t = run (deviceBits x t) (devices q) ++ (run (zoneBits e x t) (zones q) ++ (barsBits e x t ++ reactiveBarsBits e x t))
 
 abbrev pub windowsOf : System → ℕ → ℕ
 windowsOf q i = length (device q i .energyWindows)
@@ -98,8 +108,8 @@ module _ (e : ℕ) (q : System) (x : Completion ℕ) where
   intervalAt t = record {
     devices = map (deviceAt x t) (upTo (devices q));
     zones = map (kindsAt x t) (upTo (zones q));
-    mismatch = x .mismatch t;
-    reactiveMismatch = x .reactiveMismatch t;
+    mismatch = barsAt x t;
+    reactiveMismatch = reactiveBarsAt x t;
   }
 
   pub interval-is : (t : ℕ) → B.intervalChoice e (devices q) (zones q) .write (intervalAt t) ≡ intervalBits e q x t
@@ -133,8 +143,8 @@ module _ (e : ℕ) (q : System) (x : Completion ℕ) where
   pub interval-pushes : (t : ℕ) {a b c d f : List ℕ} {p l m n o : Pen}
       → Pushes (devices q * deviceWidth) (run (deviceBits x t) (devices q)) a b p l
       → Pushes (zones q * zoneWidth e) (run (zoneBits e x t) (zones q)) b c l m
-      → Pushes mismatchWidth (any 23 .write (x .mismatch t)) c d m n
-      → Pushes (reactiveMismatchWidth e) (reactiveMismatchBits e x t) d f n o
+      → Pushes (barsWidth e) (barsBits e x t) c d m n
+      → Pushes (reactiveBarsWidth e) (reactiveBarsBits e x t) d f n o
       → Pushes (intervalWidth e (devices q) (zones q)) (intervalBits e q x t) a f p o
   unfolding intervalBits
   interval-pushes t i j k r = pushes-then i (pushes-then j (pushes-then k r))
@@ -203,11 +213,11 @@ module _ (e d z : ℕ) where
   zones-room h r = omega (arith, h .moved, h .long)
 
   module _ {xs ys a b c : List ℕ} {p m n : Pen} (h : Pushes (d * deviceWidth) xs a b p m) (i : Pushes (z * zoneWidth e) ys b c m n) (r : Room a p (intervalWidth e d z)) where
-    pub mismatch-room : Room c n mismatchWidth
-    mismatch-room = omega (arith, h .moved, h .long, i .moved, i .long)
+    pub bars-room : Room c n (barsWidth e)
+    bars-room = omega (arith, h .moved, h .long, i .moved, i .long)
 
-    pub reactive-mismatch-room : {zs f : List ℕ} {o : Pen} → Pushes mismatchWidth zs c f n o → Room f o (reactiveMismatchWidth e)
-    reactive-mismatch-room k = omega (arith, h .moved, h .long, i .moved, i .long, k .moved, k .long)
+    pub reactive-bars-room : {zs f : List ℕ} {o : Pen} → Pushes (barsWidth e) zs c f n o → Room f o (reactiveBarsWidth e)
+    reactive-bars-room k = omega (arith, h .moved, h .long, i .moved, i .long, k .moved, k .long)
 
   module _ (i w : ℕ) (a : List ℕ) (r : needed e d i z w ≤ length a) where
     pub front-room : Room a fresh (frontWidth e)

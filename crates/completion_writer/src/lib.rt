@@ -3,11 +3,14 @@ ghost use mathlib.Core.List.{_++_};
 ghost use Prim.Native.Nat.{_+_, _^_, _<_};
 ghost use Rattle.layouts.specs.Layout.{bitsOf, any, int};
 ghost use Rattle.model.specs.Messages.{six};
+ghost use Rattle.model.specs.ByEdition.{barsChoice};
 ghost use Rattle.theorems.specs.Back.{FitsSix};
 ghost use Rattle.pen.specs.Pens.{Ready, Pushes};
 ghost use Rattle.pen.specs.Runs.{Room};
 ghost use Rattle.field_groups.specs.Fields.{sixOf};
-ghost use Rattle.completion_size.specs.Size.{sixWidth, mismatchWidth, overrunWidth, surplusWidth};
+ghost use Rattle.completion_size.specs.Size.{sixWidth, barsWidth, overrunWidth, surplusWidth};
+ghost use Rattle.completion_writer.specs.Bars.{barsOf};
+use completion_size::BARS_EDITION;
 use completion_size::MISMATCH_BITS;
 use completion_size::OVERRUN_BITS;
 use completion_size::SHORTFALL_BITS;
@@ -41,11 +44,24 @@ pub fn put_shortfalls(buf: &mut [u8], p: Pen, shortfalls: [Watts; 6]) -> Pen
     put_three(buf, p, shortfalls[3], shortfalls[4], shortfalls[5])
 }
 
-pub fn put_mismatch(buf: &mut [u8], p: Pen, m: Kw) -> Pen
-    requires { ⌜ Ready p × Room (now buf) p mismatchWidth × (m .0 < 2 ^ 23) ⌝ }
-    ensures { λ r. ⌜ Pushes mismatchWidth (any 23 .write (m .0)) (now (buf .entry)) (now (buf .exit)) p r ⌝ }
+// A mismatch for each bar, "bar 0 first": bar 1's since edition 5.
+pub fn put_bars(buf: &mut [u8], p: Pen, edition: u32, first: u64, second: u64) -> Pen
+    requires { ⌜ Ready p × Room (now buf) p (barsWidth edition) × (first < 2 ^ 23) × (second < 2 ^ 23) ⌝ }
+    ensures { λ r. ⌜ Pushes (barsWidth edition) (barsChoice edition .write (barsOf first second)) (now (buf .entry)) (now (buf .exit)) p r ⌝ }
 {
-    push(buf, p, MISMATCH_BITS, m.0 as u64)
+    let p = push(buf, p, MISMATCH_BITS, first);
+    if edition < BARS_EDITION {
+        return p;
+    }
+    push(buf, p, MISMATCH_BITS, second)
+}
+
+// An interval's mismatches.
+pub fn put_mismatches(buf: &mut [u8], p: Pen, edition: u32, first: Kw, second: Kw) -> Pen
+    requires { ⌜ Ready p × Room (now buf) p (barsWidth edition) × (first .0 < 2 ^ 23) × (second .0 < 2 ^ 23) ⌝ }
+    ensures { λ r. ⌜ Pushes (barsWidth edition) (barsChoice edition .write (barsOf (first .0) (second .0))) (now (buf .entry)) (now (buf .exit)) p r ⌝ }
+{
+    put_bars(buf, p, edition, first.0 as u64, second.0 as u64)
 }
 
 pub fn put_overrun(buf: &mut [u8], p: Pen, e: KwMin) -> Pen

@@ -74,7 +74,7 @@ fn print_completion(needed: u64, result: &[u8]) {
 }
 
 // The most bytes that a list of breaches takes at 16 devices and 48 intervals.
-const LIST: usize = 77056;
+const LIST: usize = 77248;
 
 // The bytes of a breach in the list.
 const ENTRY: usize = 4;

@@ -1,4 +1,4 @@
--- What stands ahead of a device's intervals, from the parts that the code reads: side and zone bits, single figures, three lists, the link.
+-- What stands ahead of a device's intervals, from the parts that the code reads: side and zone bits, single figures, three lists, the link and the bar.
 use mathlib.Core.Path.{_≡_, refl, ap, sym, _∙_}
 use mathlib.Core.List.{List, [], _∷_, map, map-map}
 use Prim.Native.Nat.{ℕ, zero, suc, _≤_}
@@ -8,19 +8,15 @@ use lib.ListN.{length, getD, take}
 use Rattle.layouts.specs.declared.Fault.{Fault}
 use Rattle.layouts.specs.declared.Place.{Place}
 use Rattle.layouts.specs.Layout.{Layout, _then_, _▸_, held}
-use Rattle.layouts.specs.Since.{since}
 use Rattle.model.specs.Case as M
-use Rattle.model.specs.Case.{noLink}
 use Rattle.model.specs.Messages.{head, costs, ramps, zoneBits, apart, eight, kW}
-use Rattle.model.specs.ByEdition.{link}
 use Rattle.kilowatts.specs.declared.Kw.{Kw}
 use Rattle.grains.specs.declared.Grains.{Grains}
 use Rattle.row_places.specs.declared.State.{State}
 use Rattle.row_places.specs.declared.StartWindow.{StartWindow}
 use Rattle.row_places.specs.declared.EnergyWindow.{EnergyWindow}
-use Rattle.row_places.specs.declared.Link.{Link}
 use Rattle.row_places.specs.declared.Device.{Device}
-use Rattle.records.specs.Views.{less, costOffset, startIn, energyIn, linkIn}
+use Rattle.records.specs.Views.{less, costOffset, startIn, energyIn}
 use Rattle.fields.specs.declared.Went.{Went}
 use Rattle.fields.specs.declared.Went.the-variants as W
 use Rattle.fields.specs.Got.{good, bad, got, told, Natural, nat-natural, then-natural, such-natural, mapped, told-off, goes-off}
@@ -31,13 +27,14 @@ use Rattle.item_reader.specs.declared.Listed.{Listed}
 use Rattle.item_reader.specs.declared.Listed.the-variants.{States, Starts, Energies}
 use Rattle.device_reader.specs.declared.SidesRead.{SidesRead}
 use Rattle.device_reader.specs.declared.FiguresRead.{FiguresRead}
+use Rattle.device_reader.specs.declared.LinkedRead.{LinkedRead}
 use Rattle.item_reader.specs.declared.ItemsRead.{ItemsRead}
 use Rattle.model.specs.Editions.{mostStates}
 use Rattle.item_reader.specs.Items.{itemIn, items, itemsIn, threes, fours, stateFrom, startFrom, energyFrom, ItemsDone, EnergiesMade}
-use Rattle.device_reader.specs.Parts.{Figures, sides, initialRow, rampRow, costRow, figures, figuresIn, MoneyMade, limitsFrom, deviceWith, deviceFrom, DeviceMade}
+use Rattle.device_reader.specs.Parts.{Figures, sides, initialRow, rampRow, costRow, figures, figuresIn, linked, linkedIn, MoneyMade, limitsFrom, deviceWith, deviceFrom, DeviceMade}
 use Rattle.device_reader.specs.Heads.{Ahead, ahead, aheadOf, HeadDone}
 use Rattle.item_reader.specs.Naturals.{item-natural}
-use Rattle.link_reader.proofs.Links.{link-natural}
+use Rattle.device_reader.specs.Devices.{linked-natural}
 
 -- ---- the parts
 
@@ -55,10 +52,10 @@ pub figures-natural : Natural figures
 figures-natural = then-natural (row-natural initialRow 5) (λ a. ramps-natural)
 
 abbrev Lists : Type 0
-Lists = List (ℕ × ℤ) × (List M.StartWindow × (List M.EnergyWindow × M.Link))
+Lists = List (ℕ × ℤ) × (List M.StartWindow × (List M.EnergyWindow × (M.Link × ℕ)))
 
 abbrev lists : ℕ → ℕ → Layout Lists
-lists e last = items States e last ▸ items Starts e last ▸ items Energies e last ▸ since e 2 noLink link
+lists e last = items States e last ▸ items Starts e last ▸ items Energies e last ▸ linked e
 
 abbrev Parts : Type 0
 Parts = (ℕ × ℕ) × (Figures × Lists)
@@ -70,10 +67,10 @@ module _ (e last : ℕ) where
   pub items-natural : (k : Listed) → Natural (items k e last)
   items-natural k = counted-natural _ (item-natural k e last)
 
-  pub energies-natural : Natural (items Energies e last ▸ since e 2 noLink link)
-  energies-natural = then-natural (items-natural Energies) (λ a. link-natural e)
+  pub energies-natural : Natural (items Energies e last ▸ linked e)
+  energies-natural = then-natural (items-natural Energies) (λ a. linked-natural e)
 
-  pub windows-natural : Natural (items Starts e last ▸ items Energies e last ▸ since e 2 noLink link)
+  pub windows-natural : Natural (items Starts e last ▸ items Energies e last ▸ linked e)
   windows-natural = then-natural (items-natural Starts) (λ a. energies-natural)
 
   pub lists-natural : Natural (lists e last)
@@ -87,7 +84,7 @@ module _ (e last : ℕ) where
 
 -- ---- as what stands ahead
 
-abbrev aheadWith : ℕ × ℕ → Figures → List ℕ → List ℤ → List M.StartWindow → List M.EnergyWindow → M.Link → Ahead
+abbrev aheadWith : ℕ × ℕ → Figures → List ℕ → List ℤ → List M.StartWindow → List M.EnergyWindow → M.Link × ℕ → Ahead
 aheadWith x f longest costs starts energies link = (
   record {
     side = x .0;
@@ -138,19 +135,19 @@ seen-three : {A B : Type 0} (view : B → A) (f : Item → B) (n : ℕ) (l : Lis
     → map view (take n (threes f l)) ≡ map (λ x. view (f x)) (take n l)
 seen-three view f n l few h = ap (map view) (three-items f n l few) ∙ seen view f n l h
 
-with-same : (x : ℕ × ℕ) (f : Figures) (l : M.Link) {a a′ : List ℕ} {b b′ : List ℤ} {c c′ : List M.StartWindow} {d d′ : List M.EnergyWindow}
+with-same : (x : ℕ × ℕ) (f : Figures) (l : M.Link × ℕ) {a a′ : List ℕ} {b b′ : List ℤ} {c c′ : List M.StartWindow} {d d′ : List M.EnergyWindow}
     → a ≡ a′ → b ≡ b′ → c ≡ c′ → d ≡ d′ → aheadWith x f a b c d l ≡ aheadWith x f a′ b′ c′ d′ l
 with-same x f l h i j k = rw (h, i, j, k) refl
 
 -- what the parts that were read say
-abbrev pub partsIn : SidesRead → FiguresRead → ItemsRead → ItemsRead → ItemsRead → Link → Parts
-partsIn x f a b c l = ((x .side, x .zonebits), (figuresIn f, (itemsIn States a, (itemsIn Starts b, (itemsIn Energies c, linkIn l)))))
+abbrev pub partsIn : SidesRead → FiguresRead → ItemsRead → ItemsRead → ItemsRead → LinkedRead → Parts
+partsIn x f a b c l = ((x .side, x .zonebits), (figuresIn f, (itemsIn States a, (itemsIn Starts b, (itemsIn Energies c, linkedIn l)))))
 
-device-seen : (x : SidesRead) (f : FiguresRead) (a b c : ItemsRead) (k : Link) → a .count ≤ mostStates → length (a .items) ≡ 4 → length (b .items) ≡ 4 → length (c .items) ≡ 4
+device-seen : (x : SidesRead) (f : FiguresRead) (a b c : ItemsRead) (k : LinkedRead) → a .count ≤ mostStates → length (a .items) ≡ 4 → length (b .items) ≡ 4 → length (c .items) ≡ 4
     → aheadOf (deviceFrom x f a b c k) ≡ aheadFrom (partsIn x f a b c k)
 device-seen x f a b c k few h i j =
     let l = take (a .count) (a .items) in
-    with-same (x .side, x .zonebits) (figuresIn f) (linkIn k)
+    with-same (x .side, x .zonebits) (figuresIn f) (linkedIn k)
     (seen-three (λ s. s .longest) stateFrom (a .count) (a .items) few h ∙ sym (map-map (λ (s : ℕ × ℤ). s .0) (itemIn States) l))
     (seen-three (λ s. less costOffset (s .cost)) stateFrom (a .count) (a .items) few h ∙ sym (map-map (λ (s : ℕ × ℤ). s .1) (itemIn States) l))
     (seen startIn startFrom (b .count) (b .items) i)
@@ -158,7 +155,8 @@ device-seen x f a b c k few h i j =
 
 -- ---- the answers
 
-pub device-made : (x : SidesRead) (f : FiguresRead) (a b c : ItemsRead) (k : Link) {g h : Grains} {limits : List Kw} {states : List State} {starts : List StartWindow} {energies : List EnergyWindow}
+pub device-made : (x : SidesRead) (f : FiguresRead) (a b c : ItemsRead) (k : LinkedRead) {g h : Grains} {limits : List Kw} {states : List State}
+    {starts : List StartWindow} {energies : List EnergyWindow}
     → MoneyMade (getD (f .costs) 1 0) g → MoneyMade (getD (f .costs) 2 0) h → limits ≡ limitsFrom (f .limits)
     → states ≡ threes stateFrom (a .items) → starts ≡ fours startFrom (b .items) → EnergiesMade (c .items) energies
     → DeviceMade x f a b c k (deviceWith x f g h limits (a .count) states (b .count) starts (c .count) energies k)
@@ -180,7 +178,7 @@ module _ (e zones last : ℕ) (s : List ℕ) (p : Place) where
 
   module _ (x : SidesRead) (f : FiguresRead) (a b c : ItemsRead) {q₁ q₂ q₃ : Place}
       (h : ItemsDone States e last s q₁ a) (i : ItemsDone Starts e last s q₂ b) (j : ItemsDone Energies e last s q₃ c) where
-    pub head-done : (w : Went) (l : Link) {d : Device} → told w (partsIn x f a b c l) ≡ got (parts e zones last) s p → DeviceMade x f a b c l d → HeadDone e s p zones last w d
+    pub head-done : (w : Went) (l : LinkedRead) {d : Device} → told w (partsIn x f a b c l) ≡ got (parts e zones last) s p → DeviceMade x f a b c l d → HeadDone e s p zones last w d
     head-done w l {d} t m = let k = m .is in record {
       is = ap (λ (d : Device). told w (aheadOf d)) k ∙ ap (λ (v : Ahead). told w v) (device-seen x f a b c l (h .few) (h .long) (i .long) (j .long))
           ∙ mapped (parts-natural e last zones) aheadFrom s p w (partsIn x f a b c l) (ahead-is e zones last s p) t;

@@ -6,6 +6,7 @@ use lib.ListN.{length}
 use Rattle.layouts.specs.declared.Fault.{Fault}
 use Rattle.layouts.specs.declared.Place.{Place}
 use Rattle.layouts.specs.Layout.{list, _then_, held}
+use Rattle.layouts.specs.Since.{has, since}
 use Rattle.model.specs.Case as M
 use Rattle.model.specs.Messages.{Head, apart, head, costs, ramps, zoneBits}
 use Rattle.model.specs.ByEdition as B
@@ -14,6 +15,7 @@ use Rattle.row_places.specs.declared.Device.{Device}
 use Rattle.records.specs.Views.{cellPair, deviceIn, devicePricesIn}
 use Rattle.fields.specs.declared.Went.{Went}
 use Rattle.fields.specs.Got.{good, bad, got, told, Natural, nat-natural, int-natural, then-natural, such-natural, held-natural, goes-on, goes-off, mapped}
+use Rattle.fields.specs.Since.{present-natural}
 use Rattle.field_rows.specs.Each.{list-natural, counted-natural}
 use Rattle.field_rows.proofs.Steps.{eight-natural}
 use Rattle.item_reader.specs.declared.Listed.the-variants.{States, Starts, Energies}
@@ -21,6 +23,7 @@ use Rattle.item_reader.specs.Naturals.{item-natural}
 use Rattle.floor_reader.proofs.Floors.{block-natural}
 use Rattle.reactive_cells.proofs.Reactive.{reactive-natural}
 use Rattle.link_reader.proofs.Links.{link-natural}
+use Rattle.device_reader.specs.Parts.{linked}
 use Rattle.device_reader.specs.Heads.{Ahead, ahead, aheadOf}
 
 -- ---- any reader goes on from its parts
@@ -43,12 +46,18 @@ costs-natural : Natural costs
 unfolding costs
 costs-natural = held-natural _ _ (then-natural (nat-natural _) (λ a. then-natural (nat-natural _) (λ b. nat-natural _)))
 
+pub bar-natural : (e : ℕ) → Natural (since e 5 0 B.bar)
+bar-natural e = present-natural (has 5 e) 0 (nat-natural _)
+
+pub linked-natural : (e : ℕ) → Natural (linked e)
+linked-natural e = then-natural (link-natural e) (λ a. bar-natural e)
+
 pub ahead-natural : (e zones last : ℕ) → Natural (ahead e zones last)
 unfolding apart
 ahead-natural e zones last =
     then-natural (head-natural zones) (λ a. then-natural costs-natural (λ b. then-natural (eight-natural (nat-natural _)) (λ c.
     then-natural (held-natural _ _ (counted-natural _ (item-natural States e last)))
-    (λ d. then-natural (counted-natural _ (item-natural Starts e last)) (λ f. then-natural (counted-natural _ (item-natural Energies e last)) (λ g. link-natural e))))))
+    (λ d. then-natural (counted-natural _ (item-natural Starts e last)) (λ f. then-natural (counted-natural _ (item-natural Energies e last)) (λ g. linked-natural e))))))
 
 pub cell-natural : (e : ℕ) → Natural (cell e)
 unfolding cell B.cellWith apart
@@ -75,7 +84,8 @@ made a cs = let h : Head = a .0 in (
     longest = a .1 .1 .1 .0 .0;
     startWindows = a .1 .1 .1 .1 .0;
     energyWindows = a .1 .1 .1 .1 .1 .0;
-    link = a .1 .1 .1 .1 .1 .1;
+    link = a .1 .1 .1 .1 .1 .1 .0;
+    bar = a .1 .1 .1 .1 .1 .1 .1;
     cells = map (λ c. c .0) cs;
   },
   record { onCost = a .1 .0 .on; startCost = a .1 .0 .start; stopCost = a .1 .0 .stop; stateCosts = a .1 .1 .1 .0 .1; cells = map (λ c. c .1) cs },
@@ -95,7 +105,8 @@ module _ (e n zones last : ℕ) where
   device-natural = held-natural _ _
       (then-natural (head-natural zones) (λ a. then-natural costs-natural (λ b. then-natural (eight-natural (nat-natural _)) (λ c.
       then-natural (held-natural _ _ (counted-natural _ (item-natural States e last))) (λ d. then-natural (counted-natural _ (item-natural Starts e last)) (λ f.
-      then-natural (counted-natural _ (item-natural Energies e last)) (λ g. then-natural (link-natural e) (λ h. held-natural _ _ (list-natural n (cell-natural e))))))))))
+      then-natural (counted-natural _ (item-natural Energies e last)) (λ g. then-natural (link-natural e) (λ h.
+      then-natural (bar-natural e) (λ b. held-natural _ _ (list-natural n (cell-natural e)))))))))))
 
   pub device-off : (s : List ℕ) (p : Place) {f : Fault} → got (ahead e zones last) s p ≡ bad f → got (B.device e n zones last) s p ≡ bad f
   device-off s p h = device-is s p ∙ goes-off (ahead-natural e zones last) s p bad _ h

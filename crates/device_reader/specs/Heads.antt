@@ -6,12 +6,10 @@ use lib.ListN.{getD, take}
 use lib.IntN.{ℤ}
 use Rattle.layouts.specs.declared.Place.{Place}
 use Rattle.layouts.specs.Layout.{Layout, _▸_, counted, countOf}
-use Rattle.layouts.specs.Since.{since}
 use Rattle.model.specs.Case as M
-use Rattle.model.specs.Case.{noLink}
 use Rattle.model.specs.Editions.{mostStates, mostWindows}
 use Rattle.model.specs.Messages.{Head, Costs, head, costs, eight, kW, apart, energyWindow}
-use Rattle.model.specs.ByEdition.{startWindow, link}
+use Rattle.model.specs.ByEdition.{startWindow}
 use Rattle.row_places.specs.declared.Device.{Device}
 use Rattle.row_places.specs.Figures.{DeviceSmall}
 use Rattle.records.specs.Kept.{DeviceLong}
@@ -20,6 +18,7 @@ use Rattle.fields.specs.declared.Went.{Went}
 use Rattle.fields.specs.declared.Went.the-variants.{On}
 use Rattle.fields.specs.Got.{got, told}
 use Rattle.item_reader.specs.Items.{state}
+use Rattle.device_reader.specs.Parts.{linked}
 
 abbrev pub states : Layout (List ℕ × List ℤ)
 states = apart (counted (countOf 3 0 mostStates) state)
@@ -31,11 +30,11 @@ abbrev pub energies : ℕ → Layout (List M.EnergyWindow)
 energies last = counted (countOf 3 0 mostWindows) (energyWindow last)
 
 abbrev pub Ahead : Type 0
-Ahead = Head × (Costs × (M.Reserves × ((List ℕ × List ℤ) × (List M.StartWindow × (List M.EnergyWindow × M.Link)))))
+Ahead = Head × (Costs × (M.Reserves × ((List ℕ × List ℤ) × (List M.StartWindow × (List M.EnergyWindow × (M.Link × ℕ))))))
 
 -- the parts of a device ahead of its cells, in its order
 abbrev pub ahead : ℕ → ℕ → ℕ → Layout Ahead
-ahead e zones last = head zones ▸ costs ▸ eight kW ▸ states ▸ starts e last ▸ energies last ▸ since e 2 noLink link
+ahead e zones last = head zones ▸ costs ▸ eight kW ▸ states ▸ starts e last ▸ energies last ▸ linked e
 
 -- what a record says as a value of it
 abbrev pub aheadOf : Device → Ahead
@@ -56,7 +55,7 @@ aheadOf d = (
       limitsIn (d .limits),
       (
         (map (λ s. s .longest) (take (d .nstates) (d .states)), map (λ s. less costOffset (s .cost)) (take (d .nstates) (d .states))),
-        (map startIn (take (d .nstarts) (d .starts)), (map energyIn (take (d .nenergies) (d .energies)), linkIn (d .link))),
+        (map startIn (take (d .nstarts) (d .starts)), (map energyIn (take (d .nenergies) (d .energies)), (linkIn (d .link), d .bar))),
       ),
     ),
   ),

@@ -17,7 +17,7 @@ ghost use lib.Dec.{eqb};
 ghost use Rattle.layouts.specs.Layout.{noted};
 ghost use Rattle.fields.specs.Got.{got, told};
 ghost use Rattle.field_rows.specs.Each.{row, narrow};
-ghost use Rattle.device_reader.specs.Parts.{sides, firsts, figures, figuresIn, MoneyMade, limitsFrom, DeviceMade};
+ghost use Rattle.device_reader.specs.Parts.{sides, firsts, figures, figuresIn, linked, linkedIn, MoneyMade, limitsFrom, DeviceMade};
 ghost use Rattle.model.specs.Editions.{mostZones};
 ghost use Rattle.device_reader.specs.Heads.{HeadDone};
 
@@ -215,7 +215,7 @@ fn read_figures(s: &[u8], p: Place) -> FiguresRead
     }
 }
 
-// ---- the record
+// ---- parts of the record
 
 fn money_of(x: u32) -> Grains
     ensures { λ r. ⌜ MoneyMade x r ⌝ }
@@ -239,16 +239,58 @@ fn limits_of(figures: FiguresRead) -> [Kw; 8]
     ]
 }
 
-// A device's record, from its figures, its lists and its link.
+// ---- link and bar
+
+// What stands last ahead of the intervals.
+pub struct LinkedRead {
+    pub went: Went,
+    pub link: Link,
+    pub bar: u32,
+}
+
+fn no_linked(went: Went) -> LinkedRead
+    ensures { λ r. ⌜ r .went ≡ went ⌝ }
+{
+    LinkedRead {
+        went,
+        link: link_reader::NEUTRAL,
+        bar: 0,
+    }
+}
+
+// The link, then the bar.
+fn read_linked(s: &[u8], p: Place, edition: u32) -> LinkedRead
+    ensures { λ r. ⌜ told (r .went) (linkedIn r) ≡ got (linked edition) (now (s .entry)) p ⌝ }
+{
+    let first = link_reader::read_link(s, p, edition);
+    let went = first.went;
+    let Went::On(at_bar) = went else {
+        return no_linked(went);
+    };
+    let second = busbar_reader::read_bar(s, at_bar, edition);
+    let Figure::Good(bar, past) = second else {
+        return no_linked(fields::place_of(second));
+    };
+    let link = first.link;
+    LinkedRead {
+        went: Went::On(past),
+        link,
+        bar,
+    }
+}
+
+// ---- the record
+
+// A device's record, from its figures, its lists, its link and its bar.
 fn device_of(
     sides: SidesRead,
     figures: FiguresRead,
     states: ItemsRead,
     starts: ItemsRead,
     energies: ItemsRead,
-    link: Link,
+    linked: LinkedRead,
 ) -> Device
-    ensures { λ r. ⌜ DeviceMade sides figures states starts energies link r ⌝ }
+    ensures { λ r. ⌜ DeviceMade sides figures states starts energies linked r ⌝ }
 {
     let initial = figures.initial;
     let ramps = figures.ramps;
@@ -257,6 +299,7 @@ fn device_of(
     let state_items = list_records::states_of(states);
     let start_items = list_records::starts_of(starts);
     let energy_items = list_records::energies_of(energies);
+    let link = linked.link;
     Device {
         side: sides.side,
         zonebits: sides.zonebits,
@@ -277,6 +320,7 @@ fn device_of(
         nenergies: energies.count,
         energies: energy_items,
         link,
+        bar: linked.bar,
     }
 }
 
@@ -295,7 +339,7 @@ fn stopped(went: Went) -> HeadRead
         none,
         none,
         none,
-        link_reader::NEUTRAL,
+        no_linked(went),
     );
     HeadRead { went, device }
 }
@@ -330,9 +374,8 @@ pub fn read_head(s: &[u8], p: Place, edition: u32, zones: u32, last: u32) -> Hea
     let Went::On(at_link) = went else {
         return stopped(went);
     };
-    let linked = link_reader::read_link(s, at_link, edition);
+    let linked = read_linked(s, at_link, edition);
     let went = linked.went;
-    let link = linked.link;
-    let device = device_of(sides, figures, states, starts, energies, link);
+    let device = device_of(sides, figures, states, starts, energies, linked);
     HeadRead { went, device }
 }

@@ -6,11 +6,12 @@ ghost use lib.ListN.{getD, length};
 ghost use Rattle.grains.specs.Money.{grains};
 ghost use Rattle.model.specs.Editions.{mostStates, mostWindows};
 ghost use Rattle.row_places.specs.Figures.{deviceWith, windowOf, statesOf, startsOf, energiesOf, limitsOf, deviceOf, stateOf, startOf, energyOf, linkOf, sideAt, zonebitsAt};
-ghost use Rattle.row_places.specs.Figures.{on0At, minutes0At, oncostAt, startcostAt, stopcostAt, statesAt, stateAt, energiesAt, energyAt, linkAt};
+ghost use Rattle.row_places.specs.Figures.{on0At, minutes0At, oncostAt, startcostAt, stopcostAt, statesAt, stateAt, energiesAt, energyAt, linkAt, barAt, limitAt};
 use energy::KwMin;
 use grains::Grains;
 use kilovars::SignedKvar;
 use kilowatts::Kw;
+use row_places::DEVICE_BAR;
 use row_places::DEVICE_MIN_DOWN;
 use row_places::DEVICE_MIN_UP;
 use row_places::DEVICE_MINUTES_0;
@@ -39,6 +40,7 @@ use row_places::ENERGIES;
 use row_places::ENERGY_WIDTH;
 use row_places::EnergyWindow;
 use row_places::LINK_KIND;
+use row_places::LINK_LIMIT;
 use row_places::LOWER_OFFSET;
 use row_places::LOWER_SLOPE;
 use row_places::Line;
@@ -205,6 +207,7 @@ fn device_with(
         nenergies,
         energies: energies_in(r),
         link: link_in(r),
+        bar: r[DEVICE_BAR],
     }
 }
 
@@ -227,6 +230,22 @@ pub fn side_at(devices: &[DeviceRow], i: usize) -> u32
     ensures { λ r. ⌜ r ≡ sideAt (now (devices .entry)) i ⌝ }
 {
     devices[i][DEVICE_SIDE]
+}
+
+// The bar that it stands on.
+pub fn bar_at(devices: &[DeviceRow], i: usize) -> u32
+    requires { ⌜ i < length (now devices) ⌝ }
+    ensures { λ r. ⌜ r ≡ barAt (now (devices .entry)) i ⌝ }
+{
+    devices[i][DEVICE_BAR]
+}
+
+// The limit of the link between the bars, which stands in the first device's row.
+pub fn limit_at(devices: &[DeviceRow]) -> Kw
+    requires { ⌜ 0 < length (now devices) ⌝ }
+    ensures { λ r. ⌜ r .0 ≡ limitAt (now (devices .entry)) ⌝ }
+{
+    Kw(devices[0][LINK_LIMIT])
 }
 
 pub fn zonebits_at(devices: &[DeviceRow], i: usize) -> u32

@@ -1,11 +1,14 @@
 // A device into its row.
 ghost use mathlib.Core.Path.{_≡_};
 ghost use Prim.Native.Nat.{_<_, _^_};
-ghost use lib.ListN.{length, set};
-ghost use Rattle.row_places.specs.Figures.{stateFigures, startFigures, energyFigures, EnergiesSmall, DeviceSmall, deviceRow};
+ghost use mathlib.Core.List.{[]};
+ghost use lib.ListN.{length, getD, set};
+ghost use Rattle.row_places.specs.Figures.{stateFigures, startFigures, energyFigures, EnergiesSmall, DeviceSmall, deviceRow, withLimit};
+use kilowatts::Kw;
 use row_places::Device;
 use row_places::DeviceRow;
 use row_places::EnergyWindow;
+use row_places::LINK_LIMIT;
 use row_places::StartWindow;
 use row_places::State;
 
@@ -170,6 +173,8 @@ fn device_row(d: Device) -> DeviceRow
         d.link.upper.slope,
         d.link.lower.offset.0,
         d.link.lower.slope,
+        d.bar,
+        0,
     ]
 }
 
@@ -179,4 +184,14 @@ pub fn put_device(devices: &mut [DeviceRow], i: usize, d: Device)
     ensures { λ _. ⌜ now (devices .exit) ≡ set (now (devices .entry)) i (deviceRow d) ⌝ }
 {
     devices[i] = device_row(d);
+}
+
+// The limit of the link between the bars into the first device's row; the row's other figures stay.
+pub fn put_limit(devices: &mut [DeviceRow], x: Kw)
+    requires { ⌜ 0 < length (now devices) ⌝ }
+    ensures { λ _. ⌜ now (devices .exit) ≡ set (now (devices .entry)) 0 (withLimit (getD (now (devices .entry)) 0 []) (x .0)) ⌝ }
+{
+    let mut row = devices[0];
+    row[LINK_LIMIT] = x.0;
+    devices[0] = row;
 }

@@ -4,7 +4,7 @@ use mathlib.Core.List.{List, [], _++_}
 use Prim.Native.Nat.{ℕ, suc, _+_, _-_, _*_, _≤_, _<_}
 use native.Mathlib.Decide.{decLe}
 use native.Mathlib.Omega.{arith}
-use lib.ListN.{length, set, take, drop}
+use lib.ListN.{length, getD, set, take, drop}
 use lib.Seq.{getD-set-same, getD-set-other}
 use Rattle.layouts.specs.declared.Fault.{Fault}
 use Rattle.layouts.specs.declared.Place.{Place}
@@ -20,7 +20,7 @@ use Rattle.fields.specs.Got.{told, told-off, went-good, went-bad}
 use Rattle.cell_reader.specs.Cells.{CellsDone}
 use Rattle.device_reader.specs.Heads.{HeadDone, aheadOf}
 use Rattle.device_reader.specs.Devices.{device-natural, device-off, device-on}
-use Rattle.zone_table.specs.Tables.{Fits, devicePair, DeviceDone, devicesIn, Manned, DevicesDone}
+use Rattle.zone_table.specs.Tables.{Fits, devicePair, DeviceDone, devicesIn, Stored, Manned, DevicesDone}
 use Rattle.zone_table.proofs.PartSteps.{Parting, parting-none, parting-more, parting-off, parting-done, inside, inside-heads, own-long}
 
 -- ---- a device
@@ -49,12 +49,14 @@ module _ (e : ℕ) (s : List ℕ) (p : Place) (zones last : ℕ) (d : Device) {x
 -- i of n devices have been read, and the next one's cells begin at a
 pub record Manning (e : ℕ) (s : List ℕ) (n m zones last : ℕ) (start : Place) (devices₀ cells₀ : List (List ℕ)) (i a : ℕ) (devices cells : List (List ℕ)) (p : Place) : Type 0 where
   pub parting : Parting (λ k. B.device e k zones last) devicePair s n m start devices₀ cells₀ i a devices cells p
+  pub stored : (j : ℕ) → j < i → Stored (getD devices j [])
   pub manned : Manned i m devices cells
 
 module _ {e : ℕ} {s : List ℕ} {n m zones last : ℕ} {start : Place} where
   pub manning-none : (devices cells : List (List ℕ)) → Manning e s n m zones last start devices cells 0 0 devices cells start
   manning-none devices cells = record {
     parting = parting-none devices cells;
+    stored = λ i l. absurd (omega arith);
     manned = record { counted = λ i l. absurd (omega arith); padded = λ k l. absurd (omega arith) };
   }
 
@@ -70,6 +72,12 @@ module _ {e : ℕ} {s : List ℕ} {n m zones last : ℕ} {start : Place} where
           let at : a ≡ i * m = u .parting .at in
           record {
             parting = parting-more (u .parting) fits h (device-natural e m zones last) (deviceRow d) own k w (g .is) o f;
+            stored = λ j l. rw f (elim (decLe (suc j) i) [
+              | yes y ↦ rw (getD-set-other devices i j (deviceRow d) [] (λ e. omega (arith, e))) (u .stored j y)
+              | no y ↦
+                  let z : j ≡ i = omega arith in
+                  rw z (record { device = d; is = getD-set-same devices i (deviceRow d) [] (inside-heads (u .parting) fits h) })
+            ]);
             manned = record {
               counted = λ j l. rw f (elim (decLe (suc j) i) [
                 | yes y ↦ rw (getD-set-other devices i j (deviceRow d) [] (λ e. omega (arith, e))) (u .manned .counted j y)
@@ -88,8 +96,11 @@ module _ {e : ℕ} {s : List ℕ} {n m zones last : ℕ} {start : Place} where
       pub manning-off : (ds cs : List (List ℕ)) {f : Fault} → w ≡ W.Off f → DevicesDone e s start n m zones last w ds cs
       manning-off ds cs o = record {
         is = parting-off (u .parting) fits h (device-natural e m zones last) (deviceRow d) own k w (g .is) (devicesIn n m ds cs) o;
+        stored = λ q k. absurd (let z : _≡_ {A = ℕ} 0 1 = cc in omega (arith, z));
         manned = λ q k. absurd (let z : _≡_ {A = ℕ} 0 1 = cc in omega (arith, z));
       }
 
     pub manning-done : n ≤ i → DevicesDone e s start n m zones last (W.On p) devices cells
-    manning-done h = let z : i ≡ n = omega (arith, u .parting .reading .within) in record { is = parting-done (u .parting) h; manned = λ q o. rw z at (u .manned) }
+    manning-done h =
+        let z : i ≡ n = omega (arith, u .parting .reading .within) in
+        record { is = parting-done (u .parting) h; stored = λ q o i l. u .stored i (omega arith); manned = λ q o. rw z at (u .manned) }

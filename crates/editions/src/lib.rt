@@ -6,7 +6,7 @@ ghost use Rattle.layouts.specs.Since.{has};
 ghost use Rattle.model.specs.Editions as E;
 
 // The newest edition there is.
-pub const NEWEST: u32 = 4;
+pub const NEWEST: u32 = 5;
 
 // The edition that widened counts and most starts.
 const WIDE: u32 = 4;

@@ -2,7 +2,7 @@
 ghost use mathlib.Core.Path.{_≡_};
 ghost use Prim.Native.Nat.{_*_, _<_};
 ghost use lib.ListN.{length};
-ghost use Rattle.model.specs.Rules.{cellBreach, windowBreach};
+ghost use Rattle.model.specs.Rules.{cellBreach, linkBreach, windowBreach};
 ghost use Rattle.model.specs.Breaches.{failing, cellTests};
 ghost use Rattle.records.specs.Views.{systemIn, planIn, mostWindows, mostDevices, mostIntervals, Ready};
 ghost use Rattle.cell_bounds.specs.Word.{numbersIn};
@@ -30,6 +30,19 @@ pub fn cell_breach(rule: u64, t: usize, i: usize) -> Breach
         rule,
         interval,
         device,
+        window: 0,
+    }
+}
+
+// Rule 27 of an interval, "with device 0 in its place".
+pub fn link_breach(t: usize) -> Breach
+    requires { ⌜ t < mostIntervals ⌝ }
+    ensures { λ r. ⌜ r ≡ linkBreach t 27 ⌝ }
+{
+    Breach {
+        rule: 27,
+        interval: t as u64 + 1,
+        device: 0,
         window: 0,
     }
 }

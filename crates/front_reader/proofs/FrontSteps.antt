@@ -10,8 +10,11 @@ use Rattle.numbers.specs.Sum.{sumℕ, sumℕ-append}
 use Rattle.layouts.specs.declared.Fault.{Fault}
 use Rattle.layouts.specs.declared.Place.{Place}
 use Rattle.layouts.specs.Layout.{nat, list, repeated, _then_, held, begin, figure, fixed, countOf}
+use Rattle.layouts.specs.Since.{has}
 use Rattle.model.specs.Editions.{Largest, deviceBits, intervalBits, devicesIn, intervalsIn}
 use Rattle.model.specs.ByEdition.{caseKind, editionField, deviceCount, intervalCount, zoneCount, counts, countsBy}
+use Rattle.kilowatts.specs.declared.Kw.{Kw}
+use Rattle.kilowatts.specs.Power.{kw}
 use Rattle.row_places.specs.declared.Counts.{Counts}
 use Rattle.row_places.specs.declared.Front.{Front}
 use Rattle.fields.specs.declared.Figure.{Figure}
@@ -21,9 +24,9 @@ use Rattle.fields.specs.declared.Went.the-variants as W
 use Rattle.fields.specs.Got.{Got, good, bad, got, told, figured, placed, Natural, nat-natural, then-natural, held-natural, goes-on, goes-off}
 use Rattle.fields.specs.Got.{nat-within, mapped, placed-off, told-off, went-good, went-bad}
 use Rattle.field_rows.specs.Each.{list-natural}
-use Rattle.fields.specs.Since.{count-of}
+use Rattle.fields.specs.Since.{count-of, present-natural}
 use Rattle.fields.proofs.Steps.{figure-on, figure-off}
-use Rattle.front_reader.specs.Fronts.{edition, countsIn, CountsDone, prices, PricesDone, front, frontIn, FrontDone}
+use Rattle.front_reader.specs.Fronts.{edition, countsIn, CountsDone, prices, PricesDone, limit, figures, FiguresDone, front, frontIn, FrontDone}
 
 -- ---- kind and edition
 
@@ -87,6 +90,7 @@ module _ (e : ℕ) (l : Largest) (s : List ℕ) (p : Place) where
             counts-done t₃ = record {
               is = sym (two ∙ goes-on (nat-natural _) s p₂ bad _ (figure-on h₂ t₃));
               within = λ q k. record {
+                some = nat-within (deviceCount e l) s p (figure-on h t₁) .0;
                 devices = omega (arith, nat-within (deviceCount e l) s p (figure-on h t₁));
                 intervals = omega (arith, nat-within (intervalCount e l) s p₁ (figure-on h₁ t₂));
                 zones = nat-within zoneCount s p₂ (figure-on h₂ t₃) .1;
@@ -102,36 +106,70 @@ pub prices-told : (s : List ℕ) (p : Place) (w : Went) (v : List ℕ) → lengt
 unfolding _then_ list repeated
 prices-told s p w v l e = mapped (list-natural 2 (nat-natural _)) (λ (v : List ℕ). (getD v 0 0, getD v 1 0)) s p w v refl (rw (take-all 2 v (omega arith)) at e)
 
+-- ---- the limit behind them
+
+pub limit-natural : (e : ℕ) → Natural (limit e)
+limit-natural e = present-natural (has 5 e) 0 (nat-natural _)
+
+pub figures-natural : (e : ℕ) → Natural (figures e)
+figures-natural e = then-natural (nat-natural _) (λ a. then-natural (nat-natural _) (λ b. limit-natural e))
+
+module _ (e : ℕ) (s : List ℕ) (p : Place) (f : Front) {w : Went} (h : PricesDone e s p w f) where
+  figures-is : got (figures e) s p ≡ prices .read s p bad (λ x p. limit e .read s p bad (λ y p. good (x .0, (x .1, y)) p))
+  unfolding _then_
+  figures-is = refl
+
+  pub figures-no-prices : (x : Kw) {y : Fault} → w ≡ W.Off y → FiguresDone e s p w f x
+  figures-no-prices x o = record {
+    is = told-off (f .mismatch, (f .overrun, x .0)) o (figures-is ∙ goes-off prices-natural s p bad _ (went-bad (f .mismatch, f .overrun) (h .is) o));
+    edition-is = h .edition-is;
+  }
+
+  module _ {q : Place} (o : w ≡ W.On q) where
+    behind : got (figures e) s p ≡ limit e .read s q bad (λ y p. good (f .mismatch, (f .overrun, y)) p)
+    behind = figures-is ∙ goes-on prices-natural s p bad _ (went-good (f .mismatch, f .overrun) (h .is) o)
+
+    module _ {r : Figure} (g : figured r ≡ got (limit e) s q) where
+      pub figures-no-limit : (x : Kw) {v : Went} {y : Fault} → r ≡ F.Bad y → v ≡ placed r → FiguresDone e s p v f x
+      figures-no-limit x t d = record {
+        is = told-off (f .mismatch, (f .overrun, x .0)) (placed-off d t) (behind ∙ goes-off (limit-natural e) s q bad _ (figure-off g t));
+        edition-is = h .edition-is;
+      }
+
+      pub figures-done : {y : ℕ} {z : Place} → r ≡ F.Good y z → FiguresDone e s p (W.On z) f (kw y)
+      figures-done t = record { is = sym (behind ∙ goes-on (limit-natural e) s q bad _ (figure-on g t)); edition-is = h .edition-is }
+
 -- ---- all of it
 
 pub front-natural : (l : Largest) → Natural (front l)
-front-natural l = then-natural edition-natural (λ e. then-natural (counts-natural e l) (λ n. prices-natural))
+front-natural l = then-natural edition-natural (λ e. then-natural (counts-natural e l) (λ n. figures-natural e))
 
 module _ (l : Largest) (s : List ℕ) where
-  front-is : got (front l) s begin ≡ edition .read s begin bad (λ e p. counts e l .read s p bad (λ n p. prices .read s p bad (λ x p. good (e, (n, x)) p)))
+  front-is : got (front l) s begin ≡ edition .read s begin bad (λ e p. counts e l .read s p bad (λ n p. figures e .read s p bad (λ x p. good (e, (n, x)) p)))
   unfolding _then_
   front-is = refl
 
-  none : (f : Front) (c : Counts) {w : Went} {x : Fault} → w ≡ W.Off x → got (front l) s begin ≡ bad x → FrontDone l s w f c
-  none f c o g = record { is = told-off (frontIn f c) o g; within = λ q k. absurd (let z : _≡_ {A = ℕ} 0 1 = cc in omega (arith, z)) }
+  none : (f : Front) (c : Counts) (y : Kw) {w : Went} {x : Fault} → w ≡ W.Off x → got (front l) s begin ≡ bad x → FrontDone l s w f c y
+  none f c y o g = record { is = told-off (frontIn f c y) o g; within = λ q k. absurd (let z : _≡_ {A = ℕ} 0 1 = cc in omega (arith, z)) }
 
   module _ {r : Figure} (h : figured r ≡ got edition s begin) where
-    pub front-no-edition : (f : Front) (c : Counts) {w v : Went} {x : Fault} → r ≡ F.Bad x → v ≡ placed r → w ≡ v → FrontDone l s w f c
-    front-no-edition f c t d k = none f c (k ∙ placed-off d t) (front-is ∙ goes-off edition-natural s begin bad _ (figure-off h t))
+    pub front-no-edition : (f : Front) (c : Counts) (y : Kw) {w v : Went} {x : Fault} → r ≡ F.Bad x → v ≡ placed r → w ≡ v → FrontDone l s w f c y
+    front-no-edition f c y t d k = none f c y (k ∙ placed-off d t) (front-is ∙ goes-off edition-natural s begin bad _ (figure-off h t))
 
     module _ {e : ℕ} {p₁ : Place} (t₁ : r ≡ F.Good e p₁) (c : Counts) {v : Went} (h₁ : CountsDone e l s p₁ v c) where
-      one₁ : got (front l) s begin ≡ counts e l .read s p₁ bad (λ n p. prices .read s p bad (λ x p. good (e, (n, x)) p))
+      one₁ : got (front l) s begin ≡ counts e l .read s p₁ bad (λ n p. figures e .read s p bad (λ x p. good (e, (n, x)) p))
       one₁ = front-is ∙ goes-on edition-natural s begin bad _ (figure-on h t₁)
 
-      pub front-no-counts : (f : Front) (d : Counts) {w : Went} {x : Fault} → v ≡ W.Off x → w ≡ v → FrontDone l s w f d
-      front-no-counts f d o k = none f d (k ∙ o) (one₁ ∙ goes-off (counts-natural e l) s p₁ bad _ (went-bad (countsIn c) (h₁ .is) o))
+      pub front-no-counts : (f : Front) (d : Counts) (y : Kw) {w : Went} {x : Fault} → v ≡ W.Off x → w ≡ v → FrontDone l s w f d y
+      front-no-counts f d y o k = none f d y (k ∙ o) (one₁ ∙ goes-off (counts-natural e l) s p₁ bad _ (went-bad (countsIn c) (h₁ .is) o))
 
-      pub front-done : (f : Front) {d : Counts} (w : Went) {p₂ : Place} → v ≡ W.On p₂ → PricesDone e c s p₂ w f d → FrontDone l s w f d
-      front-done f w {p₂} o y = rw (y .counts-are) (record {
-        is = ap (λ (k : ℕ). told w (k, (countsIn c, (f .mismatch, f .overrun)))) (y .edition-is)
-            ∙ mapped prices-natural (λ x. (e, (countsIn c, x))) s p₂ w (f .mismatch, f .overrun) (one₁ ∙ goes-on (counts-natural e l) s p₁ bad _ (went-good (countsIn c) (h₁ .is) o)) (y .is);
+      pub front-done : (f : Front) (x : Kw) (w : Went) {p₂ : Place} → v ≡ W.On p₂ → FiguresDone e s p₂ w f x → FrontDone l s w f c x
+      front-done f x w {p₂} o y = record {
+        is = ap (λ (k : ℕ). told w (k, (countsIn c, (f .mismatch, (f .overrun, x .0))))) (y .edition-is)
+            ∙ mapped (figures-natural e) (λ x. (e, (countsIn c, x))) s p₂ w (f .mismatch, (f .overrun, x .0))
+            (one₁ ∙ goes-on (counts-natural e l) s p₁ bad _ (went-good (countsIn c) (h₁ .is) o)) (y .is);
         within = λ q k. h₁ .within p₂ o;
-      })
+      }
 
 -- ---- the last E
 

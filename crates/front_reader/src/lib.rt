@@ -1,6 +1,7 @@
-// What stands ahead of a case's durations: kind and edition, counts, the prices of mismatch and overrun; and the end of its day.
+// What stands ahead of a case's durations: kind and edition, counts, the prices of mismatch and overrun, the link's limit; and the end of its day.
 use fields::Figure;
 use fields::Went;
+use kilowatts::Kw;
 use layouts::Clash;
 use layouts::Place;
 use row_places::Counts;
@@ -10,7 +11,7 @@ ghost use lib.ListN.{take};
 ghost use Rattle.model.specs.Messages.{lastEnd};
 ghost use Rattle.layouts.specs.Layout.{begin};
 ghost use Rattle.fields.specs.Got.{got, figured, placed};
-ghost use Rattle.front_reader.specs.Fronts.{edition, largest, CountsDone, PricesDone, FrontDone, Halves};
+ghost use Rattle.front_reader.specs.Fronts.{edition, largest, CountsDone, PricesDone, FiguresDone, FrontDone, Halves};
 
 // "kind 4 (1)"
 const CASE: u32 = 1;
@@ -35,10 +36,22 @@ pub struct CountsRead {
     pub counts: Counts,
 }
 
+pub struct PricesRead {
+    pub went: Went,
+    pub front: Front,
+}
+
+pub struct FiguresRead {
+    pub went: Went,
+    pub front: Front,
+    pub limit: Kw,
+}
+
 pub struct FrontRead {
     pub went: Went,
     pub front: Front,
     pub counts: Counts,
+    pub limit: Kw,
 }
 
 // Kind and edition.
@@ -104,9 +117,9 @@ fn read_counts(
     }
 }
 
-// The prices of mismatch and overrun, beside the edition and the counts.
-fn read_prices(s: &[u8], p: Place, edition: u32, counts: Counts) -> FrontRead
-    ensures { λ r. ⌜ PricesDone edition counts (now (s .entry)) p (r .went) (r .front) (r .counts) ⌝ }
+// The prices of mismatch and overrun, beside the edition.
+fn read_prices(s: &[u8], p: Place, edition: u32) -> PricesRead
+    ensures { λ r. ⌜ PricesDone edition (now (s .entry)) p (r .went) (r .front) ⌝ }
 {
     let mut v = [0u32; 2];
     let went = field_rows::read_list(s, p, 2, PRICE_BITS, LEAST_PRICE, MOST_PRICE, &mut v);
@@ -115,10 +128,36 @@ fn read_prices(s: &[u8], p: Place, edition: u32, counts: Counts) -> FrontRead
         mismatch: v[0],
         overrun: v[1],
     };
-    FrontRead {
-        went,
+    PricesRead { went, front }
+}
+
+// The prices, then the limit of the link.
+fn read_figures(s: &[u8], p: Place, edition: u32) -> FiguresRead
+    ensures { λ r. ⌜ FiguresDone edition (now (s .entry)) p (r .went) (r .front) (r .limit) ⌝ }
+{
+    let priced = read_prices(s, p, edition);
+    let went = priced.went;
+    let front = priced.front;
+    let Went::On(at_limit) = went else {
+        return FiguresRead {
+            went,
+            front,
+            limit: Kw(0),
+        };
+    };
+    let limited = busbar_reader::read_limit(s, at_limit, edition);
+    let Figure::Good(limit, past) = limited else {
+        let went = fields::place_of(limited);
+        return FiguresRead {
+            went,
+            front,
+            limit: Kw(0),
+        };
+    };
+    FiguresRead {
+        went: Went::On(past),
         front,
-        counts,
+        limit: Kw(limit),
     }
 }
 
@@ -139,12 +178,13 @@ fn no_front(went: Went) -> FrontRead
         went,
         front,
         counts,
+        limit: Kw(0),
     }
 }
 
 // All that stands ahead of the durations.
 pub fn read_front(s: &[u8], most_devices: u32, most_intervals: u32) -> FrontRead
-    ensures { λ r. ⌜ FrontDone (largest «most_devices» «most_intervals») (now (s .entry)) (r .went) (r .front) (r .counts) ⌝ }
+    ensures { λ r. ⌜ FrontDone (largest «most_devices» «most_intervals») (now (s .entry)) (r .went) (r .front) (r .counts) (r .limit) ⌝ }
 {
     let first = read_edition(s);
     let Figure::Good(edition, at_counts) = first else {
@@ -153,11 +193,20 @@ pub fn read_front(s: &[u8], most_devices: u32, most_intervals: u32) -> FrontRead
     };
     let counted = read_counts(s, at_counts, edition, most_devices, most_intervals);
     let went = counted.went;
-    let Went::On(at_prices) = went else {
+    let Went::On(at_figures) = went else {
         return no_front(went);
     };
     let counts = counted.counts;
-    read_prices(s, at_prices, edition, counts)
+    let read = read_figures(s, at_figures, edition);
+    let went = read.went;
+    let front = read.front;
+    let limit = read.limit;
+    FrontRead {
+        went,
+        front,
+        counts,
+        limit,
+    }
 }
 
 // The last E: twice the sum of the halves of m durations.

@@ -1,6 +1,6 @@
 -- The parts of our completion that belong to intervals.
 use mathlib.Core.List.{List}
-use Prim.Native.Nat.{ℕ, _*_}
+use Prim.Native.Nat.{ℕ, _+_, _*_}
 use lib.ListN.{length}
 use Rattle.numbers.specs.Sum.{sumℤ}
 use Rattle.numbers.specs.Base.{upTo}
@@ -14,8 +14,26 @@ use Rattle.money.specs.Bounds.{deviceMost, kindsMost, intervalMost}
 use Rattle.reactive_money.specs.Day.{deviceBalance, zoneBalance, intervalBalance}
 use Rattle.completion_size.specs.Size.{deviceWidth, zoneWidth, intervalWidth}
 use Rattle.completion_writer.specs.Whole.{deviceBits, zoneBits, intervalBits}
+use Rattle.grains.specs.declared.Ledger.{Ledger}
+use Rattle.mismatches.specs.declared.BarMismatches.{BarMismatches}
+use Rattle.reactive_slacks.specs.declared.ReactiveMismatches.{ReactiveMismatches}
+use Rattle.slack_money.specs.Charges.{MismatchEntered}
+use Rattle.reactive_money.specs.Charges.{ReactiveMismatchEntered}
 use Rattle.progress.specs.declared.Progress.{Progress}
 use Rattle.progress.specs.Advances.{Advances}
+
+-- the mismatches of both bars together
+abbrev pub both : BarMismatches → ℕ
+both x = x .first .0 + x .second .0
+
+abbrev pub bothReactive : ReactiveMismatches → ℕ
+bothReactive x = x .first .0 + x .second .0
+
+-- the money of the real ones, then of the reactive
+pub record MismatchesEntered (price minutes real reactive : ℕ) (l r : Ledger) : Type 0 where
+  pub between : Ledger
+  pub of-real : MismatchEntered price minutes real l between
+  pub of-reactive : ReactiveMismatchEntered price minutes reactive between r
 
 module _ (front : Front) (halves : List ℕ) (zones minima devices cells settings : List (List ℕ)) where
   abbrev c : Case

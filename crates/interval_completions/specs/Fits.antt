@@ -44,12 +44,12 @@ module _ {front : Front} {halves : List ℕ} {zones minima devices cells setting
     in-intervals : t < F.intervals q
     in-intervals = omega (arith, Viewed.intervals-are halves zones minima devices cells)
 
-    pub mismatch-fits : mismatchNeed q p t < 2 ^ 23
-    mismatch-fits = omega (arith, mismatch-bound q p (system-range (u .ready)) (plan-range (u .ready)) (u .rules) mostDevices (few-devices (u .ready)) t in-intervals)
+    pub mismatch-fits : (b : ℕ) → mismatchNeed q p t b < 2 ^ 23
+    mismatch-fits b = omega (arith, mismatch-bound q p (system-range (u .ready)) (plan-range (u .ready)) (u .rules) mostDevices (few-devices (u .ready)) t b in-intervals)
 
-    pub reactive-mismatch-fits : reactiveMismatchNeed q p t < 2 ^ 23
-    reactive-mismatch-fits =
-        omega (arith, reactive-mismatch-bound q p (system-range (u .ready)) (plan-range (u .ready)) (u .rules) mostDevices (few-devices (u .ready)) t in-intervals)
+    pub reactive-mismatch-fits : (b : ℕ) → reactiveMismatchNeed q p t b < 2 ^ 23
+    reactive-mismatch-fits b =
+        omega (arith, reactive-mismatch-bound q p (system-range (u .ready)) (plan-range (u .ready)) (u .rules) mostDevices (few-devices (u .ready)) t b in-intervals)
 
     module _ (i : ℕ) (l : i < length devices) {v : Choice} (o : OurChoice c p t i v) where
       pub choice-is : choiceIn (v .started) (v .stopped) (v .state) (v .blocks) ≡ deviceAt x t i

@@ -15,8 +15,8 @@ use Rattle.layouts.specs.Since.{since}
 use Rattle.model.specs.Case.{System, Plan, Case, noReactiveReserves}
 use Rattle.model.specs.Completion as C
 use Rattle.model.specs.Completion.{Completion, shortfalls, shortfallNeed, mismatchNeed, reactiveNeed, reactiveMismatchNeed}
-use Rattle.model.specs.Messages.{six}
-use Rattle.model.specs.ByEdition.{deviceChoice, reactiveChoice}
+use Rattle.model.specs.Messages.{six, noBars}
+use Rattle.model.specs.ByEdition.{deviceChoice, reactiveChoice, barsChoice}
 use Rattle.model.specs.Ours.{ours}
 use Rattle.theorems.specs.Back.{FitsSix, FitsDevice}
 use Rattle.pen.specs.declared.Pen.{Pen}
@@ -27,7 +27,7 @@ use Rattle.row_places.specs.declared.Cell.{Cell}
 use Rattle.row_places.specs.declared.Setting.{Setting}
 use Rattle.row_places.specs.declared.Zone.{Zone}
 use Rattle.row_places.specs.declared.Minima.{Minima}
-use Rattle.row_places.specs.Figures.{onAt, cellOf, settingOf, zoneOf, minimaOf, deviceAt}
+use Rattle.row_places.specs.Figures.{onAt, cellOf, settingOf, zoneOf, minimaOf, deviceAt, flowAt}
 use Rattle.numbers.specs.Parts.{part, part-at, part-cut, place-inside}
 use Rattle.records.specs.Views.{mostIntervals, systemIn, caseIn, planIn}
 use Rattle.records.specs.Viewed as Viewed
@@ -36,7 +36,8 @@ use Rattle.choices.specs.Cells.{CellOf}
 use Rattle.choices.specs.Choices.{ChoiceOf}
 use Rattle.block_fill.specs.Above.{sumOf}
 use Rattle.choices.specs.Here.{cell-here, floors-here, choice-learnt}
-use Rattle.mismatches.specs.Sides.{sidesTo, mismatchOf, mismatch-is}
+use Rattle.mismatches.specs.declared.BarMismatches.{BarMismatches}
+use Rattle.mismatches.specs.Sides.{barsTo, mismatchesBy, mismatchesOf, mismatches-are}
 use Rattle.zone_totals.specs.Sums.{sumsTo}
 use Rattle.zone_shortfalls.specs.Needs.{Thousandths, zoneNeeds, thousandths, shortfalls-are}
 use Rattle.model.specs.Editions.{mostZones}
@@ -46,24 +47,27 @@ use Rattle.money.specs.Unbroken.{Unbroken}
 use Rattle.money.specs.Ruled.{Ruled}
 use Rattle.money.specs.Terms.{our, cellBalance, CellEntered}
 use Rattle.money.specs.Here as Cells
-use Rattle.slack_money.specs.Charges.{ZoneOf, ZoneEntered, IntervalOf, MismatchEntered}
+use Rattle.slack_money.specs.Charges.{ZoneOf, ZoneEntered, mismatchesCost, IntervalOf, MismatchEntered}
 use Rattle.slack_money.specs.Here as Here
-use Rattle.reactive_money.specs.Charges.{HeldOf, HeldEntered, ReactiveZoneOf, ReactiveZoneEntered, ReactiveIntervalOf, ReactiveMismatchEntered}
+use Rattle.reactive_money.specs.Charges.{HeldOf, HeldEntered, ReactiveZoneOf, ReactiveZoneEntered, ReactiveIntervalOf}
 use Rattle.reactive_money.specs.Day.{deviceBalance, zoneBalance}
 use Rattle.reactive_money.specs.Here as Reactive
 use Rattle.reactive_slacks.specs.declared.ReactiveShortfalls.{ReactiveShortfalls}
-use Rattle.reactive_slacks.specs.Sides.{apartOf, reactive-mismatch-is}
-use Rattle.reactive_slacks.specs.Sides.{sidesTo as reactiveSidesTo}
+use Rattle.reactive_slacks.specs.declared.ReactiveMismatches.{ReactiveMismatches}
+use Rattle.reactive_slacks.specs.Sides.{reactive-mismatches-are}
+use Rattle.reactive_slacks.specs.Sides.{barsTo as reactiveBarsTo, mismatchesBy as reactiveMismatchesBy, mismatchesOf as reactiveMismatchesOf}
 use Rattle.reactive_slacks.specs.Held.{shortBy, shortOf, heldTo, reactive-shortfalls-are}
 use Rattle.reactive_writer.specs.Reactive.{twoOf}
-use Rattle.kilovars.specs.Reactive.{var}
+use Rattle.kilovars.specs.Reactive.{var, kvar}
+use Rattle.kilowatts.specs.Power.{kw}
 use Rattle.field_groups.specs.Fields.{choiceIn, sixOf}
-use Rattle.completion_size.specs.Size.{deviceWidth, sixWidth, twoWidth, zoneWidth, mismatchWidth, reactiveMismatchWidth}
-use Rattle.completion_writer.specs.Whole.{deviceBits, zoneBits, zone-pushes, interval-pushes}
+use Rattle.completion_size.specs.Size.{deviceWidth, sixWidth, twoWidth, zoneWidth, barsWidth, reactiveBarsWidth}
+use Rattle.completion_writer.specs.Bars.{barsOf}
+use Rattle.completion_writer.specs.Whole.{deviceBits, zoneBits, barsAt, reactiveBarsAt, zone-pushes, interval-pushes}
 use Rattle.progress.specs.declared.Progress.{Progress}
 use Rattle.progress.specs.Advances.{Advances, along}
 use Rattle.interval_completions.specs.Fits as Fits
-use Rattle.interval_completions.specs.Advances.{DevicesAdvance, ZonesAdvance, IntervalAdvances}
+use Rattle.interval_completions.specs.Advances.{both, bothReactive, MismatchesEntered, DevicesAdvance, ZonesAdvance, IntervalAdvances}
 
 -- a device's place in an interval
 pub record Place (k : ℕ) (cells settings : List (List ℕ)) (powers : List ℕ) : Type 0 where
@@ -211,42 +215,54 @@ module _ {front : Front} {halves : List ℕ} {zones minima devices cells setting
 
     -- ---- the mismatches, and with them the interval
 
-    module _ {y : ℕ} (e : y ≡ mismatchOf (sidesTo devices powers m t (length devices))) where
-      need-is : y ≡ mismatchNeed q p t
-      need-is = e ∙ mismatch-is (u .ready) t h
+    module _ {y : BarMismatches} (e : y ≡ mismatchesOf (barsTo devices powers m t (length devices)) (flowAt settings t)) where
+      needs-are : y ≡ mismatchesBy (kw (mismatchNeed q p t 0)) (kw (mismatchNeed q p t 1))
+      needs-are = e ∙ mismatches-are (u .ready) t h
 
-      pub mismatch-fits : y < 2 ^ 23
-      mismatch-fits = rw need-is (Fits.mismatch-fits u t h)
+      pub mismatches-fit : (y .first .0 < 2 ^ 23) × (y .second .0 < 2 ^ 23)
+      mismatches-fit = rw needs-are (Fits.mismatch-fits u t h 0, Fits.mismatch-fits u t h 1)
 
-      pub interval-of : {minutes : ℕ} → minutes ≡ 2 * getD halves t 0 → IntervalOf (front .mismatch) minutes y
-      interval-of em = Here.mismatch-here u t h refl em need-is
+      bars-are : barsOf (y .first .0) (y .second .0) ≡ barsAt x t
+      unfolding ours
+      bars-are = ap (λ (v : BarMismatches). barsOf (v .first .0) (v .second .0)) needs-are
 
-      pub mismatch-paid : {minutes : ℕ} → minutes ≡ 2 * getD halves t 0 → {b d : Ledger} → MismatchEntered (front .mismatch) minutes y b d
-          → Entered b d (negℤ (C.mismatchCost c p (our c p) t)) mismatchCostMost
-      mismatch-paid em e = Here.mismatch-learnt u t h refl em need-is e
+      both-is : both y ≡ mismatchNeed q p t 0 + mismatchNeed q p t 1
+      both-is = ap both needs-are
 
-    module _ {y : ℕ} (e : y ≡ apartOf (reactiveSidesTo devices settings m t (length devices))) where
-      reactive-need-is : y ≡ reactiveMismatchNeed q p t
-      reactive-need-is = e ∙ reactive-mismatch-is (u .ready) t h
+      pub interval-of : {minutes : ℕ} → minutes ≡ 2 * getD halves t 0 → IntervalOf (front .mismatch) minutes (both y)
+      interval-of em = Here.mismatch-here u t h refl em both-is
 
-      pub reactive-mismatch-fits : y < 2 ^ 23
-      reactive-mismatch-fits = rw reactive-need-is (Fits.reactive-mismatch-fits u t h)
+      mismatch-paid : {minutes : ℕ} → minutes ≡ 2 * getD halves t 0 → {b d : Ledger} → MismatchEntered (front .mismatch) minutes (both y) b d
+          → Entered b d (negℤ (mismatchesCost c p t)) mismatchCostMost
+      mismatch-paid em e = Here.mismatch-learnt u t h refl em both-is e
 
-      pub reactive-interval-of : {minutes : ℕ} → minutes ≡ 2 * getD halves t 0 → ReactiveIntervalOf (front .mismatch) minutes y
-      reactive-interval-of em = Reactive.mismatch-here u t h refl em reactive-need-is
+    module _ {y : ReactiveMismatches} (e : y ≡ reactiveMismatchesOf (reactiveBarsTo devices settings m t (length devices))) where
+      reactive-needs-are : y ≡ reactiveMismatchesBy (kvar (reactiveMismatchNeed q p t 0)) (kvar (reactiveMismatchNeed q p t 1))
+      reactive-needs-are = e ∙ reactive-mismatches-are (u .ready) t h
 
-    module _ {y z minutes : ℕ} (e : y ≡ mismatchOf (sidesTo devices powers m t (length devices))) (er : z ≡ apartOf (reactiveSidesTo devices settings m t (length devices)))
-        (em : minutes ≡ 2 * getD halves t 0) where
-      pub interval-done : {a b d f g : List ℕ} {r s v : Progress} {w o : Ledger} {k pen : Pen}
+      pub reactive-mismatches-fit : (y .first .0 < 2 ^ 23) × (y .second .0 < 2 ^ 23)
+      reactive-mismatches-fit = rw reactive-needs-are (Fits.reactive-mismatch-fits u t h 0, Fits.reactive-mismatch-fits u t h 1)
+
+      reactive-bars-are : barsOf (y .first .0) (y .second .0) ≡ reactiveBarsAt x t
+      unfolding ours
+      reactive-bars-are = ap (λ (v : ReactiveMismatches). barsOf (v .first .0) (v .second .0)) reactive-needs-are
+
+      reactive-both-is : bothReactive y ≡ reactiveMismatchNeed q p t 0 + reactiveMismatchNeed q p t 1
+      reactive-both-is = ap bothReactive reactive-needs-are
+
+      pub reactive-interval-of : {minutes : ℕ} → minutes ≡ 2 * getD halves t 0 → ReactiveIntervalOf (front .mismatch) minutes (bothReactive y)
+      reactive-interval-of em = Reactive.mismatch-here u t h refl em reactive-both-is
+
+    module _ {y : BarMismatches} {z : ReactiveMismatches} {minutes : ℕ} (e : y ≡ mismatchesOf (barsTo devices powers m t (length devices)) (flowAt settings t))
+        (er : z ≡ reactiveMismatchesOf (reactiveBarsTo devices settings m t (length devices))) (em : minutes ≡ 2 * getD halves t 0) where
+      pub interval-done : {a b d f g : List ℕ} {r s v : Progress} {o : Ledger} {k pen : Pen}
           → DevicesAdvance front halves zones minima devices cells settings t (length devices) a b r s
           → ZonesAdvance front halves zones minima devices cells settings t (length zones) b d s v
-          → MismatchEntered (front .mismatch) minutes y (v .money) w
-          → ReactiveMismatchEntered (front .mismatch) minutes z w o
-          → Pushes mismatchWidth (any 23 .write y) d f (v .pen) k
-          → Pushes (reactiveMismatchWidth (front .edition)) (since (front .edition) 2 0 (any 23) .write z) f g k pen
+          → MismatchesEntered (front .mismatch) minutes (both y) (bothReactive z) (v .money) o
+          → Pushes (barsWidth (front .edition)) (barsChoice (front .edition) .write (barsOf (y .first .0) (y .second .0))) d f (v .pen) k
+          → Pushes (reactiveBarsWidth (front .edition)) (since (front .edition) 2 noBars (barsChoice (front .edition)) .write (barsOf (z .first .0) (z .second .0))) f g k pen
           → IntervalAdvances front halves zones minima devices cells settings t a g r (along o pen)
-      unfolding ours
-      interval-done i j w o k l =
+      interval-done i j w k l =
           let n = Viewed.devices-are halves zones minima devices cells in
           let b = Viewed.zones-are halves zones minima devices cells in
           let d = front .edition in
@@ -254,8 +270,8 @@ module _ {front : Front} {halves : List ℕ} {zones minima devices cells setting
             pushes = pushes-as refl (rw (n, b) refl) (interval-pushes d q x t
                 (pushes-as (ap (run (deviceBits x t)) (sym n)) (ap (λ (k : ℕ). k * deviceWidth) (sym n)) (i .pushes))
                 (pushes-as (ap (run (zoneBits d x t)) (sym b)) (ap (λ (k : ℕ). k * zoneWidth d) (sym b)) (j .pushes))
-                (pushes-as (ap (any 23 .write) (need-is e)) refl k)
-                (pushes-as (ap (since d 2 0 (any 23) .write) (reactive-need-is er)) refl l));
-            entered = Reactive.interval-whole u t (i .entered) (j .entered) (mismatch-paid e em w)
-                (Reactive.mismatch-learnt u t h refl em (reactive-need-is er) o);
+                (pushes-as (ap (barsChoice d .write) (bars-are e)) refl k)
+                (pushes-as (ap (since d 2 noBars (barsChoice d) .write) (reactive-bars-are er)) refl l));
+            entered = Reactive.interval-whole u t (i .entered) (j .entered) (mismatch-paid e em (w .of-real))
+                (Reactive.mismatch-learnt u t h refl em (reactive-both-is er) (w .of-reactive));
           }

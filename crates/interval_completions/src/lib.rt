@@ -2,18 +2,21 @@
 use cell_rows::cell_at;
 use choice_writer::put_choice;
 use choices::choose;
-use completion_writer::put_mismatch;
+use completion_writer::put_mismatches;
 use completion_writer::put_shortfalls;
+use grains::Ledger;
 use kilowatts::Kw;
-use mismatches::mismatch;
+use mismatches::BarMismatches;
+use mismatches::mismatches;
 use money::cell_money;
 use progress::Progress;
 use reactive_money::reactive_mismatch_money;
 use reactive_money::reactive_reserves_money;
 use reactive_money::reactive_zone_money;
-use reactive_slacks::reactive_mismatch;
+use reactive_slacks::ReactiveMismatches;
+use reactive_slacks::reactive_mismatches;
 use reactive_slacks::reactive_shortfalls;
-use reactive_writer::put_reactive_mismatch;
+use reactive_writer::put_reactive_mismatches;
 use reactive_writer::put_reactive_shortfalls;
 use row_places::CellRow;
 use row_places::DeviceRow;
@@ -34,11 +37,13 @@ ghost use Rattle.pen.specs.Pens.{Ready};
 ghost use Rattle.pen.specs.Runs.{Room};
 ghost use Rattle.records.specs.Views.{mostDevices, mostIntervals};
 ghost use Rattle.model.specs.Editions.{mostZones};
-ghost use Rattle.money.specs.Bounds.{deviceMost, kindsMost, intervalMost};
+ghost use Rattle.money.specs.Bounds.{deviceMost, kindsMost, mismatchesMost, intervalMost};
 ghost use Rattle.money.specs.Entries.{Spare};
 ghost use Rattle.money.specs.Unbroken.{Unbroken};
+ghost use Rattle.slack_money.specs.Charges.{IntervalOf};
+ghost use Rattle.reactive_money.specs.Charges.{ReactiveIntervalOf};
 ghost use Rattle.completion_size.specs.Size.{deviceWidth, zoneWidth, intervalWidth};
-ghost use Rattle.interval_completions.specs.Advances.{DevicesAdvance, ZonesAdvance, IntervalAdvances, IntervalsAdvance};
+ghost use Rattle.interval_completions.specs.Advances.{both, bothReactive, MismatchesEntered, DevicesAdvance, ZonesAdvance, IntervalAdvances, IntervalsAdvance};
 
 // The devices of interval t: "per device started, stopped, startup state, four block powers".
 fn complete_devices(
@@ -129,7 +134,22 @@ fn complete_zones(
     Progress { money, pen }
 }
 
-// Interval t: its devices, its zones, "then mismatch", and since edition 2 the reactive one.
+// The money of an interval's mismatches, real and reactive.
+fn mismatches_money(
+    l: Ledger,
+    real: BarMismatches,
+    reactive: ReactiveMismatches,
+    price: u32,
+    minutes: u32,
+) -> Ledger
+    requires { ⌜ Spare mismatchesMost l × IntervalOf price minutes (both real) × ReactiveIntervalOf price minutes (bothReactive reactive) ⌝ }
+    ensures { λ r. ⌜ MismatchesEntered price minutes (both real) (bothReactive reactive) l r ⌝ }
+{
+    let l = mismatch_money(l, real.first, real.second, price, minutes);
+    reactive_mismatch_money(l, reactive.first, reactive.second, price, minutes)
+}
+
+// Interval t: its devices, its zones, "then mismatch" of each bar, and since edition 2 the reactive ones.
 fn complete_interval(
     front: Front,
     halves: &[u32],
@@ -180,12 +200,11 @@ fn complete_interval(
         buf,
         a,
     );
-    let apart = mismatch(devices, powers, halves.len(), t);
-    let reactive = reactive_mismatch(devices, settings, halves.len(), t);
-    let money = mismatch_money(b.money, apart, front.mismatch, minutes);
-    let money = reactive_mismatch_money(money, reactive, front.mismatch, minutes);
-    let pen = put_mismatch(buf, b.pen, apart);
-    let pen = put_reactive_mismatch(buf, pen, front.edition, reactive);
+    let real = mismatches(devices, settings, powers, halves.len(), t);
+    let reactive = reactive_mismatches(devices, settings, halves.len(), t);
+    let money = mismatches_money(b.money, real, reactive, front.mismatch, minutes);
+    let pen = put_mismatches(buf, b.pen, front.edition, real.first, real.second);
+    let pen = put_reactive_mismatches(buf, pen, front.edition, reactive.first, reactive.second);
     Progress { money, pen }
 }
 

@@ -11,6 +11,19 @@ ghost use lib.Dec.{leb};
 // Power.
 pub struct Kw(pub u32);
 
+// A power of either sign, kept from 0: the figure is the number less 100,000.
+pub struct SignedKw(pub u32);
+
+// Its field, "18 bits, ±100,000" in two's complement; half is the weight of its highest bit.
+pub const SIGNED_BITS: u64 = 18;
+
+pub const SIGNED_HALF: u64 = 131072;
+
+pub const MOST_KW: u64 = 100000;
+
+// No power, as it is kept.
+pub const NO_KW: SignedKw = SignedKw(MOST_KW as u32);
+
 fn lesser(a: u32, b: u32) -> u32
     ensures { λ r. ⌜ r ≡ min a b ⌝ }
 {

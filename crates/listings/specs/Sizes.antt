@@ -1,10 +1,9 @@
 -- How long the list of breaches can be, and that each of its figures fits a byte.
 use mathlib.Core.Path.{_≡_, refl, sym, ap, _∙_}
 use mathlib.Core.Bool.{Bool, true, false}
-use mathlib.Core.List.{List, [], _∷_, _++_, map}
+use mathlib.Core.List.{List, [], _∷_}
 use Prim.Native.Nat.{ℕ, suc, _+_, _*_, _≤_, _<_}
 use native.Mathlib.Omega.{arith}
-use native.Mathlib.Nat.{mul-le-mul, le-refl}
 use lib.ListN.{length, length-append, length-map}
 use Rattle.numbers.specs.Sum.{All, all-map}
 use Rattle.numbers.specs.Base.{range, upTo, gather}
@@ -14,23 +13,23 @@ use Rattle.model.specs.declared.Breach.{Breach}
 use Rattle.model.specs.Case.{System, Plan, noDevice}
 use Rattle.model.specs.Forced.{intervals, devices, device}
 use Rattle.model.specs.Editions.{batch, mostDevices, mostIntervals, mostWindows}
-use Rattle.model.specs.Rules.{realNumbers, reactiveNumbers, cellNumbers, cellBreach, windowBreach, Placed, in-cell, in-window}
-use Rattle.model.specs.Breaches.{cellTests, unless, failing, cellBreaches, windowTest, oneWindow, windowBreaches, allCells, allWindows, breaches}
+use Rattle.model.specs.Rules.{realNumbers, reactiveNumbers, cellNumbers, cellBreach, linkBreach, windowBreach, Placed, in-cell, in-link, in-window}
+use Rattle.model.specs.Breaches.{cellTests, unless, failing, cellBreaches, linkTest, linkBreaches, windowTest, oneWindow, windowBreaches, intervalBreaches, allIntervals, allWindows, breaches}
 use Rattle.model.specs.Tests.{numbers-are}
-use Rattle.model.specs.Named.{Failed, listed-fails}
+use Rattle.model.specs.Named.{listed-fails}
 use Rattle.model.specs.Lists.{breachBytes, listBytes}
 use Rattle.ranges.specs.Ranges.{SystemRange, DeviceRange}
 
--- as many breaches as n devices and m intervals can have: each rule of each interval and device, and rule 20 of each window
+-- as many breaches as n devices and m intervals can have: each rule of each interval and device, rule 27 of each interval and rule 20 of each window
 abbrev pub mostBreaches : ℕ → ℕ → ℕ
-mostBreaches n m = m * (n * length cellNumbers) + n * mostWindows
+mostBreaches n m = m * (n * length cellNumbers + 1) + n * mostWindows
 
 -- in bytes, for the counts that the batch program takes, and for the most that any reader does
-pub longest-batch : 4 * mostBreaches (batch .devices) (batch .intervals) ≡ 77056
+pub longest-batch : 4 * mostBreaches (batch .devices) (batch .intervals) ≡ 77248
 unfolding range
 longest-batch = refl
 
-pub longest-host : 4 * mostBreaches mostDevices mostIntervals ≡ 615424
+pub longest-host : 4 * mostBreaches mostDevices mostIntervals ≡ 615808
 unfolding range
 longest-host = refl
 
@@ -51,17 +50,25 @@ module _ (q : System) (p : Plan) where
   unfolding cellBreaches
   cell-few t i = omega (arith, length-map (failing (cellTests q p t i)) (cellBreach t i), failing-few (cellTests q p t i), tests-many t i)
 
+  link-few : (t : ℕ) → length (linkBreaches q p t) ≤ 1
+  unfolding linkBreaches
+  link-few t = omega (arith, length-map (failing ((27, linkTest q p t) ∷ [])) (linkBreach t), failing-few ((27, linkTest q p t) ∷ []))
+
   window-few : (i w : ℕ) → length (oneWindow q p i w) ≤ 1
-  unfolding oneWindow failing
-  window-few i w = go (windowTest q p i w)
-    where
-      go : (b : Bool) → length (map (windowBreach i w) (unless b 20 [])) ≤ 1
-      go true = omega arith
-      go false = omega arith
+  unfolding oneWindow
+  window-few i w = omega (arith, length-map (failing ((20, windowTest q p i w) ∷ [])) (windowBreach i w), failing-few ((20, windowTest q p i w) ∷ []))
 
   -- a list over the places below n
   over : (n b : ℕ) (f : ℕ → List Breach) → ((k : ℕ) → k < n → length (f k) ≤ b) → length (gather f (upTo n)) ≤ n * b
   over n b f h = omega (arith, gather-size f b (upTo n) (all-upTo _ n h), ap (λ (m : ℕ). m * b) (length-range 0 n))
+
+  interval-few : (t : ℕ) → length (intervalBreaches q p t) ≤ devices q * length cellNumbers + 1
+  interval-few t = omega (
+    arith,
+    length-append (gather (cellBreaches q p t) (upTo (devices q))) (linkBreaches q p t),
+    over (devices q) (length cellNumbers) (cellBreaches q p t) (λ i k. cell-few t i),
+    link-few t,
+  )
 
   module _ (r : SystemRange q) where
     device-few : (i : ℕ) → i < devices q → length (windowBreaches q p i) ≤ mostWindows
@@ -76,9 +83,8 @@ module _ (q : System) (p : Plan) where
     unfolding breaches
     breaches-few = omega (
       arith,
-      length-append (allCells q p) (allWindows q p),
-      over (intervals q) (devices q * length cellNumbers) (λ t. gather (cellBreaches q p t) (upTo (devices q)))
-          (λ t l. over (devices q) (length cellNumbers) (cellBreaches q p t) (λ i k. cell-few t i)),
+      length-append (allIntervals q p) (allWindows q p),
+      over (intervals q) (devices q * length cellNumbers + 1) (intervalBreaches q p) (λ t l. interval-few t),
       over (devices q) mostWindows (windowBreaches q p) device-few,
     )
 
@@ -88,6 +94,7 @@ module _ (q : System) (p : Plan) where
         let s : n < 256 = all-in (λ n. n < 256) cellNumbers (all-append (λ n. n < 256) realNumbers reactiveNumbers
         (all-range (λ n. n < 256) 1 _ (λ j a h. omega arith)) (all-range (λ n. n < 256) 21 _ (λ j a h. omega arith))) m in
         rw e (s, (omega (arith, r .intervals), (omega (arith, r .devices), (omega arith, tt))))
+    placed-small b (in-link t l e) = rw e (omega arith, (omega (arith, r .intervals), (omega arith, (omega arith, tt))))
     placed-small b (in-window i w l k e) =
         let s : length (device q i .startWindows) ≤ mostWindows = all-at (DeviceRange (intervals q)) noDevice (q .devices) (r .eachDevice) i l .starts in
         rw e (omega arith, (omega arith, (omega (arith, r .devices), (omega arith, tt))))

@@ -1,23 +1,24 @@
 -- Edition 1 as before: a message of edition 1 is read and written by the layouts of every edition as `Messages` says, which is all that an edition 1 message means.
-use mathlib.Core.Path.{_≡_, refl, sym, _∙_, ap}
+use mathlib.Core.Path.{_≡_, refl, sym, _∙_, ap, ap₂}
 use mathlib.Core.Bool.{false}
-use mathlib.Core.List.{List, _++_, append-assoc, append-nil}
+use mathlib.Core.List.{List, [], _∷_, _++_, append-assoc, append-nil, map, map-map, map-id}
 use Prim.Native.Nat.{ℕ, _≤_, min}
 use native.Mathlib.Omega.{arith}
+use lib.IntN.{ℤ}
 use Rattle.layouts.specs.declared.Fault.{Fault}
 use Rattle.layouts.specs.declared.Place.{Place}
-use Rattle.layouts.specs.Layout.{Layout, begin, advanced, nat, _then_, _▸_, held, fixed, readWhole, bitsOf}
+use Rattle.layouts.specs.Layout.{Layout, begin, advanced, nat, list, _then_, _▸_, held, fixed, readWhole, bitsOf}
 use Rattle.layouts.specs.Since.{has, nothing, present}
-use Rattle.layouts.specs.As.{As, as-same, as-pair, as-each, as-held, ahead, only, holding, leads}
-use Rattle.model.specs.Case.{Case, System}
+use Rattle.layouts.specs.As.{As, as-same, as-pair, as-each, as-list, as-into, as-held, ahead, only, holding, leads}
+use Rattle.model.specs.Case.{Case, System, Plan, Setting, noFlow}
 use Rattle.model.specs.Editions.{Largest, deviceLimit, intervalLimit, batch}
 use Rattle.model.specs.Messages as M
-use Rattle.model.specs.Messages.{edition1, Counts, Written}
+use Rattle.model.specs.Messages.{edition1, pairs, apart, Counts, Written}
 use Rattle.model.specs.Judgement.{countsOf}
 use Rattle.model.specs.Before.{readPlan}
 use Rattle.model.specs.ByEdition.{Stated, counts, countsBy, startWindow, startWindowBy, device, deviceBy, content, contentBy, caseLayout, caseKind, editionOf, editionField}
 use Rattle.model.specs.ByEdition.{completionFront, completionFrontBy, completionLayout, completionBy}
-use Rattle.model.specs.ByEdition.{planKind, setting, block, cellWith, cell, minima, zone, planLayout, planBy, plannedIn, zoneChoice, intervalChoice}
+use Rattle.model.specs.ByEdition.{planKind, setting, block, cellWith, cell, minima, zone, planned, planLayout, planBy, plannedIn, zoneChoice, barsChoice, intervalChoice}
 
 -- a case with its edition beside it
 abbrev pub stated : ℕ → Case → Stated
@@ -30,20 +31,45 @@ setting-as : As (setting 1) (λ x. x) M.setting
 unfolding setting M.setting held _then_ present nothing
 setting-as = record { reads = λ {X} s p bad next. refl; writes = λ x. simp append-nil }
 
-pub plan-as : (devices intervals : ℕ) → As (planLayout 1 devices intervals) (λ p. p) (M.planLayout edition1 devices intervals)
-unfolding planBy M.planLayout
+-- nor has it a flow
+unflowed : List (List Setting) → List (List Setting) × List ℤ
+unflowed rows = (rows, map (λ (row : List Setting). noFlow) rows)
+
+pairs-are : (rows : List (List Setting)) → pairs rows (map (λ (row : List Setting). noFlow) rows) ≡ map (λ (row : List Setting). (row, noFlow)) rows
+unfolding pairs
+pairs-are [] = refl
+pairs-are (row ∷ rows) = ap (λ (xs : List (List Setting × ℤ)). (row, noFlow) ∷ xs) (pairs-are rows)
+
+interval-as : (devices : ℕ) → As (planned 1 devices) (λ row. (row, noFlow)) (list devices M.setting)
+unfolding _then_ present nothing
+interval-as devices = record {
+  reads = λ s p bad next. as-each setting-as devices .reads s p bad _;
+  writes = λ row. append-nil (list devices (setting 1) .write row) ∙ as-each setting-as devices .writes row;
+}
+
+rows-as : (devices intervals : ℕ) → As (apart (list intervals (planned 1 devices))) unflowed (list intervals (list devices M.setting))
+unfolding apart unflowed
+rows-as devices intervals = as-into (as-list (interval-as devices) intervals) _ _ unflowed
+    (λ rows. ap₂ (λ (a : List (List Setting)) (b : List ℤ). (a, b)) (map-map _ _ rows ∙ map-id rows) (map-map _ _ rows)) pairs-are
+
+-- a plan of edition 1 in the newest form
+abbrev pub inForm : Plan → Plan
+inForm p = record { settings = p .settings; flows = map (λ (row : List Setting). noFlow) (p .settings) }
+
+pub plan-as : (devices intervals : ℕ) → As (planLayout 1 devices intervals) inForm (M.planLayout edition1 devices intervals)
+unfolding planBy M.planLayout unflowed
 plan-as devices intervals = as-held
-    (as-pair (as-same (fixed planKind)) (as-pair (as-same (fixed 1)) (as-pair (as-same (nat _)) (as-pair (as-same (nat _)) (as-each (as-each setting-as devices) intervals)))))
+    (as-pair (as-same (fixed planKind)) (as-pair (as-same (fixed 1)) (as-pair (as-same (nat _)) (as-pair (as-same (nat _)) (rows-as devices intervals)))))
     _ _ _ _ _ (λ a. refl) (λ c. refl)
 
 pub planned-as-before : (q : System) (s : List ℕ) → plannedIn 1 q s ≡ readPlan q s
-unfolding plannedIn readPlan readWhole
+unfolding plannedIn readPlan readWhole M.planLayout held
 planned-as-before q s = plan-as _ _ .reads s begin _ _
 
 -- ---- completion
 
 pub completion-as : (n : Counts) (windows : ℕ) (w : Written) → completionLayout 1 n windows .write w ≡ M.completionLayout edition1 n windows .write w
-unfolding completionBy M.completionLayout completionFrontBy M.counts intervalChoice M.intervalChoice zoneChoice M.zoneChoice M.six held _then_ nat bitsOf present nothing
+unfolding completionBy M.completionLayout completionFrontBy M.counts intervalChoice barsChoice M.intervalChoice zoneChoice M.zoneChoice M.six held _then_ nat bitsOf present nothing
 completion-as n windows w = refl
 
 -- ---- case

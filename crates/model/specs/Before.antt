@@ -1,5 +1,5 @@
 -- Judging messages of edition 1 as it was before there were others: over the page of what they mean (`Messages`), by the rules and the surplus of real power
--- alone, with blocks that have no floors. The newest judgement of edition 1 messages is this one (`theorems/specs/AsBefore.antt`).
+-- alone, with blocks that have no floors, on one busbar. The newest judgement of edition 1 messages is this one (`theorems/specs/AsBefore.antt`).
 use mathlib.Core.List.{List, _++_, map}
 use Prim.Native.Nat.{ℕ}
 use lib.ListN.{length}
@@ -13,7 +13,7 @@ use Rattle.model.specs.Case.{Case, Plan, System}
 use Rattle.model.specs.Forced.{intervals, devices}
 use Rattle.model.specs.Rules.{cellBreach}
 use Rattle.model.specs.Breaches.{failing, allWindows}
-use Rattle.model.specs.Completion.{realSurplus}
+use Rattle.model.specs.OneBar.{realSurplus}
 use Rattle.model.specs.Ours.{whole}
 use Rattle.model.specs.BeforeFloors.{realTests, ours}
 use Rattle.model.specs.Messages.{edition1, Written, caseLayout, planLayout, completionLayout}

@@ -1,4 +1,4 @@
--- Judging as it was before blocks had floors: rule 19 by the caps alone, blocks filled in price order alone. The newest judgement of messages of editions 1 and 2
+-- Judging as it was before blocks had floors: rule 19 by the caps alone, blocks filled in price order alone, on one busbar. The newest judgement of messages of editions 1 and 2
 -- is this one (`theorems/specs/AsBefore.antt`); their blocks are read and written without floors (`AsBefore.block-as`).
 use mathlib.Core.Bool.{Bool}
 use mathlib.Core.List.{List, [], _∷_, _++_, map}
@@ -14,11 +14,13 @@ use Rattle.model.specs.Case.{Case, Plan, System}
 use Rattle.model.specs.Forced.{intervals, devices, cap, consuming, power}
 use Rattle.model.specs.Rules.{cellBreach}
 use Rattle.model.specs.Breaches.{firstTests, capsKept, reactiveTests, failing, allWindows}
-use Rattle.model.specs.Completion.{Completion, blockPrice, surplusOf}
-use Rattle.model.specs.Ours as O
+use Rattle.model.specs.Completion.{Completion, blockPrice}
+use Rattle.model.specs.OneBar as O
+use Rattle.model.specs.OneBar.{surplusOf, completionBy}
 use Rattle.model.specs.Ours.{filling, withBlocks, whole}
+use Rattle.model.specs.Editions.{widthsOf}
 use Rattle.model.specs.ByEdition.{Stated}
-use Rattle.model.specs.Judgement.{Judged, written, completionIn, accepts, unlessBroken, bufferAfter, refusedAs}
+use Rattle.model.specs.Judgement.{Judged, written, countsOf, energyWindows, accepts, unlessBroken, bufferAfter, refusedAs}
 
 -- 19 "p ≤ sum of block caps"
 unfoldable pub realTests : System → Plan → ℕ → ℕ → List (ℕ × Bool)
@@ -38,7 +40,7 @@ unfoldable pub ourSurplus : Case → Plan → ℤ
 ourSurplus c p = surplusOf c p (whole (ours c p))
 
 unfoldable pub completionBytes : Stated → Plan → List ℕ
-completionBytes x p = let q = x .case .system in bytes (completionIn (x .edition) q .write (written q (ours (x .case) p) (ourSurplus (x .case) p)))
+completionBytes x p = let q = x .case .system in bytes (completionBy (widthsOf (x .edition)) (x .edition) (countsOf q) (energyWindows q) .write (written q (ours (x .case) p) (ourSurplus (x .case) p)))
 
 unfoldable pub judged : Stated → Plan → List ℕ → Judged
 judged x p buffer =

@@ -1,4 +1,4 @@
--- Reading and judging a case of edition e as it was before edition 4: by the small widths and limits. The newest judgement of messages of editions 1 to 3 is this one
+-- Reading and judging a case of edition e as it was before edition 4: by the small widths and limits, on one busbar. The newest judgement of messages of editions 1 to 3 is this one
 -- (`theorems/specs/SizesAsBefore.antt`).
 use mathlib.Core.List.{List}
 use Prim.Native.Nat.{ℕ}
@@ -8,11 +8,10 @@ use Rattle.model.specs.declared.Subject.the-variants as S
 use Rattle.model.specs.declared.Verdict.the-variants.{Refused}
 use Rattle.model.specs.Case.{Case, Plan}
 use Rattle.model.specs.Forced.{intervals, devices}
-use Rattle.model.specs.Breaches.{breaches}
-use Rattle.model.specs.Ours.{ours}
+use Rattle.model.specs.OneBar.{breaches, ours, ourSurplus, completionBy}
 use Rattle.model.specs.Editions.{Widths, Largest, smallWidths}
-use Rattle.model.specs.ByEdition.{Stated, caseKind, contentBy, planBy, completionBy}
-use Rattle.model.specs.Judgement.{Judged, written, countsOf, energyWindows, ourSurplus, accepts, unlessBroken, bufferAfter, refusedAs}
+use Rattle.model.specs.ByEdition.{Stated, caseKind, contentBy, planBy}
+use Rattle.model.specs.Judgement.{Judged, written, countsOf, energyWindows, accepts, unlessBroken, bufferAfter, refusedAs}
 
 -- a case's message whose edition is e, by these widths
 unfoldable pub caseBy : Widths → ℕ → Largest → Layout Case

@@ -10,13 +10,13 @@ use Rattle.layouts.specs.Layout.{Field, Layout, Whole, nat, int, _then_, _▸_,
 use Rattle.layouts.specs.Since.{since, present}
 use lib.ListN.{length}
 use Rattle.model.specs.Case.{StartWindow, Line, Link, Block, Cell, Device, Minima, Zone, CellPrices, DevicePrices, Kinds, Case, System, Reactive, Setting}
-use Rattle.model.specs.Case.{Plan, noReactive, ReactiveLimits, ReactiveReserves, noReactiveLimits, noReactiveReserves, noLine, noLink, unitPrices}
+use Rattle.model.specs.Case.{Plan, noReactive, ReactiveLimits, ReactiveReserves, noReactiveLimits, noReactiveReserves, noLine, noLink, noFlow, unitPrices}
 use lib.Dec.{ltb, leb, eqb}
 use lib.Signed.{leZ}
 use Rattle.model.specs.Forced.{intervals, devices}
 use Rattle.model.specs.Editions.{newest, Largest, Widths, widthsOf, mostZones, mostStates, mostWindows}
 use Rattle.model.specs.Messages as M
-use Rattle.model.specs.Messages.{kW, minutes, eight, shares, six, windowEnds, energyWindow, apart, head, costs, active, lastEnd, Counts, DeviceChoice, IntervalChoice, Written}
+use Rattle.model.specs.Messages.{kW, minutes, eight, shares, six, windowEnds, energyWindow, apart, head, costs, active, lastEnd, Counts, DeviceChoice, Bars, noBars, IntervalChoice, Written}
 
 -- ---- the front of a message
 
@@ -140,6 +140,10 @@ link = held
     (λ r. (r .kind, (r .upper, r .lower)))
     (figure 2 0 2 then (λ kind. present (firstLine kind) noLine line ▸ present (secondLine kind) noLine line))
 
+-- "it gives each device a bar (1 bit, last before its intervals)"
+abbrev pub bar : Layout ℕ
+bar = figure 1 0 1
+
 -- "Per device": what stands ahead of its intervals, then its cells
 unfoldable pub deviceBy : Widths → ℕ → ℕ → ℕ → ℕ → Layout (Device × DevicePrices)
 deviceBy widths e intervals zones last = held
@@ -158,15 +162,16 @@ deviceBy widths e intervals zones last = held
         startWindows = w .1 .0;
         energyWindows = w .1 .1 .0;
         link = w .1 .1 .1 .0;
-        cells = w .1 .1 .1 .1 .0;
+        bar = w .1 .1 .1 .1 .0;
+        cells = w .1 .1 .1 .1 .1 .0;
       },
-      record { onCost = c .on; startCost = c .start; stopCost = c .stop; stateCosts = w .0 .1; cells = w .1 .1 .1 .1 .1 },
+      record { onCost = c .on; startCost = c .start; stopCost = c .stop; stateCosts = w .0 .1; cells = w .1 .1 .1 .1 .1 .1 },
     ))
     (λ r. let d = r .0 in let x = r .1 in (
       record { side = d .side; zoneBits = d .zoneBits; on0 = d .on0; power0 = d .power0; minutes0 = d .minutes0; minUp = d .minUp; minDown = d .minDown; ramps = d .ramps },
       (
         record { on = x .onCost; start = x .startCost; stop = x .stopCost },
-        (d .limits, ((d .longest, x .stateCosts), (d .startWindows, (d .energyWindows, (d .link, (d .cells, x .cells)))))),
+        (d .limits, ((d .longest, x .stateCosts), (d .startWindows, (d .energyWindows, (d .link, (d .bar, (d .cells, x .cells))))))),
       ),
     ))
     (head zones
@@ -176,6 +181,7 @@ deviceBy widths e intervals zones last = held
     ▸ counted (countOf 3 0 mostWindows) (startWindowBy widths last)
     ▸ counted (countOf 3 0 mostWindows) (energyWindow last)
     ▸ since e 2 noLink link
+    ▸ since e 5 0 bar
     ▸ apart (list intervals (cell e)))
 
 abbrev pub device : ℕ → ℕ → ℕ → ℕ → Layout (Device × DevicePrices)
@@ -203,19 +209,23 @@ zone e intervals = held
     (λ r. (r .0 .shares, (r .1 .six, (r .1 .reactive, r .0 .minima))))
     (shares ▸ six (figure 7 1 100) ▸ since e 2 unitPrices zoneReactivePrices ▸ list intervals (minima e))
 
--- what stands behind the edition: "mismatch price, overrun price 14 each (1..10,000 per kW·min). Per interval: d/2, 8 (1..180)"; zones; devices
+-- "the case a link limit (17 bits, after the overrun price)"
+abbrev pub linkLimit : Layout ℕ
+linkLimit = kW
+
+-- what stands behind the edition: "mismatch price, overrun price 14 each (1..10,000 per kW·min)"; the link's limit; "Per interval: d/2, 8 (1..180)"; zones; devices
 unfoldable pub contentBy : Widths → ℕ → Largest → Layout Case
 contentBy w e l = held
-    (λ v. let b = v .1 .1 .1 in record {
-      system = record { halves = b .0; zones = b .1 .0 .0; devices = b .1 .1 .0 };
+    (λ v. let b = v .1 .1 .1 .1 in record {
+      system = record { halves = b .0; linkLimit = v .1 .1 .1 .0; zones = b .1 .0 .0; devices = b .1 .1 .0 };
       prices = record { mismatch = v .1 .0; overrun = v .1 .1 .0; zones = b .1 .0 .1; devices = b .1 .1 .1 };
     })
     (λ c. let s = c .system in let x = c .prices in (
       record { devices = length (s .devices); intervals = length (s .halves); zones = length (s .zones) },
-      (x .mismatch, (x .overrun, (s .halves, ((s .zones, x .zones), (s .devices, x .devices))))),
+      (x .mismatch, (x .overrun, (s .linkLimit, (s .halves, ((s .zones, x .zones), (s .devices, x .devices)))))),
     ))
     (countsBy w l then (λ n.
-    figure 14 1 10000 ▸ figure 14 1 10000 ▸
+    figure 14 1 10000 ▸ figure 14 1 10000 ▸ since e 5 0 linkLimit ▸
     (list (n .intervals) (figure 8 1 180) then (λ halves.
     apart (list (n .zones) (zone e (n .intervals)))
     ▸ apart (list (n .devices) (deviceBy w e (n .intervals) (n .zones) (lastEnd halves)))))))
@@ -245,17 +255,21 @@ setting e = held
     (λ r. ((r .on, (r .online, r .reserves)), r .reactive))
     (active ▸ since e 2 noReactive reactive)
 
--- an interval's part of a plan: "per device"
-abbrev pub planned : ℕ → ℕ → Layout (List Setting)
-planned e devices = list devices (setting e)
+-- "the plan, after each interval's devices, a flow from bar 0 to bar 1 (18 bits, ±100,000)"
+abbrev pub flow : Layout ℤ
+flow = int 18 100000
+
+-- an interval's part of a plan: "per device"; behind them, since edition 5, the flow
+abbrev pub planned : ℕ → ℕ → Layout (List Setting × ℤ)
+planned e devices = list devices (setting e) ▸ since e 5 noFlow flow
 
 -- "kind 4 (2); edition 4; devices 5; intervals 6, equal to the case's; per interval, per device: .."
 unfoldable pub planBy : Widths → ℕ → ℕ → ℕ → Layout Plan
 planBy w e devices intervals = held
-    (λ v. record { settings = v .1 .1 .1 .1 })
-    (λ p. (planKind, (e, (devices, (intervals, p .settings)))))
+    (λ v. record { settings = v .1 .1 .1 .1 .0; flows = v .1 .1 .1 .1 .1 })
+    (λ p. (planKind, (e, (devices, (intervals, (p .settings, p .flows))))))
     (fixed planKind ▸ fixed e ▸ nat (countOf (w .deviceBits) devices devices) ▸ nat (countOf (w .intervalBits) intervals intervals)
-    ▸ list intervals (planned e devices))
+    ▸ apart (list intervals (planned e devices)))
 
 abbrev pub planLayout : ℕ → ℕ → ℕ → Layout Plan
 planLayout e devices intervals = planBy (widthsOf e) e devices intervals
@@ -284,12 +298,16 @@ reactiveChoice = held (λ v. record { qru = v .0; qrd = v .1 }) (λ r. (r .qru, 
 unfoldable pub zoneChoice : ℕ → Layout Kinds
 zoneChoice e = held (λ v. record { six = v .0; reactive = v .1 }) (λ r. (r .six, r .reactive)) (six (any 33) ▸ since e 2 noReactiveReserves reactiveChoice)
 
+-- "mismatch 23"; since edition 5 one for each bar, "bar 0 first"
+unfoldable pub barsChoice : ℕ → Layout Bars
+barsChoice e = held (λ v. record { first = v .0; second = v .1 }) (λ r. (r .first, r .second)) (any 23 ▸ since e 5 0 (any 23))
+
 -- an interval's part: "then per zone ..; then mismatch 23", and since edition 2 the reactive one, "(23 bits, after the real one)"
 unfoldable pub intervalChoice : ℕ → ℕ → ℕ → Layout IntervalChoice
 intervalChoice e devices zones = held
     (λ v. record { devices = v .0; zones = v .1 .0; mismatch = v .1 .1 .0; reactiveMismatch = v .1 .1 .1 })
     (λ r. (r .devices, (r .zones, (r .mismatch, r .reactiveMismatch))))
-    (list devices deviceChoice ▸ list zones (zoneChoice e) ▸ any 23 ▸ since e 2 0 (any 23))
+    (list devices deviceChoice ▸ list zones (zoneChoice e) ▸ barsChoice e ▸ since e 2 noBars (barsChoice e))
 
 -- "Then each energy window's overrun 32, in case order; surplus 64 signed"
 unfoldable pub completionBy : Widths → ℕ → Counts → ℕ → Layout Written

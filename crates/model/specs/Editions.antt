@@ -5,7 +5,7 @@ use Rattle.layouts.specs.Since.{has}
 
 -- the newest edition there is
 abbrev pub newest : ℕ
-newest = 4
+newest = 5
 
 -- ---- counts
 

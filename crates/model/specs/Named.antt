@@ -35,9 +35,10 @@ use Rattle.model.specs.declared.Breach.{Breach}
 use Rattle.model.specs.Case.{System, Plan}
 use Rattle.model.specs.Forced.{intervals, devices, device}
 use Rattle.model.specs.Rules.{realNumbers, reactiveNumbers, cellNumbers}
-use Rattle.model.specs.Rules.{Rule16, Rule18, Rule19, Rule20, CellRule, EveryRule, cellBreach, windowBreach, Placed, in-cell, in-window, RuleAt, Lex, inTurn, Before, last, alike}
-use Rattle.model.specs.Breaches.{cellTests, unless, failing, cellBreaches, windowTest, oneWindow, windowBreaches, allCells, allWindows, breaches}
-use Rattle.model.specs.Tests.{Decides, Decided, cell-decided, numbers-are}
+use Rattle.model.specs.Rules.{Rule16, Rule18, Rule19, Rule20, Rule27, CellRule, EveryRule, cellBreach, linkBreach, windowBreach}
+use Rattle.model.specs.Rules.{Placed, in-cell, in-link, in-window, RuleAt, Lex, inTurn, Before, last, alike}
+use Rattle.model.specs.Breaches.{cellTests, unless, failing, cellBreaches, linkTest, linkBreaches, intervalBreaches, windowTest, oneWindow, windowBreaches, allIntervals, allWindows, breaches}
+use Rattle.model.specs.Tests.{Decides, Decided, cell-decided, link-decided, numbers-are}
 
 -- ---- numbered tests
 
@@ -149,27 +150,55 @@ not-last : {n : ℕ} → List·Memᴰ n cellNumbers → NotLast n
 not-last m = all-in NotLast cellNumbers
     (all-append NotLast realNumbers reactiveNumbers (all-range NotLast 1 19 (λ j a b e. omega arith)) (all-range NotLast 21 6 (λ j a b e. omega arith))) m
 
+-- nor the link's
+abbrev NotLink : ℕ → Type 0
+NotLink n = n ≡ 27 → ⊥
+
+not-link : {n : ℕ} → List·Memᴰ n cellNumbers → NotLink n
+not-link m = all-in NotLink cellNumbers
+    (all-append NotLink realNumbers reactiveNumbers (all-range NotLink 1 19 (λ j a b e. omega arith)) (all-range NotLink 21 6 (λ j a b e. omega arith))) m
+
 -- one number ahead of another, both of the rules of a cell
 abbrev Ahead : ℕ → ℕ → Type 0
-Ahead m n = (m < n) × NotLast m × NotLast n
+Ahead m n = (m < n) × (NotLast m × NotLink m) × (NotLast n × NotLink n)
+
+ahead-of : (m n : ℕ) → m < n → NotLast m × NotLink m → NotLast n × NotLink n → Ahead m n
+ahead-of m n h k l = (h, k, l)
 
 numbers-ordered : Ordered Ahead cellNumbers
-numbers-ordered = ordered-append Ahead (λ n. n ≤ 19) (λ n. 21 ≤ n)
-    (λ m n h k. (omega arith, (λ e. omega arith), (λ e. omega arith))) realNumbers reactiveNumbers
-    (all-range (λ n. n ≤ 19) 1 19 (λ j a b. omega arith)) (all-range (λ n. 21 ≤ n) 21 6 (λ j a b. omega arith))
-    (range-ordered Ahead 1 19 (λ i j a b c. (b, (λ e. omega arith), (λ e. omega arith))))
-    (range-ordered Ahead 21 6 (λ i j a b c. (b, (λ e. omega arith), (λ e. omega arith))))
+numbers-ordered = ordered-append Ahead (λ n. n ≤ 19) (λ n. (21 ≤ n) × (n ≤ 26))
+    (λ m n h k. ahead-of m n (omega arith) ((λ e. omega arith), (λ e. omega arith)) ((λ e. omega arith), (λ e. omega arith))) realNumbers reactiveNumbers
+    (all-range (λ n. n ≤ 19) 1 19 (λ j a b. omega arith)) (all-range (λ n. (21 ≤ n) × (n ≤ 26)) 21 6 (λ j a b. omega arith))
+    (range-ordered Ahead 1 19 (λ i j a b c. ahead-of i j b ((λ e. omega arith), (λ e. omega arith)) ((λ e. omega arith), (λ e. omega arith))))
+    (range-ordered Ahead 21 6 (λ i j a b c. ahead-of i j b ((λ e. omega arith), (λ e. omega arith)) ((λ e. omega arith), (λ e. omega arith))))
 
-before-cell : (t i m t′ i′ n : ℕ) → NotLast m → NotLast n → Lex (inTurn (cellBreach t i m)) (inTurn (cellBreach t′ i′ n)) → Before (cellBreach t i m) (cellBreach t′ i′ n)
-before-cell t i m t′ i′ n h k l = alike (λ e. absurd (h e)) (λ e. absurd (k e)) l
+lex-as : {ms ns ms′ ns′ : List ℕ} → ms ≡ ms′ → ns ≡ ns′ → Lex ms′ ns′ → Lex ms ns
+lex-as e f l = rw (e, f) l
+
+-- the turn of a rule of a cell
+abbrev cellTurn : ℕ → ℕ → ℕ → List ℕ
+cellTurn t i n = suc t ∷ 0 ∷ suc i ∷ n ∷ 0 ∷ []
+
+cell-turn : (t i n : ℕ) → NotLink n → inTurn (cellBreach t i n) ≡ cellTurn t i n
+cell-turn t i n h = rw (ne-eqb n 27 h) refl
+
+before-cell : (t i m t′ i′ n : ℕ) → NotLast m × NotLink m → NotLast n × NotLink n → Lex (cellTurn t i m) (cellTurn t′ i′ n) → Before (cellBreach t i m) (cellBreach t′ i′ n)
+before-cell t i m t′ i′ n h k l =
+    alike (λ e. absurd (h .0 e)) (λ e. absurd (k .0 e)) (lex-as (cell-turn t i m (h .1)) (cell-turn t′ i′ n (k .1)) l)
 
 module _ (q : System) (p : Plan) where
-  rule-in-cell : (t i n : ℕ) → NotLast n → RuleAt q p (cellBreach t i n) ≡ CellRule q p t i n
+  rule-in-cell : (t i n : ℕ) → NotLast n → NotLink n → RuleAt q p (cellBreach t i n) ≡ CellRule q p t i n
   unfolding RuleAt
-  rule-in-cell t i n h =
+  rule-in-cell t i n h k =
       let e : suc t - 1 ≡ t = omega arith in
       let f : suc i - 1 ≡ i = omega arith in
-      rw (ne-eqb n 20 h, e, f) refl
+      rw (ne-eqb n 20 h, ne-eqb n 27 k, e, f) refl
+
+  rule-in-link : (t : ℕ) → RuleAt q p (linkBreach t 27) ≡ Rule27 q p t
+  unfolding RuleAt
+  rule-in-link t =
+      let e : suc t - 1 ≡ t = omega arith in
+      rw e refl
 
   rule-in-window : (i w : ℕ) → RuleAt q p (windowBreach i w 20) ≡ Rule20 q p i w
   unfolding RuleAt
@@ -180,9 +209,12 @@ module _ (q : System) (p : Plan) where
 
   -- ---- what is listed
 
-  -- a breach of a cell, and of a window
+  -- a breach of a cell, of a link, and of a window
   InCell : ℕ → ℕ → Breach → Type 0
   InCell t i b = (n : ℕ) × List·Memᴰ n cellNumbers × (CellRule q p t i n → ⊥) × (b ≡ cellBreach t i n)
+
+  InLink : ℕ → Breach → Type 0
+  InLink t b = (Rule27 q p t → ⊥) × (b ≡ linkBreach t 27)
 
   InWindow : ℕ → ℕ → Breach → Type 0
   InWindow i w b = (Rule20 q p i w → ⊥) × (b ≡ windowBreach i w 20)
@@ -201,11 +233,35 @@ module _ (q : System) (p : Plan) where
   cell-ordered : (t i : ℕ) → Ordered Before (cellBreaches q p t i)
   unfolding cellBreaches
   cell-ordered t i = map-ordered Ahead Before (cellBreach t i)
-      (λ m n h. before-cell t i m t i n (h .1) (h .2) (inr (refl, inr (refl, inl (h .0)))))
+      (λ m n h. before-cell t i m t i n (h .1) (h .2) (inr (refl, inr (refl, inr (refl, inl (h .0))))))
       (failing (cellTests q p t i)) (failing-ordered Ahead (cellTests q p t i) (rw (numbers-are q p t i) numbers-ordered))
 
   cell-known : (t i n : ℕ) → List·Memᴰ n cellNumbers → Known (CellRule q p t i n)
   cell-known t i n m = each-known (CellRule q p t i) (cellTests q p t i) (cell-decided q p t i) n (rw (numbers-are q p t i) m)
+
+  link-listed : (t : ℕ) → All (InLink t) (linkBreaches q p t)
+  unfolding linkBreaches failing InLink
+  link-listed t = go (linkTest q p t) (link-decided q p t)
+    where
+      go : (b : Bool) → Decides (Rule27 q p t) b → All (InLink t) (map (linkBreach t) (unless b 27 []))
+      go true d = tt
+      go false d = (((λ r. d .no r), refl), tt)
+
+  link-in : (t : ℕ) → (Rule27 q p t → ⊥) → List·Memᴰ (linkBreach t 27) (linkBreaches q p t)
+  unfolding linkBreaches failing
+  link-in t f = go (linkTest q p t) (link-decided q p t)
+    where
+      go : (b : Bool) → Decides (Rule27 q p t) b → List·Memᴰ (linkBreach t 27) (map (linkBreach t) (unless b 27 []))
+      go true d = absurd (f (d .yes tt))
+      go false d = List·Memᴰ·head refl
+
+  link-ordered : (t : ℕ) → Ordered Before (linkBreaches q p t)
+  unfolding linkBreaches failing
+  link-ordered t = go (linkTest q p t)
+    where
+      go : (b : Bool) → Ordered Before (map (linkBreach t) (unless b 27 []))
+      go true = tt
+      go false = (tt, tt)
 
   window-decided : (i w : ℕ) → Decides (Rule20 q p i w) (windowTest q p i w)
   window-decided i w = record { yes = leb→le _ _; no = le→leb _ _ }
@@ -241,9 +297,12 @@ module _ (q : System) (p : Plan) where
     pub place : Placed q b
     pub not : RuleAt q p b → ⊥
 
-  -- of an interval, of the day's cells, of a device's windows, of all windows
+  -- of an interval's cells, of an interval, of the day's intervals, of a device's windows, of all windows
+  InCells : ℕ → Breach → Type 0
+  InCells t b = (i : ℕ) × (i < devices q) × InCell t i b
+
   InInterval : ℕ → Breach → Type 0
-  InInterval t b = (i : ℕ) × (i < devices q) × InCell t i b
+  InInterval t b = InCells t b ⊎ InLink t b
 
   InDay : Breach → Type 0
   InDay b = (t : ℕ) × (t < intervals q) × InInterval t b
@@ -254,13 +313,21 @@ module _ (q : System) (p : Plan) where
   InWindows : Breach → Type 0
   InWindows b = (i : ℕ) × (i < devices q) × InDevice i b
 
-  interval-listed : (t : ℕ) → All (InInterval t) (gather (cellBreaches q p t) (upTo (devices q)))
-  unfolding InInterval
-  interval-listed t = all-gather (InInterval t) (cellBreaches q p t) (upTo (devices q)) (all-upTo _ (devices q) (λ i l. all-map (λ b h. (i, l, h)) (cellBreaches q p t i) (cell-listed t i)))
+  abbrev cells : ℕ → List Breach
+  cells t = gather (cellBreaches q p t) (upTo (devices q))
 
-  day-listed : All InDay (allCells q p)
+  cells-listed : (t : ℕ) → All (InCells t) (cells t)
+  unfolding InCells
+  cells-listed t = all-gather (InCells t) (cellBreaches q p t) (upTo (devices q)) (all-upTo _ (devices q) (λ i l. all-map (λ b h. (i, l, h)) (cellBreaches q p t i) (cell-listed t i)))
+
+  interval-listed : (t : ℕ) → All (InInterval t) (intervalBreaches q p t)
+  unfolding InInterval
+  interval-listed t = all-append (InInterval t) (cells t) (linkBreaches q p t)
+      (all-map (λ b h. inl h) (cells t) (cells-listed t)) (all-map (λ b h. inr h) (linkBreaches q p t) (link-listed t))
+
+  day-listed : All InDay (allIntervals q p)
   unfolding InDay
-  day-listed = all-gather InDay _ (upTo (intervals q)) (all-upTo _ (intervals q) (λ t l. all-map (λ b h. (t, l, h)) (gather (cellBreaches q p t) (upTo (devices q))) (interval-listed t)))
+  day-listed = all-gather InDay _ (upTo (intervals q)) (all-upTo _ (intervals q) (λ t l. all-map (λ b h. (t, l, h)) (intervalBreaches q p t) (interval-listed t)))
 
   device-listed : (i : ℕ) → All (InDevice i) (windowBreaches q p i)
   unfolding InDevice windowBreaches
@@ -271,13 +338,22 @@ module _ (q : System) (p : Plan) where
   windows-listed = all-gather InWindows (windowBreaches q p) (upTo (devices q)) (all-upTo _ (devices q) (λ i l. all-map (λ b h. (i, l, h)) (windowBreaches q p i) (device-listed i)))
 
   day-failed : (b : Breach) → InDay b → Failed b
-  unfolding InDay InInterval InCell
-  day-failed b h =
-      let t = h .0 in let i = h .2 .0 in let n = h .2 .2 .0 in let m = h .2 .2 .1 in let e : b ≡ cellBreach t i n = h .2 .2 .3 in
-      record {
-        place = in-cell t i n (h .1) (h .2 .1) m e;
-        not = λ r. h .2 .2 .2 (rw (sym (rule-in-cell t i n (not-last m)), sym e) r);
-      }
+  unfolding InDay InInterval InCells InCell InLink
+  day-failed b h = go (h .2)
+    where
+      t : ℕ
+      t = h .0
+
+      go : InCells t b ⊎ InLink t b → Failed b
+      go (inl k) =
+          let i = k .0 in let n = k .2 .0 in let m = k .2 .1 in let e : b ≡ cellBreach t i n = k .2 .3 in
+          record {
+            place = in-cell t i n (h .1) (k .1) m e;
+            not = λ r. k .2 .2 (rw (sym (rule-in-cell t i n (not-last m) (not-link m)), sym e) r);
+          }
+      go (inr k) =
+          let e : b ≡ linkBreach t 27 = k .1 in
+          record { place = in-link t (h .1) e; not = λ r. k .0 (rw (sym (rule-in-link t), sym e) r) }
 
   windows-failed : (b : Breach) → InWindows b → Failed b
   unfolding InWindows InDevice InWindow
@@ -291,38 +367,68 @@ module _ (q : System) (p : Plan) where
   -- every entry names a rule of the case that fails
   pub listed-fails : All Failed (breaches q p)
   unfolding breaches
-  listed-fails = all-append Failed (allCells q p) (allWindows q p) (all-map day-failed (allCells q p) day-listed) (all-map windows-failed (allWindows q p) windows-listed)
+  listed-fails = all-append Failed (allIntervals q p) (allWindows q p) (all-map day-failed (allIntervals q p) day-listed) (all-map windows-failed (allWindows q p) windows-listed)
 
   -- and every such rule has its entry
   pub fails-listed : (b : Breach) → Failed b → List·Memᴰ b (breaches q p)
   unfolding breaches windowBreaches
   fails-listed b f = go (f .place)
     where
-      go : Placed q b → List·Memᴰ b (allCells q p ++ allWindows q p)
-      go (in-cell t i n l k m e) = Memᴰ·append-left {s = allCells q p} (allWindows q p)
-          (in-gather (λ t. gather (cellBreaches q p t) (upTo (devices q))) (upTo (intervals q)) {a = t} (in-range 0 (intervals q) t (omega arith) (omega arith))
+      go : Placed q b → List·Memᴰ b (allIntervals q p ++ allWindows q p)
+      go (in-cell t i n l k m e) = Memᴰ·append-left {s = allIntervals q p} (allWindows q p)
+          (in-gather (intervalBreaches q p) (upTo (intervals q)) {a = t} (in-range 0 (intervals q) t (omega arith) (omega arith))
+          (Memᴰ·append-left {s = cells t} (linkBreaches q p t)
           (in-gather (cellBreaches q p t) (upTo (devices q)) {a = i} (in-range 0 (devices q) i (omega arith) (omega arith))
-          (rw e (cell-in t i n m (λ r. f .not (rw (e, rule-in-cell t i n (not-last m)) r))))))
-      go (in-window i w l k e) = Memᴰ·append-right (allCells q p)
+          (rw e (cell-in t i n m (λ r. f .not (rw (e, rule-in-cell t i n (not-last m) (not-link m)) r)))))))
+      go (in-link t l e) = Memᴰ·append-left {s = allIntervals q p} (allWindows q p)
+          (in-gather (intervalBreaches q p) (upTo (intervals q)) {a = t} (in-range 0 (intervals q) t (omega arith) (omega arith))
+          (Memᴰ·append-right (cells t) (rw e (link-in t (λ r. f .not (rw (e, rule-in-link t) r))))))
+      go (in-window i w l k e) = Memᴰ·append-right (allIntervals q p)
           (in-gather (windowBreaches q p) (upTo (devices q)) {a = i} (in-range 0 (devices q) i (omega arith) (omega arith))
           (in-gather (oneWindow q p i) (upTo (length (device q i .startWindows))) {a = w} (in-range 0 _ w (omega arith) (omega arith))
           (rw e (window-in i w (λ r. f .not (rw (e, rule-in-window i w) r))))))
 
   -- ---- the order of the list
 
-  before-cells : {t i t′ i′ : ℕ} {a b : Breach} → InCell t i a → InCell t′ i′ b → ((m n : ℕ) → Lex (inTurn (cellBreach t i m)) (inTurn (cellBreach t′ i′ n))) → Before a b
+  before-cells : (t i j : ℕ) {a b : Breach} → InCell t i a → InCell t j b → i < j → Before a b
   unfolding InCell
-  before-cells {t} {i} {t′} {i′} h k l = rw (h .3, k .3) (before-cell t i (h .0) t′ i′ (k .0) (not-last (h .1)) (not-last (k .1)) (l (h .0) (k .0)))
+  before-cells t i j h k l =
+      rw (h .3, k .3) (before-cell t i (h .0) t j (k .0) (not-last (h .1), not-link (h .1)) (not-last (k .1), not-link (k .1)) (inr (refl, inr (refl, inl (omega arith)))))
 
-  interval-ordered : (t : ℕ) → Ordered Before (gather (cellBreaches q p t) (upTo (devices q)))
-  interval-ordered t = ordered-gather Before (InCell t) (cellBreaches q p t)
-      (λ i j a b l h k. before-cells h k (λ m n. inr (refl, inl (omega arith))))
+  cells-ordered : (t : ℕ) → Ordered Before (cells t)
+  cells-ordered t = ordered-gather Before (InCell t) (cellBreaches q p t)
+      (λ i j a b l h k. before-cells t i j h k l)
       0 (devices q) (λ i l m. cell-listed t i) (λ i l m. cell-ordered t i)
 
-  cells-ordered : Ordered Before (allCells q p)
-  unfolding InInterval
-  cells-ordered = ordered-gather Before InInterval (λ t. gather (cellBreaches q p t) (upTo (devices q)))
-      (λ s t a b l h k. before-cells (h .2) (k .2) (λ m n. inl (omega arith)))
+  -- "Rule 27 .. stands after an interval's devices"
+  cell-before-link : (t : ℕ) (a b : Breach) → InCells t a → InLink t b → Before a b
+  unfolding InCells InCell InLink
+  cell-before-link t a b h k =
+      let i = h .2 .0 in
+      rw (h .2 .3, k .1) (alike (λ e. absurd (not-last (h .2 .1) e)) (λ e. absurd (omega arith))
+      (lex-as {ns = inTurn (linkBreach t 27)} (cell-turn t (h .0) i (not-link (h .2 .1))) refl (inr (refl, inl (omega arith)))))
+
+  interval-ordered : (t : ℕ) → Ordered Before (intervalBreaches q p t)
+  interval-ordered t = ordered-append Before (InCells t) (InLink t) (cell-before-link t) (cells t) (linkBreaches q p t) (cells-listed t) (link-listed t) (cells-ordered t) (link-ordered t)
+
+  -- in interval t, and not of rule 20
+  Of : ℕ → Breach → Type 0
+  Of t b = (b .interval ≡ suc t) × (b .rule ≡ 20 → ⊥)
+
+  of-interval : (t : ℕ) (b : Breach) → InInterval t b → Of t b
+  unfolding InInterval InCells InCell InLink Of
+  of-interval t b (inl h) = rw (h .2 .3) (refl, not-last (h .2 .1))
+  of-interval t b (inr h) = rw (h .1) (refl, λ e. omega arith)
+
+  before-intervals : (s t : ℕ) (a b : Breach) → s < t → InInterval s a → InInterval t b → Before a b
+  unfolding Of
+  before-intervals s t a b l h k =
+      let u = of-interval s a h in let v = of-interval t b k in
+      alike (λ e. absurd (u .1 e)) (λ e. absurd (v .1 e)) (inl (omega (arith, u .0, v .0)))
+
+  intervals-ordered : Ordered Before (allIntervals q p)
+  intervals-ordered = ordered-gather Before InInterval (intervalBreaches q p)
+      before-intervals
       0 (intervals q) (λ t l m. interval-listed t) (λ t l m. interval-ordered t)
 
   before-windows : {i w j v : ℕ} {a b : Breach} → InWindow i w a → InWindow j v b → Lex (inTurn (windowBreach i w 20)) (inTurn (windowBreach j v 20)) → Before a b
@@ -332,28 +438,29 @@ module _ (q : System) (p : Plan) where
   device-ordered : (i : ℕ) → Ordered Before (windowBreaches q p i)
   unfolding windowBreaches
   device-ordered i = ordered-gather Before (InWindow i) (oneWindow q p i)
-      (λ v w a b l h k. before-windows h k (inr (refl, inr (refl, inr (refl, inl (omega arith))))))
+      (λ v w a b l h k. before-windows h k (inr (refl, inr (refl, inr (refl, inr (refl, inl (omega arith)))))))
       0 (length (device q i .startWindows)) (λ w l m. window-listed i w) (λ w l m. window-ordered i w)
 
   windows-ordered : Ordered Before (allWindows q p)
   unfolding InDevice
   windows-ordered = ordered-gather Before InDevice (windowBreaches q p)
-      (λ i j a b l h k. before-windows (h .2) (k .2) (inr (refl, inl (omega arith))))
+      (λ i j a b l h k. before-windows (h .2) (k .2) (inr (refl, inr (refl, inl (omega arith)))))
       0 (devices q) (λ i l m. device-listed i) (λ i l m. device-ordered i)
 
-  cell-before-window : (a b : Breach) → InDay a → InWindows b → Before a b
-  unfolding InDay InInterval InCell InWindows InDevice InWindow
-  cell-before-window a b h k = rw (h .2 .2 .3, k .2 .2 .1) (last (not-last (h .2 .2 .1)) refl)
+  interval-before-window : (a b : Breach) → InDay a → InWindows b → Before a b
+  unfolding InDay InWindows InDevice InWindow Of
+  interval-before-window a b h k = rw (k .2 .2 .1) (last (of-interval (h .0) a (h .2) .1) refl)
 
   -- the entries are strictly increasing in the paper's order, so each stands once
   pub listed-in-order : Ordered Before (breaches q p)
   unfolding breaches
-  listed-in-order = ordered-append Before InDay InWindows cell-before-window (allCells q p) (allWindows q p) day-listed windows-listed cells-ordered windows-ordered
+  listed-in-order = ordered-append Before InDay InWindows interval-before-window (allIntervals q p) (allWindows q p) day-listed windows-listed intervals-ordered windows-ordered
 
   -- ---- what the verdict rests on
 
   pub rule-known : (b : Breach) → Placed q b → Known (RuleAt q p b)
-  rule-known b (in-cell t i n l k m e) = rw (e, rule-in-cell t i n (not-last m)) (cell-known t i n m)
+  rule-known b (in-cell t i n l k m e) = rw (e, rule-in-cell t i n (not-last m) (not-link m)) (cell-known t i n m)
+  rule-known b (in-link t l e) = rw (e, rule-in-link t) (known (linkTest q p t) (link-decided q p t))
   rule-known b (in-window i w l k e) = rw (e, rule-in-window i w) (known (windowTest q p i w) (window-decided i w))
 
   -- the first entry: its rule fails, and every rule ahead of it holds
@@ -395,7 +502,7 @@ module _ (q : System) (p : Plan) where
   pub rule-of : EveryRule q p → (t i n : ℕ) → t < intervals q → i < devices q → T (has n cellNumbers) → CellRule q p t i n
   rule-of r t i n l k h =
       let m = in-list n cellNumbers h in
-      rw (sym (rule-in-cell t i n (not-last m))) (r .holds (cellBreach t i n) (in-cell t i n l k m refl))
+      rw (sym (rule-in-cell t i n (not-last m) (not-link m))) (r .holds (cellBreach t i n) (in-cell t i n l k m refl))
 
   -- the rules that bound a device's power
   module _ (r : EveryRule q p) (t i : ℕ) (l : t < intervals q) (k : i < devices q) where

@@ -7,7 +7,7 @@ use lib.ListN.{replicate}
 use lib.IntN.{ℤ, pos, negsuc}
 use Rattle.numbers.specs.Base.{every}
 use Rattle.model.specs.Open.{open-rules, open-messages}
-use Rattle.model.specs.Case.{Case, Plan, Setting, Link, Line, Reactive, ReactiveLimits, noLink, noLine, noReactive, noReactiveLimits, noReactiveReserves, noReserves, unitPrices}
+use Rattle.model.specs.Case.{Case, Plan, Setting, Link, Line, Reactive, ReactiveLimits, noLink, noLine, noReactive, noFlow, noReactiveLimits, noReactiveReserves, noReserves, unitPrices}
 use Rattle.model.specs.Judgement.{verdict}
 use Rattle.model.specs.Shown.{shown, eqℤ, eqList}
 use Rattle.model.specs.Day.{Added, noneAdded, block, dayCase, reactivePlan}
@@ -114,6 +114,7 @@ single : ℕ → ℕ → Link → ReactiveLimits → ℕ → Case
 single side power0 link reactive intervals = record {
   system = record {
     halves = replicate intervals 5;
+    linkLimit = 0;
     zones = [];
     devices = record {
       side = side;
@@ -129,6 +130,7 @@ single side power0 link reactive intervals = record {
       startWindows = [];
       energyWindows = [];
       link = link;
+      bar = 0;
       cells = replicate intervals (record { status = 0; pmin = power0; pmax = 100; blocks = block 100 ∷ []; reactive = reactive });
     } ∷ [];
   };
@@ -160,7 +162,7 @@ onLine : Case
 onLine = single 0 7 (equal (line (pos 1) (pos 1000))) (limits (negsuc 9) (pos 10)) 1
 
 atSeven : Reactive → Plan
-atSeven x = record { settings = setting 1 7 x ∷ [] }
+atSeven x = record { settings = setting 1 7 x ∷ []; flows = replicate 1 noFlow }
 
 -- 30 kW; an interval off, where 10 kW fall and 10 kW rise; 30 kW again: in it p is 20 kW and n is 2
 crossing : Link → ReactiveLimits → Case
@@ -170,7 +172,7 @@ tied : Case
 tied = crossing (equal (line (pos 2) (pos 100))) (limits (pos 0) (pos 9))
 
 crossed : Reactive → Reactive → Reactive → Plan
-crossed x y z = record { settings = setting 1 30 x ∷ setting 0 0 y ∷ setting 1 30 z ∷ [] }
+crossed x y z = record { settings = setting 1 30 x ∷ setting 0 0 y ∷ setting 1 30 z ∷ []; flows = replicate 3 noFlow }
 
 unfoldable pub smallRows : List Row
 unfolding limits planned line between equal accepted broken single setting limited lines onLine atSeven crossing tied crossed

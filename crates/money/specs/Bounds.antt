@@ -1,7 +1,7 @@
 -- The sizes of figures and of money, for any day of at most 64 devices and 96 intervals whose plan breaks no rule. Every bound is made of these names.
--- In grains, at the largest: a cell 9.4·10^12, a zone in an interval 1.4·10^15, an interval's mismatch 4.6·10^13, an overrun 4·10^13.
--- Of reactive power: reserves 7.2·10^11 a cell, shortfalls 4.6·10^14 a zone in an interval, an interval's mismatch 2.3·10^13.
--- A day's debits then come to at most 5.8·10^16 (cells) + 5.5·10^17 (shortfalls) + 4.4·10^15 (mismatches) + 1.0·10^16 (overruns) + 1.9·10^17 (reactive),
+-- In grains, at the largest: a cell 9.4·10^12, a zone in an interval 1.4·10^15, an interval's mismatches 4.7·10^13, an overrun 4·10^13.
+-- Of reactive power: reserves 7.2·10^11 a cell, shortfalls 4.6·10^14 a zone in an interval, an interval's mismatches 4.6·10^13.
+-- A day's debits then come to at most 5.8·10^16 (cells) + 5.5·10^17 (shortfalls) + 4.5·10^15 (mismatches) + 1.0·10^16 (overruns) + 1.9·10^17 (reactive),
 -- near 8.1·10^17; its credits are of cells alone, at most 1.8·10^16. Both stay below 2^62, which is 4.6·10^18.
 use Prim.Native.Nat.{ℕ, _+_, _*_, _^_, _<_}
 use native.Mathlib.Omega.{arith}
@@ -19,7 +19,7 @@ pub use Rattle.theorems.specs.Sizes.{
   mostReactiveReserves as reactiveReservesMost,
   mostReactiveShortfallCost as reactiveZoneMost,
 }
-use Rattle.theorems.specs.Sizes.{mostTotal, mostMismatchCost}
+use Rattle.theorems.specs.Sizes.{mostTotal, mostMismatch, barCount}
 use Rattle.records.specs.Views.{priceOffset, costOffset, mostDevices, mostIntervals, mostZones, mostWindows}
 
 -- ---- figures
@@ -38,8 +38,9 @@ blocksMost = 4
 abbrev pub loadMost : ℕ
 loadMost = mostDevices * powerMost
 
+-- kW: the mismatches of both bars
 abbrev pub mismatchMost : ℕ
-mismatchMost = loadMost + loadMost
+mismatchMost = barCount * mostMismatch mostDevices
 
 -- W: the shares of the load, and of the largest unit for scr and nsc
 abbrev pub shortfallMost : ℕ
@@ -84,12 +85,12 @@ zoneMost = 6 * shortMost
 abbrev pub mismatchCostMost : ℕ
 mismatchCostMost = mismatchMost * minutesMost * priceMost
 
--- kvar: the reactive power of both sides together, and what it costs
+-- kvar: on each bar at most the reactive power of all, and what that costs
 abbrev pub reactiveMismatchMost : ℕ
-reactiveMismatchMost = mostTotal mostDevices
+reactiveMismatchMost = barCount * mostTotal mostDevices
 
 abbrev pub reactiveMismatchCostMost : ℕ
-reactiveMismatchCostMost = mostMismatchCost mostDevices
+reactiveMismatchCostMost = minutesMost * (priceMost * reactiveMismatchMost)
 
 abbrev pub overrunCostMost : ℕ
 overrunCostMost = limitMost * priceMost

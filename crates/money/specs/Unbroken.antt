@@ -5,11 +5,15 @@ use Prim.Native.Nat.{ℕ, _+_, _*_, _≤_, _<_}
 use native.Mathlib.Omega.{arith}
 use native.Mathlib.Nat.{mul-le-mul}
 use lib.ListN.{length}
+use lib.IntN.{natAbs}
 use Rattle.model.specs.Forced as F
 use Rattle.model.specs.Rules.{EveryRule}
 use Rattle.ranges.specs.Ranges.{SystemRange, PlanRange, SettingRange}
+use Rattle.numbers.specs.Bounds.{apart-is}
 use Rattle.numbers.specs.Rows.{rows-long, all-rows}
+use Rattle.kilovars.specs.Reactive.{kvarOffset}
 use Rattle.row_places.specs.declared.Front.{Front}
+use Rattle.row_places.specs.Figures.{flowAt}
 use Rattle.numbers.specs.Parts.{part-inside}
 use Rattle.records.specs.Views.{mostDevices, mostIntervals, systemIn, planIn, Ready}
 use Rattle.records.specs.Viewed as Viewed
@@ -35,6 +39,7 @@ module _ {front : Front} {halves : List ℕ} {zones minima devices cells setting
       rows-long _ (length devices) ∙ sym (Viewed.devices-are halves zones minima devices cells),
       all-rows SettingRange _ (length devices) (λ i l. Ranged.setting-range (r .plan-rows) i t l h),
     ));
+    flows = all-rows (λ z. natAbs z ≤ kvarOffset) _ (length halves) (λ t h. omega (arith, apart-is (flowAt settings t) kvarOffset, r .plan-rows .flows t h));
   }
 
   pub system-range : SystemRange (systemIn halves zones minima devices cells)

@@ -22,6 +22,7 @@ header e devices intervals = held
 
 -- a row for each device and interval
 pub record PlanRoom (devices intervals : ℕ) (settings : List (List ℕ)) : Type 0 where
+  pub some : 1 ≤ devices
   pub few-devices : devices ≤ mostDevices
   pub few-intervals : intervals ≤ mostIntervals
   pub full : length settings ≡ devices * intervals

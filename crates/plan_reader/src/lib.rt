@@ -1,5 +1,5 @@
-// The plan message of every edition, read against its layout into rows. The message goes interval by interval, in it device by device; the rows stand
-// device by device.
+// The plan message of every edition, read against its layout into rows. The message goes interval by interval, in it device by device, then the flow; the rows
+// stand device by device, and an interval's flow in the first device's.
 ghost use mathlib.Core.Path.{_≡_};
 ghost use Prim.Native.Nat.{_+_, _<_};
 ghost use Rattle.layouts.specs.Layout.{list, begin};
@@ -7,19 +7,21 @@ ghost use Rattle.model.specs.ByEdition.{setting, planned, planLayout};
 ghost use Rattle.records.specs.Views.{planIn};
 ghost use Rattle.numbers.specs.Rows.{rows};
 ghost use Rattle.fields.specs.Got.{got, told};
-ghost use Rattle.plan_reader.specs.Rows.{intervalAt, IntervalDone};
+ghost use Rattle.plan_reader.specs.Rows.{intervalAt, SettingsDone, IntervalDone};
 ghost use Rattle.plan_header.specs.Plans.{PlanRoom, PlanDone};
 use fields::Ending;
 use fields::Figure;
 use fields::Went;
+use kilowatts::SignedKw;
 use layouts::Place;
 use plan_header::read_header;
 use row_places::SettingRow;
 use setting_reader::read_setting;
+use setting_rows::put_flow;
 use setting_rows::put_setting;
 
-// Interval t, device by device: the next device's row is as many rows further on as there are intervals.
-fn read_interval(
+// The settings of interval t, device by device: the next device's row is as many rows further on as there are intervals.
+fn read_settings(
     s: &[u8],
     p: Place,
     edition: u32,
@@ -29,7 +31,7 @@ fn read_interval(
     settings: &mut [SettingRow],
 ) -> Went
     requires { ⌜ PlanRoom devices intervals (now settings) × (t < intervals) ⌝ }
-    ensures { λ r. ⌜ IntervalDone edition devices intervals t (now (s .entry)) p (now (settings .entry)) (now (settings .exit)) r ⌝ }
+    ensures { λ r. ⌜ SettingsDone edition devices intervals t (now (s .entry)) p (now (settings .entry)) (now (settings .exit)) r ⌝ }
 {
     let mut q = p;
     let mut k = t;
@@ -47,6 +49,31 @@ fn read_interval(
         i += 1;
     }
     Went::On(q)
+}
+
+// Interval t: its settings, then its flow.
+fn read_interval(
+    s: &[u8],
+    p: Place,
+    edition: u32,
+    devices: usize,
+    intervals: usize,
+    t: usize,
+    settings: &mut [SettingRow],
+) -> Went
+    requires { ⌜ PlanRoom devices intervals (now settings) × (t < intervals) ⌝ }
+    ensures { λ r. ⌜ IntervalDone edition devices intervals t (now (s .entry)) p (now (settings .entry)) (now (settings .exit)) r ⌝ }
+{
+    let went = read_settings(s, p, edition, devices, intervals, t, settings);
+    let Went::On(at_flow) = went else {
+        return went;
+    };
+    let read = flow_reader::read_flow(s, at_flow, edition);
+    let Figure::Good(flow, past) = read else {
+        return fields::place_of(read);
+    };
+    put_flow(settings, t, SignedKw(flow));
+    Went::On(past)
 }
 
 // Every interval.

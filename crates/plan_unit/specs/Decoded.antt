@@ -9,6 +9,7 @@ use Rattle.model.specs.ByEdition.{Stated}
 use Rattle.model.specs.Judgement.{countsOf}
 use Rattle.layouts.specs.Since.{has}
 use Rattle.ranges.specs.Plain.{SystemPlain}
+use Rattle.ranges.specs.Barless.{SystemBarless}
 use Rattle.theorems.specs.Back.{Countable}
 use Rattle.theorems.specs.Promise.{Sound}
 use Rattle.row_places.specs.declared.Front.{Front}
@@ -25,6 +26,7 @@ pub record Decoded (front : Front) (halves : List ℕ) (zones minima devices cel
   pub rows : CaseRows front halves zones minima devices cells
   pub countable : Countable (front .edition) (countsOf (systemIn halves zones minima devices cells))
   pub plain : has 2 (front .edition) ≡ false → SystemPlain (systemIn halves zones minima devices cells)
+  pub barless : has 5 (front .edition) ≡ false → SystemBarless (systemIn halves zones minima devices cells)
 
 -- room for a plan and its forced figures
 pub record Work (halves : List ℕ) (devices settings : List (List ℕ)) (starts powers : List ℕ) : Type 0 where
@@ -41,7 +43,7 @@ pub record Planned (front : Front) (halves : List ℕ) (zones minima devices cel
 
 pub sound-rows : {front : Front} {halves : List ℕ} {zones minima devices cells : List (List ℕ)} → Decoded front halves zones minima devices cells
     → Sound (statedRows front halves zones minima devices cells)
-sound-rows d = record { range = d .rows .range; countable = d .countable; plain = d .plain }
+sound-rows d = record { range = d .rows .range; countable = d .countable; plain = d .plain; barless = d .barless }
 
 -- ---- tables with room for more: a case in their first rows
 

@@ -21,7 +21,7 @@ use Rattle.row_places.specs.declared.Front.{Front}
 use Rattle.row_places.specs.declared.Counts.{Counts}
 use Rattle.records.specs.Views.{planIn}
 use Rattle.records.specs.Viewed.{devices-are, intervals-are, zones-are}
-use Rattle.plan_header.specs.Plans.{PlanDone}
+use Rattle.plan_header.specs.Plans.{PlanRoom, PlanDone}
 use Rattle.case_reader.specs.Whole.{CaseDone}
 use Rattle.plan_unit.specs.declared.Inspected.the-variants as I
 use Rattle.plan_unit.specs.Decoded.{Decoded, Work, Planned, statedRows, statedFirst, DecodedFirst}
@@ -30,6 +30,16 @@ use Rattle.plan_unit.specs.Decided.{Decides}
 use Rattle.plan_unit.specs.Inspection.{inspectedOf}
 
 -- ---- a plan's bytes
+
+-- tables to work in have a row for each device and interval, and a case has a device
+pub plan-room : {front : Front} {halves : List ℕ} {zones minima devices cells settings : List (List ℕ)} {starts powers : List ℕ} → Decoded front halves zones minima devices cells
+    → Work halves devices settings starts powers → PlanRoom (length devices) (length halves) settings
+plan-room {halves = halves} {zones = zones} {minima = minima} {devices = devices} {cells = cells} d w = record {
+  some = omega (arith, d .rows .range .system .someDevice, devices-are halves zones minima devices cells);
+  few-devices = d .rows .few-devices;
+  few-intervals = d .rows .few-intervals;
+  full = w .settings-full;
+}
 
 -- refused in reading, or judged
 module _ {front : Front} {halves : List ℕ} {zones minima devices cells : List (List ℕ)} (d : Decoded front halves zones minima devices cells)
@@ -88,7 +98,7 @@ module _ (l : Largest) (most : l .devices ≤ mostDevices) (long : l .intervals 
   -- its rows are decoded
   pub decoded-first : e ≡ Passes → DecodedFirst front n halves zones minima devices cells l
   decoded-first t = record {
-    decoded = let sound = stated-sound l most long cs held (passed t) in record { rows = h .decoded t; countable = sound .countable; plain = sound .plain };
+    decoded = let sound = stated-sound l most long cs held (passed t) in record { rows = h .decoded t; countable = sound .countable; plain = sound .plain; barless = sound .barless };
     few-devices = h .counted t .devices;
     few-intervals = h .counted t .intervals;
     few-zones = h .counted t .zones;

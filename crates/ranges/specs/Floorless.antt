@@ -15,7 +15,7 @@ use Rattle.model.specs.Messages as M
 use Rattle.model.specs.ByEdition as B
 use Rattle.model.specs.ByEdition.{Stated, statedIn}
 use Rattle.ranges.specs.Ranges.{ZoneRange, KindsRange, pair-sure, counted-sure, since-sure, tested-sure, apart-sure, figure-sure, eight-sure, reactive-cell-sure, head-sure}
-use Rattle.ranges.specs.Ranges.{costs-sure, start-sure, energy-sure, no-line, link-sure, some-sure, zone-sure, counts-sure, content-sure}
+use Rattle.ranges.specs.Ranges.{costs-sure, start-sure, energy-sure, no-line, link-sure, some-sure, bar-sure, limit-sure, zone-sure, counts-sure, content-sure}
 use Rattle.ranges.specs.Plain.{absent}
 
 abbrev pub BlockFloorless : Block → Type 0
@@ -56,18 +56,19 @@ module _ (e : ℕ) (h : has 3 e ≡ false) where
       (pair-sure _ _ _ _ (counted-sure (countOf 3 0 mostWindows) _ _ (start-sure e last))
       (pair-sure _ _ _ _ (counted-sure (countOf 3 0 mostWindows) _ _ (energy-sure last))
       (pair-sure _ _ _ _ (since-sure e 2 noLink B.link Any (weaken-sure B.link _ Any link-sure (λ v ok. tt)) tt)
-      (some-sure n (B.cell e) CellFloorless Any cell-floorless))))))))
-      (λ v ok. (ok .1 .1 .1 .1 .1 .1 .1 .1, tt))
+      (pair-sure _ _ _ _ (bar-sure e)
+      (some-sure n (B.cell e) CellFloorless Any cell-floorless)))))))))
+      (λ v ok. (ok .1 .1 .1 .1 .1 .1 .1 .1 .1, tt))
 
   content-floorless : (l : Largest) → Sure (B.content e l) (λ c. SystemFloorless (c .system))
   unfolding B.contentBy
   content-floorless l = held-sure _ _ _ _ _
       (then-sure (B.counts e l) _ _ _ (counts-sure e l) (λ n.
-      pair-sure _ _ _ _ (figure-sure 14 1 10000) (pair-sure _ _ _ _ (figure-sure 14 1 10000)
+      pair-sure _ _ _ _ (figure-sure 14 1 10000) (pair-sure _ _ _ _ (figure-sure 14 1 10000) (pair-sure _ _ _ _ (limit-sure e)
       (then-sure (list (n .intervals) (figure 8 1 180)) _ _ _ (list-sure _ _ _ (figure-sure 8 1 180)) (λ halves.
       pair-sure _ _ _ _ (some-sure (n .zones) _ ZoneRange KindsRange (zone-sure e (n .intervals)))
-      (some-sure (n .devices) _ DeviceFloorless Any (device-floorless (n .intervals) (n .zones) _)))))))
-      (λ v ok. record { devices = ok .1 .1 .1 .1 .1 .1 })
+      (some-sure (n .devices) _ DeviceFloorless Any (device-floorless (n .intervals) (n .zones) _))))))))
+      (λ v ok. record { devices = ok .1 .1 .1 .1 .1 .1 .1 })
 
 -- by any reader that takes no more than the most
 module _ (l : Largest) (most : l .devices ≤ mostDevices) (long : l .intervals ≤ mostIntervals) where

@@ -16,7 +16,7 @@ use Rattle.model.specs.Messages as M
 use Rattle.model.specs.ByEdition as B
 use Rattle.model.specs.ByEdition.{Stated, statedIn, plannedIn}
 use Rattle.ranges.specs.Ranges.{BlockRange, block-sure, pair-sure, counted-sure, apart-sure, tested-sure, figure-sure, eight-sure, head-sure, costs-sure, start-sure, energy-sure}
-use Rattle.ranges.specs.Ranges.{some-sure, shares-sure, six-sure, counts-sure, content-sure}
+use Rattle.ranges.specs.Ranges.{some-sure, bar-sure, limit-sure, flow-sure, shares-sure, six-sure, counts-sure, content-sure}
 
 -- ---- what knows no reactive power
 
@@ -62,8 +62,9 @@ module _ (e : ℕ) (h : has 2 e ≡ false) where
       (pair-sure _ _ _ _ (counted-sure (countOf 3 0 mostWindows) _ _ (start-sure e last))
       (pair-sure _ _ _ _ (counted-sure (countOf 3 0 mostWindows) _ _ (energy-sure last))
       (pair-sure _ _ _ _ (absent 2 e h noLink B.link)
-      (some-sure n (B.cell e) (λ c. c .reactive ≡ noReactiveLimits) Any cell-plain))))))))
-      (λ v ok. (record { link = ok .1 .1 .1 .1 .1 .1 .0; cells = ok .1 .1 .1 .1 .1 .1 .1 .1 }, tt))
+      (pair-sure _ _ _ _ (bar-sure e)
+      (some-sure n (B.cell e) (λ c. c .reactive ≡ noReactiveLimits) Any cell-plain)))))))))
+      (λ v ok. (record { link = ok .1 .1 .1 .1 .1 .1 .0; cells = ok .1 .1 .1 .1 .1 .1 .1 .1 .1 }, tt))
 
   minima-plain : Sure (B.minima e) (λ m. m .reactive ≡ noReactiveReserves)
   unfolding M.minima B.minima
@@ -80,11 +81,11 @@ module _ (e : ℕ) (h : has 2 e ≡ false) where
   unfolding B.contentBy
   content-plain l = held-sure _ _ _ _ _
       (then-sure (B.counts e l) _ _ _ (counts-sure e l) (λ n.
-      pair-sure _ _ _ _ (figure-sure 14 1 10000) (pair-sure _ _ _ _ (figure-sure 14 1 10000)
+      pair-sure _ _ _ _ (figure-sure 14 1 10000) (pair-sure _ _ _ _ (figure-sure 14 1 10000) (pair-sure _ _ _ _ (limit-sure e)
       (then-sure (list (n .intervals) (figure 8 1 180)) _ _ _ (list-sure _ _ _ (figure-sure 8 1 180)) (λ halves.
       pair-sure _ _ _ _ (some-sure (n .zones) _ ZonePlain Any (zone-plain (n .intervals)))
-      (some-sure (n .devices) _ DevicePlain Any (device-plain (n .intervals) (n .zones) _)))))))
-      (λ v ok. record { devices = ok .1 .1 .1 .1 .1 .1; zones = ok .1 .1 .1 .1 .0 .1 })
+      (some-sure (n .devices) _ DevicePlain Any (device-plain (n .intervals) (n .zones) _))))))))
+      (λ v ok. let b = ok .1 .1 .1 .1 in record { devices = b .1 .1 .1; zones = b .1 .0 .1 })
 
   setting-plain : Sure (B.setting e) (λ s. s .reactive ≡ noReactive)
   unfolding M.active B.setting
@@ -97,8 +98,8 @@ module _ (e : ℕ) (h : has 2 e ≡ false) where
   unfolding B.planBy
   planned-sure devices intervals = held-sure _ _ _ _ _
       (pair-sure _ _ _ _ (nat-sure _) (pair-sure _ _ _ _ (nat-sure _) (pair-sure _ _ _ _ (nat-sure _) (pair-sure _ _ _ _ (nat-sure _)
-      (list-sure _ _ _ (list-sure _ (B.setting e) _ setting-plain))))))
-      (λ v ok. record { settings = all-map (λ row r. r .1) (v .1 .1 .1 .1) (ok .1 .1 .1 .1 .1) })
+      (some-sure intervals (B.planned e devices) _ _ (pair-sure _ _ _ _ (list-sure _ (B.setting e) _ setting-plain) (flow-sure e)))))))
+      (λ v ok. record { settings = all-map (λ row r. r .1) (v .1 .1 .1 .1 .0) (ok .1 .1 .1 .1 .1) })
 
   -- a plan of such an edition
   pub planned-plain : (q : System) (s : List ℕ) (p : Plan) → plannedIn e q s ≡ passes p → PlanPlain p

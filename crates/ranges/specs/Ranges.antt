@@ -9,7 +9,7 @@ use lib.Dec.{T, leb, leb→le, le→leb}
 use lib.IntN.{natAbs}
 use Rattle.numbers.specs.Sum.{All, all-map}
 use Rattle.numbers.specs.Every.{map-of-all}
-use Rattle.model.specs.Case.{Reserves, Ramps, StartWindow, EnergyWindow, Shares, Six, Kinds, Minima, Cell, CellPrices, Device, DevicePrices, Zone, System, Prices}
+use Rattle.model.specs.Case.{Reserves, Ramps, StartWindow, EnergyWindow, Shares, Six, Kinds, Minima, Cell, CellPrices, Device, DevicePrices, Zone, System, Prices, noFlow}
 use Rattle.model.specs.Case.{Block, Case, Plan, Reactive, Setting, noReactive, ReactiveLimits, ReactiveReserves, Line, Link, noLine, noLink, noReactiveReserves, unitPrices}
 use Rattle.layouts.specs.Layout.{Layout, Field, nat, list, counted, _then_, _▸_, such, passes, figure, any, countOf, int}
 use Rattle.model.specs.Widths.{bounded}
@@ -118,7 +118,7 @@ block-sure e = let u = figure-sure 17 0 100000 in held-sure _ _ _ _ _
     (weaken-sure _ _ _ (such-sure (λ floor. leb floor cap) M.kW _ u) (λ a ok. ok .1)) (le→leb 0 cap (omega arith))))
     (λ v ok. record { cap = ok .0; floor = leb→le _ _ (ok .1) })
 
-cell-sure : (e : ℕ) → Sure (B.cell e) (λ v. CellRange (v .0) × CellPriceRange (v .1))
+pub cell-sure : (e : ℕ) → Sure (B.cell e) (λ v. CellRange (v .0) × CellPriceRange (v .1))
 unfolding B.cell B.cellWith
 cell-sure e = held-sure _ _ _ _ _
     (pair-sure _ _ _ _ (figure-sure 2 0 2)
@@ -198,6 +198,7 @@ pub record DeviceRange (intervals : ℕ) (d : Device) : Type 0 where
   pub states : length (d .longest) ≤ mostStates
   pub starts : length (d .startWindows) ≤ mostWindows
   pub energies : length (d .energyWindows) ≤ mostWindows
+  pub bar : d .bar ≤ 1
   pub energy : All EnergyRange (d .energyWindows)
   pub link : LinkRange (d .link)
   pub each : length (d .cells) ≡ intervals
@@ -255,6 +256,9 @@ pub record DevicePriceRange (x : DevicePrices) : Type 0 where
   pub states : All (λ z. natAbs z ≤ 1000000000) (x .stateCosts)
   pub cells : All CellPriceRange (x .cells)
 
+pub bar-sure : (e : ℕ) → Sure (since e 5 0 B.bar) (λ b. b ≤ 1)
+bar-sure e = since-sure e 5 0 B.bar _ (figure-sure 1 0 1) (omega arith)
+
 device-sure : (e intervals zones last : ℕ) → Sure (B.device e intervals zones last) (λ v. DeviceRange intervals (v .0) × DevicePriceRange (v .1))
 unfolding B.deviceBy
 device-sure e n zones last = held-sure _ _ _ _ _
@@ -266,7 +270,8 @@ device-sure e n zones last = held-sure _ _ _ _ _
     (pair-sure _ _ _ _ (counted-sure (countOf 3 0 mostWindows) _ _ (start-sure e last))
     (pair-sure _ _ _ _ (counted-sure (countOf 3 0 mostWindows) _ _ (energy-sure last))
     (pair-sure _ _ _ _ (since-sure e 2 noLink B.link _ link-sure (record { kind = omega arith; upper = no-line; lower = no-line }))
-    (some-sure n (B.cell e) CellRange CellPriceRange (cell-sure e)))))))))
+    (pair-sure _ _ _ _ (bar-sure e)
+    (some-sure n (B.cell e) CellRange CellPriceRange (cell-sure e))))))))))
     (λ v ok. (
       record {
         head = ok .0;
@@ -278,10 +283,11 @@ device-sure e n zones last = held-sure _ _ _ _ _
         energies = ok .1 .1 .1 .1 .1 .0 .0;
         energy = ok .1 .1 .1 .1 .1 .0 .1;
         link = ok .1 .1 .1 .1 .1 .1 .0;
-        each = ok .1 .1 .1 .1 .1 .1 .1 .0;
-        cells = ok .1 .1 .1 .1 .1 .1 .1 .1;
+        bar = ok .1 .1 .1 .1 .1 .1 .1 .0;
+        each = ok .1 .1 .1 .1 .1 .1 .1 .1 .0;
+        cells = ok .1 .1 .1 .1 .1 .1 .1 .1 .1;
       },
-      record { on = ok .1 .0 .0; start = ok .1 .0 .1; stop = ok .1 .0 .2; states = ok .1 .1 .1 .0 .2; cells = ok .1 .1 .1 .1 .1 .1 .1 .2 },
+      record { on = ok .1 .0 .0; start = ok .1 .0 .1; stop = ok .1 .0 .2; states = ok .1 .1 .1 .0 .2; cells = ok .1 .1 .1 .1 .1 .1 .1 .1 .2 },
     ))
 
 pub record SharesRange (s : Shares) : Type 0 where
@@ -356,6 +362,7 @@ pub record SystemRange (q : System) : Type 0 where
   pub someInterval : 1 ≤ length (q .halves)
   pub intervals : length (q .halves) ≤ mostIntervals
   pub halves : All (λ h. h ≤ 180) (q .halves)
+  pub linkLimit : q .linkLimit ≤ 100000
   pub someDevice : 1 ≤ length (q .devices)
   pub devices : length (q .devices) ≤ mostDevices
   pub eachDevice : All (DeviceRange (length (q .halves))) (q .devices)
@@ -391,17 +398,20 @@ pub record StatedRange (l : Largest) (x : Stated) : Type 0 where
   pub edition : (1 ≤ x .edition) × (x .edition ≤ newest)
   pub case : Taken (x .edition) l (x .case)
 
+pub limit-sure : (e : ℕ) → Sure (since e 5 0 B.linkLimit) (λ x. x ≤ 100000)
+limit-sure e = since-sure e 5 0 B.linkLimit _ (figure-sure 17 0 100000) (omega arith)
+
 -- any reader that takes no more than the most
 module _ (l : Largest) (most : l .devices ≤ mostDevices) (long : l .intervals ≤ mostIntervals) where
   pub content-sure : (e : ℕ) → Sure (B.content e l) (Taken e l)
   unfolding B.contentBy
   content-sure e = held-sure _ _ _ _ _
       (then-sure (B.counts e l) _ _ _ (counts-sure e l) (λ n.
-      pair-sure _ _ _ _ (figure-sure 14 1 10000) (pair-sure _ _ _ _ (figure-sure 14 1 10000)
+      pair-sure _ _ _ _ (figure-sure 14 1 10000) (pair-sure _ _ _ _ (figure-sure 14 1 10000) (pair-sure _ _ _ _ (limit-sure e)
       (then-sure (list (n .intervals) (figure 8 1 180)) _ _ _ (list-sure _ _ _ (figure-sure 8 1 180)) (λ halves.
       pair-sure _ _ _ _ (some-sure (n .zones) _ ZoneRange KindsRange (zone-sure e (n .intervals)))
-      (some-sure (n .devices) _ (DeviceRange (n .intervals)) DevicePriceRange (device-sure e (n .intervals) (n .zones) _)))))))
-      (λ v ok. let h = ok .1 .1 .1 .0 in let z = ok .1 .1 .1 .1 .0 in let d = ok .1 .1 .1 .1 .1 in record {
+      (some-sure (n .devices) _ (DeviceRange (n .intervals)) DevicePriceRange (device-sure e (n .intervals) (n .zones) _))))))))
+      (λ v ok. let b = ok .1 .1 .1 .1 in let h = b .0 in let z = b .1 .0 in let d = b .1 .1 in record {
         devices = omega arith;
         intervals = omega arith;
         range = record {
@@ -409,6 +419,7 @@ module _ (l : Largest) (most : l .devices ≤ mostDevices) (long : l .intervals 
             someInterval = omega arith;
             intervals = omega arith;
             halves = h .1;
+            linkLimit = ok .1 .1 .1 .0;
             someDevice = omega arith;
             devices = omega arith;
             eachDevice = rw (h .0) (d .1);
@@ -452,33 +463,37 @@ pub record SettingRange (x : Setting) : Type 0 where
 pub record PlanRange (q : System) (p : Plan) : Type 0 where
   pub intervals : length (p .settings) ≡ length (q .halves)
   pub each : All (λ row. (length row ≡ length (q .devices)) × All SettingRange row) (p .settings)
+  pub flows : All (λ z. natAbs z ≤ 100000) (p .flows)
 
 reactive-sure : Sure B.reactive ReactiveRange
 unfolding B.reactive
 reactive-sure = let u = figure-sure 17 0 100000 in held-sure _ _ _ _ _ (pair-sure _ _ _ _ (int-sure 18 100000) (pair-sure _ _ _ _ u u))
     (λ v ok. record { q = ok .0; qru = ok .1 .0; qrd = ok .1 .1 })
 
-setting-sure : (e : ℕ) → Sure (B.setting e) SettingRange
+pub setting-sure : (e : ℕ) → Sure (B.setting e) SettingRange
 unfolding M.active B.setting
 setting-sure e = held-sure _ _ _ _ _
     (pair-sure _ _ _ _ (pair-sure _ _ _ _ (figure-sure 1 0 1) (pair-sure _ _ _ _ (figure-sure 17 0 100000) (eight-sure _ _ (figure-sure 17 0 100000))))
     (since-sure e 2 noReactive B.reactive _ reactive-sure (record { q = omega arith; qru = omega arith; qrd = omega arith })))
     (λ v ok. record { on = ok .0 .0; online = ok .0 .1 .0; reserves = ok .0 .1 .1; reactive = ok .1 })
 
--- a plan's settings: of so many intervals, each of so many devices
+-- a plan's settings: of so many intervals, each of so many devices; its flows
 abbrev pub Settings : ℕ → ℕ → Plan → Type 0
-Settings devices intervals p = (length (p .settings) ≡ intervals) × All (λ row. (length row ≡ devices) × All SettingRange row) (p .settings)
+Settings devices intervals p = (length (p .settings) ≡ intervals) × All (λ row. (length row ≡ devices) × All SettingRange row) (p .settings) × All (λ z. natAbs z ≤ 100000) (p .flows)
+
+pub flow-sure : (e : ℕ) → Sure (since e 5 noFlow B.flow) (λ z. natAbs z ≤ 100000)
+flow-sure e = since-sure e 5 noFlow B.flow _ (int-sure 18 100000) (omega arith)
 
 pub settings-in : (e devices intervals : ℕ) → Sure (B.planLayout e devices intervals) (Settings devices intervals)
 unfolding B.planBy
 settings-in e devices intervals = held-sure _ _ _ _ _
     (pair-sure _ _ _ _ (nat-sure _) (pair-sure _ _ _ _ (nat-sure _) (pair-sure _ _ _ _ (nat-sure _) (pair-sure _ _ _ _ (nat-sure _)
-    (list-sure _ _ _ (list-sure _ (B.setting e) SettingRange (setting-sure e)))))))
-    (λ v ok. (ok .1 .1 .1 .1 .0, ok .1 .1 .1 .1 .1))
+    (some-sure intervals (B.planned e devices) _ _ (pair-sure _ _ _ _ (list-sure _ (B.setting e) SettingRange (setting-sure e)) (flow-sure e)))))))
+    (λ v ok. ok .1 .1 .1 .1)
 
 pub planned-sure : (e : ℕ) (q : System) → Sure (B.planLayout e (length (q .devices)) (length (q .halves))) (PlanRange q)
 planned-sure e q = weaken-sure _ (Settings (length (q .devices)) (length (q .halves))) (PlanRange q) (settings-in e (length (q .devices)) (length (q .halves)))
-    (λ p ok. record { intervals = ok .0; each = ok .1 })
+    (λ p ok. record { intervals = ok .0; each = ok .1; flows = ok .2 })
 
 pub planned-range : (e : ℕ) (q : System) (s : List ℕ) (p : Plan) → plannedIn e q s ≡ passes p → PlanRange q p
 unfolding plannedIn

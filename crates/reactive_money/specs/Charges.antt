@@ -1,12 +1,13 @@
--- What reactive reserves, reactive shortfalls and a reactive mismatch cost.
+-- What reactive reserves, reactive shortfalls and reactive mismatches cost.
 use mathlib.Core.Path.{_≡_, refl, sym, ap, ap₂, _∙_}
 use mathlib.Core.List.{List, []}
 use Prim.Native.Nat.{ℕ, _+_, _*_, _≤_, _<_}
 use native.Mathlib.Omega.{arith}
 use native.Mathlib.Nat.{mul-le-mul}
 use lib.ListN.{getD, length}
-use lib.IntN.{pos, negℤ}
+use lib.IntN.{ℤ, pos, negℤ}
 use Rattle.numbers.specs.Laws.{maxZero}
+use Rattle.numbers.specs.Sum.{sumℤ}
 use Rattle.numbers.specs.Parts.{part-at, place-inside}
 use Rattle.grains.specs.declared.Ledger.{Ledger}
 use Rattle.grains.specs.Money.{Ledgered}
@@ -212,18 +213,22 @@ zone-entered zone minutes qru qrd {a = a} {b = b} {g = g} h e f s =
 
 -- ---- mismatches
 
--- an interval, its reactive mismatch and the price
+-- what an interval's reactive mismatches cost together
+unfoldable pub reactiveMismatchesCost : Case → Plan → ℕ → ℤ
+reactiveMismatchesCost c p t = sumℤ (reactiveMismatchCost c p (our c p) t) C.bars
+
+-- an interval, its reactive mismatches together and the price
 pub record ReactiveIntervalOf (price minutes m : ℕ) : Type 0 where
   pub day : Day
   pub t : ℕ
   pub interval : t < length (day .halves)
   pub is : price ≡ day .front .mismatch
   pub minutes-are : minutes ≡ 2 * getD (day .halves) t 0
-  pub power : m ≡ reactiveMismatchNeed (system day) (plan day) t
+  pub power : m ≡ reactiveMismatchNeed (system day) (plan day) t 0 + reactiveMismatchNeed (system day) (plan day) t 1
 
 pub record ReactiveMismatchEntered (price minutes m : ℕ) (l r : Ledger) : Type 0 where
   pub is : (w : ReactiveIntervalOf price minutes m)
-      → Entered l r (negℤ (reactiveMismatchCost (case (w .day)) (plan (w .day)) (our (case (w .day)) (plan (w .day))) (w .t))) reactiveMismatchCostMost
+      → Entered l r (negℤ (reactiveMismatchesCost (case (w .day)) (plan (w .day)) (w .t))) reactiveMismatchCostMost
 
 module _ {price minutes m : ℕ} (w : ReactiveIntervalOf price minutes m) where
   pub interval-minutes : minutes ≤ minutesMost
@@ -232,15 +237,12 @@ module _ {price minutes m : ℕ} (w : ReactiveIntervalOf price minutes m) where
   mismatch-price : price ≤ priceMost
   mismatch-price = omega (arith, w .is, Ranged.mismatch-price-small (w .day .unbroken .ready .case-rows))
 
-  mismatch-power : m ≤ reactiveMismatchMost
+  pub mismatch-power : m ≤ reactiveMismatchMost
   mismatch-power =
       let ready = w .day .unbroken .ready in
-      omega (
-        arith,
-        w .power,
-        reactive-mismatch-bound (system (w .day)) (plan (w .day)) (system-range ready) (plan-range ready) (w .day .unbroken .rules) mostDevices (few-devices ready) (w .t)
-            (in-intervals (w .day) (w .t) (w .interval)),
-      )
+      let bound = reactive-mismatch-bound (system (w .day)) (plan (w .day)) (system-range ready) (plan-range ready) (w .day .unbroken .rules) mostDevices (few-devices ready) (w .t) in
+      let within = in-intervals (w .day) (w .t) (w .interval) in
+      omega (arith, w .power, bound 0 within, bound 1 within)
 
   -- each minute, and over the interval
   pub rate-small : price * m ≤ priceMost * reactiveMismatchMost
@@ -249,10 +251,20 @@ module _ {price minutes m : ℕ} (w : ReactiveIntervalOf price minutes m) where
   pub cost-small : minutes * (price * m) ≤ reactiveMismatchCostMost
   cost-small = mul-le-mul interval-minutes rate-small
 
-  mismatch-term : negℤ (pos (minutes * (price * m))) ≡ negℤ (reactiveMismatchCost (case (w .day)) (plan (w .day)) (our (case (w .day)) (plan (w .day))) (w .t))
-  unfolding reactiveMismatchCost whole ours
-  mismatch-term = ap (λ (n : ℕ). negℤ (pos n)) (ap₂ (λ (d n : ℕ). d * n) (w .minutes-are ∙ duration-is (w .day) (w .t)) (ap₂ (λ (a b : ℕ). a * b) priced (w .power)))
+  mismatch-term : negℤ (pos (minutes * (price * m))) ≡ negℤ (reactiveMismatchesCost (case (w .day)) (plan (w .day)) (w .t))
+  unfolding reactiveMismatchesCost reactiveMismatchCost whole ours
+  mismatch-term = ap (λ (n : ℕ). negℤ (pos n))
+      (ap (λ (n : ℕ). minutes * (price * n)) (w .power) ∙ shape (need 0) (need 1) minutes price ∙ ap₂ (λ (d c : ℕ). d * (c * need 0) + (d * (c * need 1) + 0)) minuted priced)
     where
+      minuted : minutes ≡ F.duration (system (w .day)) (w .t)
+      minuted = w .minutes-are ∙ duration-is (w .day) (w .t)
+
+      need : ℕ → ℕ
+      need b = reactiveMismatchNeed (system (w .day)) (plan (w .day)) (w .t) b
+
+      shape : (m n d c : ℕ) → d * (c * (m + n)) ≡ d * (c * m) + (d * (c * n) + 0)
+      shape m n d c = omega arith
+
       priced : price ≡ case (w .day) .prices .mismatch
       priced = w .is ∙ sym (Viewed.mismatch-price-is (w .day .front) (w .day .halves) (w .day .zones) (w .day .minima) (w .day .devices) (w .day .cells))
 

@@ -10,13 +10,15 @@ use Rattle.numbers.specs.Base.{upTo}
 use Rattle.grains.specs.declared.Ledger.{Ledger}
 use Rattle.model.specs.Case.{System, Plan, Case}
 use Rattle.model.specs.Forced.{intervals, devices, zones}
-use Rattle.model.specs.Completion.{shortfallCost, mismatchCost, reactiveReservesCost, reactiveShortfallCost, reactiveMismatchCost, realSurplus, reactiveCosts, surplusOf}
+use Rattle.model.specs.Completion.{shortfallCost, reactiveReservesCost, reactiveShortfallCost, realSurplus, reactiveCosts, surplusOf}
 use Rattle.model.specs.Judgement.{ourSurplus}
 use Rattle.model.specs.Editions.{mostDevices, mostIntervals, mostZones}
 use Rattle.money.specs.Bounds.{deviceMost, kindsMost, mismatchCostMost, reactiveMismatchCostMost, intervalMost, windowsCostMost, dayMost}
 use Rattle.money.specs.Entries.{Entered, entered-then, entered-as}
 use Rattle.money.specs.Terms.{our, cellBalance}
+use Rattle.slack_money.specs.Charges.{mismatchesCost}
 use Rattle.slack_money.specs.Day as Real
+use Rattle.reactive_money.specs.Charges.{reactiveMismatchesCost}
 
 module _ (c : Case) (p : Plan) where
   abbrev q : System
@@ -29,7 +31,7 @@ module _ (c : Case) (p : Plan) where
   S = reactiveShortfallCost c p (our c p)
 
   abbrev M : ℕ → ℤ
-  M = reactiveMismatchCost c p (our c p)
+  M = reactiveMismatchesCost c p
 
   -- a device in an interval, a zone, the mismatches: of real power, then of reactive
   abbrev pub deviceBalance : ℕ → ℕ → ℤ
@@ -39,7 +41,7 @@ module _ (c : Case) (p : Plan) where
   zoneBalance t z = negℤ (shortfallCost c p (our c p) t z) +ℤ negℤ (S t z)
 
   abbrev pub mismatchesBalance : ℕ → ℤ
-  mismatchesBalance t = negℤ (mismatchCost c p (our c p) t) +ℤ negℤ (M t)
+  mismatchesBalance t = negℤ (mismatchesCost c p t) +ℤ negℤ (M t)
 
   -- "per interval, per device; then per zone; then mismatch"
   unfoldable pub intervalBalance : ℕ → ℤ
@@ -63,12 +65,12 @@ module _ (c : Case) (p : Plan) where
       let b = sumℤ (R t) (upTo (devices q)) in
       let e = sumℤ (λ z. negℤ (shortfallCost c p (our c p) t z)) (upTo (zones q)) in
       let f = sumℤ (S t) (upTo (zones q)) in
-      let g = negℤ (mismatchCost c p (our c p) t) in
+      let g = negℤ (mismatchesCost c p t) in
       ap₂ (λ (y z : ℤ). y +ℤ z +ℤ mismatchesBalance t) (less (cellBalance c p t) (R t) (devices q)) (less (λ z. negℤ (shortfallCost c p (our c p) t z)) (S t) (zones q))
       ∙ by≡ ((at a ⊝ at b) ⊕ (at e ⊝ at f) ⊕ (at g ⊕ neg (at (M t)))) (at a ⊕ at e ⊕ at g ⊕ neg (at b ⊕ at f ⊕ at (M t))) (omega arith)
 
   costs-are : sumℤ reactive (upTo (intervals q)) ≡ reactiveCosts c p (our c p)
-  unfolding reactive reactiveCosts
+  unfolding reactive reactiveCosts reactiveMismatchesCost
   costs-are =
       sum-add (λ t. sumℤ (R t) (upTo (devices q)) +ℤ sumℤ (S t) (upTo (zones q))) M (upTo (intervals q))
       ∙ ap (λ (z : ℤ). z +ℤ sumℤ M (upTo (intervals q))) (sum-add (λ t. sumℤ (R t) (upTo (devices q))) (λ t. sumℤ (S t) (upTo (zones q))) (upTo (intervals q)))
@@ -90,7 +92,7 @@ module _ (c : Case) (p : Plan) where
   pub interval-entered : (t : ℕ) {l a b d r : Ledger} → devices q ≤ mostDevices → zones q ≤ mostZones
       → Entered l a (sumℤ (deviceBalance t) (upTo (devices q))) (devices q * deviceMost)
       → Entered a b (sumℤ (zoneBalance t) (upTo (zones q))) (zones q * kindsMost)
-      → Entered b d (negℤ (mismatchCost c p (our c p) t)) mismatchCostMost
+      → Entered b d (negℤ (mismatchesCost c p t)) mismatchCostMost
       → Entered d r (negℤ (M t)) reactiveMismatchCostMost
       → Entered l r (intervalBalance t) intervalMost
   unfolding intervalBalance

@@ -11,7 +11,7 @@ use Rattle.numbers.specs.Base.{upTo}
 use Rattle.grains.specs.declared.Ledger.{Ledger}
 use Rattle.model.specs.Case.{System, Plan, Case}
 use Rattle.model.specs.Completion as C
-use Rattle.model.specs.Completion.{reactiveNeed, reactiveMismatchNeed, mismatchCost, reactiveReservesCost, reactiveShortfallCost, reactiveMismatchCost}
+use Rattle.model.specs.Completion.{reactiveNeed, reactiveMismatchNeed, reactiveReservesCost, reactiveShortfallCost}
 use Rattle.model.specs.Judgement.{ourSurplus}
 use Rattle.row_places.specs.declared.Front.{Front}
 use Rattle.row_places.specs.declared.Zone.{Zone}
@@ -22,9 +22,10 @@ use Rattle.money.specs.Bounds.{deviceMost, kindsMost, mismatchCostMost, reactiv
 use Rattle.money.specs.Entries.{Entered}
 use Rattle.money.specs.Unbroken.{Unbroken, few-devices, few-intervals}
 use Rattle.money.specs.Terms.{our}
+use Rattle.slack_money.specs.Charges.{mismatchesCost}
 use Rattle.slack_money.specs.Day.{windowsBalance}
 use Rattle.slack_money.specs.Here.{day}
-use Rattle.reactive_money.specs.Charges.{HeldOf, HeldEntered, ReactiveZoneOf, ReactiveZoneEntered, ReactiveIntervalOf, ReactiveMismatchEntered}
+use Rattle.reactive_money.specs.Charges.{HeldOf, HeldEntered, ReactiveZoneOf, ReactiveZoneEntered, reactiveMismatchesCost, ReactiveIntervalOf, ReactiveMismatchEntered}
 use Rattle.reactive_money.specs.Day.{deviceBalance, zoneBalance, intervalBalance, interval-entered, day-entered}
 
 module _ {front : Front} {halves : List ℕ} {zones minima devices cells settings : List (List ℕ)} {starts powers : List ℕ}
@@ -57,12 +58,13 @@ module _ {front : Front} {halves : List ℕ} {zones minima devices cells setting
     unfolding zone-here
     zone-learnt e = e .is zone-here
 
-  -- an interval's reactive mismatch
-  module _ (t : ℕ) (h : t < length halves) {price minutes m : ℕ} (ep : price ≡ front .mismatch) (em : minutes ≡ 2 * getD halves t 0) (ex : m ≡ reactiveMismatchNeed q p t) where
+  -- an interval's reactive mismatches
+  module _ (t : ℕ) (h : t < length halves) {price minutes m : ℕ} (ep : price ≡ front .mismatch) (em : minutes ≡ 2 * getD halves t 0)
+      (ex : m ≡ reactiveMismatchNeed q p t 0 + reactiveMismatchNeed q p t 1) where
     pub mismatch-here : ReactiveIntervalOf price minutes m
     mismatch-here = record { day = day u; t = t; interval = h; is = ep; minutes-are = em; power = ex }
 
-    pub mismatch-learnt : {y v : Ledger} → ReactiveMismatchEntered price minutes m y v → Entered y v (negℤ (reactiveMismatchCost c p (our c p) t)) reactiveMismatchCostMost
+    pub mismatch-learnt : {y v : Ledger} → ReactiveMismatchEntered price minutes m y v → Entered y v (negℤ (reactiveMismatchesCost c p t)) reactiveMismatchCostMost
     unfolding mismatch-here
     mismatch-learnt e = e .is mismatch-here
 
@@ -71,8 +73,8 @@ module _ {front : Front} {halves : List ℕ} {zones minima devices cells setting
   pub interval-whole : (t : ℕ) {l a b d r : Ledger}
       → Entered l a (sumℤ (deviceBalance c p t) (upTo (length devices))) (length devices * deviceMost)
       → Entered a b (sumℤ (zoneBalance c p t) (upTo (length zones))) (length zones * kindsMost)
-      → Entered b d (negℤ (mismatchCost c p (our c p) t)) mismatchCostMost
-      → Entered d r (negℤ (reactiveMismatchCost c p (our c p) t)) reactiveMismatchCostMost
+      → Entered b d (negℤ (mismatchesCost c p t)) mismatchCostMost
+      → Entered d r (negℤ (reactiveMismatchesCost c p t)) reactiveMismatchCostMost
       → Entered l r (intervalBalance c p t) intervalMost
   interval-whole t {l} {a} {b} f g h k = interval-entered c p t (few-devices (u .ready)) (omega (arith, Viewed.zones-are halves zones minima devices cells, u .ready .case-rows .few-zones))
       (subst (λ (n : ℕ). Entered l a (sumℤ (deviceBalance c p t) (upTo n)) (n * deviceMost)) (sym (Viewed.devices-are halves zones minima devices cells)) f)

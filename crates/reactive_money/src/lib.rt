@@ -1,4 +1,4 @@
-// The money that reactive reserves, reactive shortfalls and a reactive mismatch cost, entered in a ledger.
+// The money that reactive reserves, reactive shortfalls and reactive mismatches cost, entered in a ledger.
 use cell_rows::reactive_cell_at;
 use grains::Grains;
 use grains::Ledger;
@@ -11,7 +11,7 @@ use row_places::SettingRow;
 use row_places::Zone;
 use setting_rows::reactive_at;
 ghost use mathlib.Core.Path.{_≡_};
-ghost use Prim.Native.Nat.{_*_, _≤_};
+ghost use Prim.Native.Nat.{_+_, _*_, _≤_};
 ghost use Rattle.money.specs.Bounds.{minutesMost, shortPriceMost, reactiveShortfallMost};
 ghost use Rattle.money.specs.Entries.{Room};
 ghost use Rattle.reactive_money.specs.Charges.{HeldOf, HeldEntered, shortMost, ReactiveZoneOf, ReactiveZoneEntered, ReactiveIntervalOf, ReactiveMismatchEntered};
@@ -56,10 +56,16 @@ pub fn reactive_zone_money(l: Ledger, qru: Var, qrd: Var, zone: Zone, minutes: u
     l.spend(up.plus(down))
 }
 
-// An interval's reactive mismatch, "priced like the real one".
-pub fn reactive_mismatch_money(l: Ledger, m: Kvar, price: u32, minutes: u32) -> Ledger
-    requires { ⌜ Room 0 l × ReactiveIntervalOf price minutes (m .0) ⌝ }
-    ensures { λ r. ⌜ ReactiveMismatchEntered price minutes (m .0) l r ⌝ }
+// An interval's reactive mismatches, of both bars, "priced like the real one".
+pub fn reactive_mismatch_money(
+    l: Ledger,
+    first: Kvar,
+    second: Kvar,
+    price: u32,
+    minutes: u32,
+) -> Ledger
+    requires { ⌜ Room 0 l × ReactiveIntervalOf price minutes (first .0 + second .0) ⌝ }
+    ensures { λ r. ⌜ ReactiveMismatchEntered price minutes (first .0 + second .0) l r ⌝ }
 {
-    l.spend(m.at(KvarPrice(price)).over(minutes))
+    l.spend(first.plus(second).at(KvarPrice(price)).over(minutes))
 }

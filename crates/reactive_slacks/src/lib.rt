@@ -1,12 +1,13 @@
-// The reactive slacks of an interval, each at its need: its reactive mismatch, and a zone's two reactive shortfalls.
+// The reactive slacks of an interval, each at its need: its reactive mismatches, one for each bar, and a zone's two reactive shortfalls.
 ghost use mathlib.Core.Path.{_≡_};
 ghost use mathlib.Core.Bool.{true};
 ghost use Prim.Native.Nat.{_+_, _-_, _*_, _<_, _^_};
 ghost use lib.ListN.{length};
 ghost use Rattle.records.specs.Views.{mostDevices, mostZones};
 ghost use Rattle.reactive_slacks.specs.Settled.{Settled, Small};
-ghost use Rattle.reactive_slacks.specs.Sides.{withSide, sidesTo, apartOf, NoneTo};
+ghost use Rattle.reactive_slacks.specs.Sides.{withSide, allOf, withBar, BarsSo, barsTo, mismatchesOf, NoneTo};
 ghost use Rattle.reactive_slacks.specs.Held.{HeldOf, DeviceAdded, HeldSo, heldTo, shortOf};
+use device_rows::bar_at;
 use device_rows::side_at;
 use device_rows::zonebits_at;
 use kilovars::Kvar;
@@ -19,11 +20,23 @@ use row_places::SettingRow;
 use setting_rows::reactive_at;
 use zone_totals::in_zone;
 
-// Two sums that are as far apart as the q of the consuming and the producing devices: a device's q, as it is kept, on its side, and what it is kept from
+// Two sums that are as far apart as the q of a bar's consuming and producing devices: a device's q, as it is kept, on its side, and what it is kept from
 // on the other.
 pub struct ReactiveSides {
     pub consuming: Kvar,
     pub producing: Kvar,
+}
+
+// Those of bar 0, and of bar 1.
+pub struct ReactiveBarSides {
+    pub first: ReactiveSides,
+    pub second: ReactiveSides,
+}
+
+// The reactive mismatch of bar 0, and of bar 1.
+pub struct ReactiveMismatches {
+    pub first: Kvar,
+    pub second: Kvar,
 }
 
 // A device's q on its side.
@@ -52,24 +65,44 @@ fn with_side(s: ReactiveSides, side: u32, q: SignedKvar) -> ReactiveSides
     }
 }
 
-// How far the q of the two sides are apart in interval t of m.
-fn sides_apart(devices: &[DeviceRow], settings: &[SettingRow], m: usize, t: usize) -> Kvar
-    requires { ⌜ Settled (length (now devices)) m t (now settings) ⌝ }
-    ensures { λ r. ⌜ r .0 ≡ apartOf (sidesTo (now (devices .entry)) (now (settings .entry)) m t (length (now (devices .entry)))) ⌝ }
+// A device's q on its bar.
+fn with_bar(s: ReactiveBarSides, bar: u32, side: u32, q: SignedKvar) -> ReactiveBarSides
+    requires { ⌜ allOf s + q .0 + 100000 < 2 ^ 32 ⌝ }
+    ensures { λ r. ⌜ r ≡ withBar s bar side (q .0) ⌝ }
 {
-    let mut s = ReactiveSides {
+    let first = s.first;
+    let second = s.second;
+    if bar == 0 {
+        let first = with_side(first, side, q);
+        ReactiveBarSides { first, second }
+    } else {
+        let second = with_side(second, side, q);
+        ReactiveBarSides { first, second }
+    }
+}
+
+// The q by bar and side in interval t of m.
+fn bar_sides(devices: &[DeviceRow], settings: &[SettingRow], m: usize, t: usize) -> ReactiveBarSides
+    requires { ⌜ Settled (length (now devices)) m t (now settings) ⌝ }
+    ensures { λ r. ⌜ BarsSo (now (devices .entry)) (now (settings .entry)) m t (length (now (devices .entry))) r ⌝ }
+{
+    let none = ReactiveSides {
         consuming: Kvar(0),
         producing: Kvar(0),
+    };
+    let mut s = ReactiveBarSides {
+        first: none,
+        second: none,
     };
     let mut i = 0;
     let mut k = t;
     while i < devices.len() {
         let x = reactive_at(settings, k);
-        s = with_side(s, side_at(devices, i), x.q);
+        s = with_bar(s, bar_at(devices, i), side_at(devices, i), x.q);
         k += m;
         i += 1;
     }
-    s.consuming.apart(s.producing)
+    s
 }
 
 // No device has a q in interval t of m; says nothing where one has.
@@ -90,15 +123,26 @@ fn none_reactive(devices: usize, settings: &[SettingRow], m: usize, t: usize) ->
     true
 }
 
-// "A reactive mismatch": |consuming − producing q|, at its need, in interval t of m.
-pub fn reactive_mismatch(devices: &[DeviceRow], settings: &[SettingRow], m: usize, t: usize) -> Kvar
+// "A reactive mismatch": |consuming − producing q| of each bar, at its need, in interval t of m; "the link carries no reactive power".
+pub fn reactive_mismatches(
+    devices: &[DeviceRow],
+    settings: &[SettingRow],
+    m: usize,
+    t: usize,
+) -> ReactiveMismatches
     requires { ⌜ Settled (length (now devices)) m t (now settings) ⌝ }
-    ensures { λ r. ⌜ r .0 ≡ apartOf (sidesTo (now (devices .entry)) (now (settings .entry)) m t (length (now (devices .entry)))) ⌝ }
+    ensures { λ r. ⌜ r ≡ mismatchesOf (barsTo (now (devices .entry)) (now (settings .entry)) m t (length (now (devices .entry)))) ⌝ }
 {
     if none_reactive(devices.len(), settings, m, t) {
-        return Kvar(0);
+        return ReactiveMismatches {
+            first: Kvar(0),
+            second: Kvar(0),
+        };
     }
-    sides_apart(devices, settings, m, t)
+    let s = bar_sides(devices, settings, m, t);
+    let first = s.first.consuming.apart(s.first.producing);
+    let second = s.second.consuming.apart(s.second.producing);
+    ReactiveMismatches { first, second }
 }
 
 // What a zone's members hold of the two reactive reserves.

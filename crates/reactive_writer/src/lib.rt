@@ -1,16 +1,17 @@
 // A completion's reactive shortfalls and mismatches, written through a pen: nothing in an edition that lacks them.
 ghost use Prim.Native.Nat.{_^_, _<_};
-ghost use Rattle.layouts.specs.Layout.{any};
 ghost use Rattle.layouts.specs.Since.{since};
 ghost use Rattle.model.specs.Case.{noReactiveReserves};
-ghost use Rattle.model.specs.ByEdition.{reactiveChoice};
+ghost use Rattle.model.specs.Messages.{noBars};
+ghost use Rattle.model.specs.ByEdition.{reactiveChoice, barsChoice};
 ghost use Rattle.pen.specs.Pens.{Ready, Pushes};
 ghost use Rattle.pen.specs.Runs.{Room};
-ghost use Rattle.completion_size.specs.Size.{twoWidth, reactiveMismatchWidth};
+ghost use Rattle.completion_size.specs.Size.{twoWidth, reactiveBarsWidth};
+ghost use Rattle.completion_writer.specs.Bars.{barsOf};
 ghost use Rattle.reactive_writer.specs.Reactive.{twoOf};
-use completion_size::MISMATCH_BITS;
 use completion_size::REACTIVE_EDITION;
 use completion_size::SHORTFALL_BITS;
+use completion_writer::put_bars;
 use kilovars::Kvar;
 use kilovars::Var;
 use pen::Pen;
@@ -28,13 +29,19 @@ pub fn put_reactive_shortfalls(buf: &mut [u8], p: Pen, edition: u32, qru: Var, q
     push(buf, p, SHORTFALL_BITS, qrd.0)
 }
 
-// An interval's reactive mismatch: "after the real one".
-pub fn put_reactive_mismatch(buf: &mut [u8], p: Pen, edition: u32, m: Kvar) -> Pen
-    requires { ⌜ Ready p × Room (now buf) p (reactiveMismatchWidth edition) × (m .0 < 2 ^ 23) ⌝ }
-    ensures { λ r. ⌜ Pushes (reactiveMismatchWidth edition) (since edition 2 0 (any 23) .write (m .0)) (now (buf .entry)) (now (buf .exit)) p r ⌝ }
+// An interval's reactive mismatches: after the real ones.
+pub fn put_reactive_mismatches(
+    buf: &mut [u8],
+    p: Pen,
+    edition: u32,
+    first: Kvar,
+    second: Kvar,
+) -> Pen
+    requires { ⌜ Ready p × Room (now buf) p (reactiveBarsWidth edition) × (first .0 < 2 ^ 23) × (second .0 < 2 ^ 23) ⌝ }
+    ensures { λ r. ⌜ Pushes (reactiveBarsWidth edition) (since edition 2 noBars (barsChoice edition) .write (barsOf (first .0) (second .0))) (now (buf .entry)) (now (buf .exit)) p r ⌝ }
 {
     if edition < REACTIVE_EDITION {
         return p;
     }
-    push(buf, p, MISMATCH_BITS, m.0 as u64)
+    put_bars(buf, p, edition, first.0 as u64, second.0 as u64)
 }

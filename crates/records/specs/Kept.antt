@@ -43,6 +43,7 @@ with d ramps limits states starts energies = record {
   nenergies = d .nenergies;
   energies = energies;
   link = d .link;
+  bar = d .bar;
 }
 
 with-same : (d : Device) {ramps : List ℕ} {limits : List Kw} {states : List State} {starts : List StartWindow} {energies : List EnergyWindow}

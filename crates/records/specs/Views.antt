@@ -25,7 +25,7 @@ use Rattle.row_places.specs.declared.Link.{Link}
 use Rattle.row_places.specs.declared.Device.{Device}
 use Rattle.row_places.specs.declared.Zone.{Zone}
 use Rattle.row_places.specs.declared.Front.{Front}
-use Rattle.row_places.specs.Figures.{cellOf, settingOf, deviceOf, zoneOf, minimaOf}
+use Rattle.row_places.specs.Figures.{cellOf, settingOf, deviceOf, zoneOf, minimaOf, flowAt, limitAt}
 use Rattle.numbers.specs.Parts.{part}
 -- ---- the model's figures, by the records' names
 
@@ -138,6 +138,7 @@ deviceIn d cells = record {
   startWindows = map startIn (take (d .nstarts) (d .starts));
   energyWindows = map energyIn (take (d .nenergies) (d .energies));
   link = linkIn (d .link);
+  bar = d .bar;
   cells = map cellIn cells;
 }
 
@@ -155,6 +156,7 @@ devicePricesIn d cells = record {
 unfoldable pub systemIn : (halves : List ℕ) (zones minima devices cells : List (List ℕ)) → System
 systemIn halves zones minima devices cells = record {
   halves = halves;
+  linkLimit = limitAt devices;
   zones = rows (λ z. zoneIn (getD zones z []) (part (length halves) z minima)) (length zones);
   devices = rows (λ i. deviceIn (deviceOf (getD devices i [])) (part (length halves) i cells)) (length devices);
 }
@@ -172,7 +174,10 @@ caseIn front halves zones minima devices cells = record { system = systemIn halv
 
 -- n devices, m intervals
 unfoldable pub planIn : (n m : ℕ) → List (List ℕ) → Plan
-planIn n m settings = record { settings = rows (λ t. rows (λ i. settingIn (getD (part m i settings) t [])) n) m }
+planIn n m settings = record {
+  settings = rows (λ t. rows (λ i. settingIn (getD (part m i settings) t [])) n) m;
+  flows = rows (λ t. less kvarOffset (flowAt settings t)) m;
+}
 
 -- ---- what the code may rely on
 
@@ -211,6 +216,7 @@ pub record CaseRows (front : Front) (halves : List ℕ) (zones minima devices ce
 pub record PlanRows (n m : ℕ) (settings : List (List ℕ)) : Type 0 where
   pub full : length settings ≡ n * m
   pub range : (k : ℕ) → k < length settings → SettingRange (settingIn (getD settings k []))
+  pub flows : (t : ℕ) → t < m → flowAt settings t ≤ 2 * kvarOffset
 
 -- the forced figures: S of each interval and the last E; p of each device in each interval, device by device
 pub record ForcedRows (q : System) (p : Plan) (n m : ℕ) (starts powers : List ℕ) : Type 0 where

@@ -5,7 +5,7 @@ use mathlib.Core.List.{List, [], _∷_}
 use Prim.Native.Nat.{ℕ, zero, suc, _+_, _-_, _*_, _/_, _%_, _^_, _<_}
 use native.Mathlib.Omega.{arith}
 use lib.Dec.{eqb, ltb}
-use lib.ListN.{getD}
+use lib.ListN.{getD, set}
 use Rattle.bits.specs.Pick.{pick}
 use Rattle.numbers.specs.Base.{bit}
 use Rattle.model.specs.Editions.{mostStates, mostWindows}
@@ -77,6 +77,16 @@ reactiveOf r = record { q = signedKvar (at r 10); qru = kvar (at r 11); qrd = kv
 abbrev pub settingOf : List ℕ → Setting
 settingOf r = record { on = at r 0; online = kw (at r 1); reserves = eightOf r 2; reactive = reactiveOf r }
 
+-- the flow that stands in an interval's first row, kept from −100,000; a row that is stored alone has none
+abbrev pub flowOf : List ℕ → ℕ
+flowOf r = at r 13
+
+abbrev pub noFlowKept : ℕ
+noFlowKept = 100000
+
+abbrev pub withFlow : List ℕ → ℕ → List ℕ
+withFlow r x = set r 13 x
+
 -- where a device's lists begin, each with its count
 abbrev pub statesFrom : ℕ
 statesFrom = 22
@@ -117,9 +127,9 @@ lineOf offset slope = record { offset = signedKvar offset; slope = slope }
 abbrev pub linkOf : List ℕ → Link
 linkOf r = record { kind = at r 59; upper = lineOf (at r 60) (at r 61); lower = lineOf (at r 62) (at r 63) }
 
--- a device from its row; its costs, limits and counted lists given
-abbrev pub deviceWith : List ℕ → (startcost stopcost : Grains) → List Kw → ℕ → List State → ℕ → List StartWindow → ℕ → List EnergyWindow → Device
-deviceWith r startcost stopcost limits nstates states nstarts starts nenergies energies = record {
+-- a device from its row; its costs, limits, counted lists and link given
+abbrev pub deviceMade : List ℕ → (startcost stopcost : Grains) → List Kw → ℕ → List State → ℕ → List StartWindow → ℕ → List EnergyWindow → Link → Device
+deviceMade r startcost stopcost limits nstates states nstarts starts nenergies energies link = record {
   side = at r 0;
   zonebits = at r 1;
   on0 = at r 2;
@@ -138,8 +148,29 @@ deviceWith r startcost stopcost limits nstates states nstarts starts nenergies e
   starts = starts;
   nenergies = nenergies;
   energies = energies;
-  link = linkOf r;
+  link = link;
+  bar = at r 64;
 }
+
+abbrev pub deviceWith : List ℕ → (startcost stopcost : Grains) → List Kw → ℕ → List State → ℕ → List StartWindow → ℕ → List EnergyWindow → Device
+deviceWith r startcost stopcost limits nstates states nstarts starts nenergies energies = deviceMade r startcost stopcost limits nstates states nstarts starts nenergies energies (linkOf r)
+
+pub device-made : (r : List ℕ) {startcost stopcost : Grains} {nstates nstarts nenergies : ℕ} {limits : List Kw} {states : List State} {starts : List StartWindow}
+    {energies : List EnergyWindow} {link : Link} → limits ≡ limitsOf r → states ≡ statesOf r → starts ≡ startsOf r → energies ≡ energiesOf r → link ≡ linkOf r
+    → deviceMade r startcost stopcost limits nstates states nstarts starts nenergies energies link
+    ≡ deviceWith r startcost stopcost (limitsOf r) nstates (statesOf r) nstarts (startsOf r) nenergies (energiesOf r)
+device-made r {startcost} {stopcost} {nstates} {nstarts} {nenergies} a b c d e = same a b c d e
+  where
+    same : {l l′ : List Kw} {s s′ : List State} {t t′ : List StartWindow} {w w′ : List EnergyWindow} {k k′ : Link} → l ≡ l′ → s ≡ s′ → t ≡ t′ → w ≡ w′ → k ≡ k′
+        → deviceMade r startcost stopcost l nstates s nstarts t nenergies w k ≡ deviceMade r startcost stopcost l′ nstates s′ nstarts t′ nenergies w′ k′
+    same f g h i j = rw (f, g, h, i, j) refl
+
+-- the limit of the link between the bars, in the first device's row
+abbrev pub limitOf : List ℕ → ℕ
+limitOf r = at r 65
+
+abbrev pub withLimit : List ℕ → ℕ → List ℕ
+withLimit r x = set r 65 x
 
 abbrev pub deviceOf : List ℕ → Device
 deviceOf r = deviceWith r (grains (at r 12)) (grains (at r 13)) (limitsOf r) (at r statesFrom) (statesOf r) (at r startsFrom) (startsOf r) (at r energiesFrom) (energiesOf r)
@@ -167,7 +198,7 @@ abbrev pub settingRow : Setting → List ℕ
 settingRow x =
     x .on ∷ x .online .0
     ∷ x .reserves .rgu .0 ∷ x .reserves .rgd .0 ∷ x .reserves .scr .0 ∷ x .reserves .nsc .0 ∷ x .reserves .rruon .0 ∷ x .reserves .rruoff .0 ∷ x .reserves .rrdon .0 ∷ x .reserves .rrdoff .0
-    ∷ x .reactive .q .0 ∷ x .reactive .qru .0 ∷ x .reactive .qrd .0 ∷ []
+    ∷ x .reactive .q .0 ∷ x .reactive .qru .0 ∷ x .reactive .qrd .0 ∷ noFlowKept ∷ []
 
 -- what an array holds where nothing is stored
 abbrev pub noState : State
@@ -220,7 +251,7 @@ deviceRowWith d startcost stopcost nstates nstarts nenergies states starts energ
     ∷ nstarts ∷ at starts 0 ∷ at starts 1 ∷ at starts 2 ∷ at starts 3 ∷ at starts 4 ∷ at starts 5 ∷ at starts 6 ∷ at starts 7 ∷ at starts 8 ∷ at starts 9 ∷ at starts 10 ∷ at starts 11
     ∷ nenergies ∷ at energies 0 ∷ at energies 1 ∷ at energies 2 ∷ at energies 3 ∷ at energies 4 ∷ at energies 5 ∷ at energies 6 ∷ at energies 7 ∷ at energies 8
     ∷ at energies 9 ∷ at energies 10 ∷ at energies 11 ∷ at energies 12 ∷ at energies 13 ∷ at energies 14 ∷ at energies 15
-    ∷ d .link .kind ∷ d .link .upper .offset .0 ∷ d .link .upper .slope ∷ d .link .lower .offset .0 ∷ d .link .lower .slope ∷ []
+    ∷ d .link .kind ∷ d .link .upper .offset .0 ∷ d .link .upper .slope ∷ d .link .lower .offset .0 ∷ d .link .lower .slope ∷ d .bar ∷ 0 ∷ []
 
 abbrev pub deviceRow : Device → List ℕ
 deviceRow d =
@@ -283,6 +314,16 @@ stopcostAt devices i = deviceAt devices i .stopcost
 
 abbrev pub linkAt : List (List ℕ) → ℕ → Link
 linkAt devices i = deviceAt devices i .link
+
+abbrev pub barAt : List (List ℕ) → ℕ → ℕ
+barAt devices i = deviceAt devices i .bar
+
+-- the flow of interval t, and the limit of the link
+abbrev pub flowAt : List (List ℕ) → ℕ → ℕ
+flowAt settings t = flowOf (getD settings t [])
+
+abbrev pub limitAt : List (List ℕ) → ℕ
+limitAt devices = limitOf (getD devices 0 [])
 
 -- its startup states and energy windows: how many, and number k
 abbrev pub statesAt : List (List ℕ) → ℕ → ℕ

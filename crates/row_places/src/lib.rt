@@ -70,8 +70,9 @@ pub const CELL_FLOOR_3: usize = 26;
 
 pub const CELL_FLOOR_4: usize = 27;
 
-// A plan's figures for a device in one interval: on, online power, the eight; q kept from −100,000, its two reserves.
-pub type SettingRow = [u32; 13];
+// A plan's figures for a device in one interval: on, online power, the eight; q kept from −100,000, its two reserves; then, in the rows of the first device,
+// the interval's flow, kept from −100,000.
+pub type SettingRow = [u32; 14];
 
 // The places of its figures.
 pub const SETTING_ON: usize = 0;
@@ -100,9 +101,11 @@ pub const SETTING_QRU: usize = 11;
 
 pub const SETTING_QRD: usize = 12;
 
+pub const SETTING_FLOW: usize = 13;
+
 // A device ahead of its intervals: its head, ramps, costs, limits; then counted states, start windows and energy windows; then its link, the lines' offsets
-// kept from −100,000 and their slopes from −10,000.
-pub type DeviceRow = [u32; 64];
+// kept from −100,000 and their slopes from −10,000; then its bar and, in the first device's row, the limit of the link between the bars.
+pub type DeviceRow = [u32; 66];
 
 // The places of its figures; of the limits of the eight.
 pub const DEVICE_SIDE: usize = 0;
@@ -167,6 +170,11 @@ pub const LOWER_OFFSET: usize = 62;
 
 pub const LOWER_SLOPE: usize = 63;
 
+// Its bar; the limit of the link between the bars.
+pub const DEVICE_BAR: usize = 64;
+
+pub const LINK_LIMIT: usize = 65;
+
 // How many figures a startup state, a start window and an energy window have there.
 pub const STATE_WIDTH: usize = 2;
 
@@ -220,11 +228,11 @@ pub fn blank_cell() -> CellRow {
 }
 
 pub fn blank_setting() -> SettingRow {
-    [0u32; 13]
+    [0u32; 14]
 }
 
 pub fn blank_device() -> DeviceRow {
-    [0u32; 64]
+    [0u32; 66]
 }
 
 pub fn blank_zone() -> ZoneRow {
@@ -329,7 +337,7 @@ pub struct Link {
 }
 
 // "Per device": what a case says of a device ahead of its intervals. The ramps are up, down, starting, stopping, in kW/min; the limits are the eight in
-// order; the on cost is grains a minute.
+// order; the on cost is grains a minute; the bar is 0 or 1.
 pub struct Device {
     pub side: u32,
     pub zonebits: u32,
@@ -350,6 +358,7 @@ pub struct Device {
     pub nenergies: usize,
     pub energies: [EnergyWindow; 4],
     pub link: Link,
+    pub bar: u32,
 }
 
 // Shares in thousandths; prices of the six shortfalls in grains per W·min, then of the two of reactive reserves.

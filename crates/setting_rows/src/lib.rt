@@ -5,12 +5,15 @@ ghost use Prim.Native.Nat.{_<_};
 ghost use lib.Dec.{ltb};
 ghost use lib.ListN.{getD, length, set};
 ghost use Rattle.numbers.specs.Base.{bit};
-ghost use Rattle.row_places.specs.Figures.{settingRow, settingOf, onAt, onlineAt, onBefore, startedAt, stoppedAt, reactiveAt};
+ghost use Rattle.row_places.specs.Figures.{settingRow, settingOf, onAt, onlineAt, onBefore, startedAt, stoppedAt, reactiveAt, flowAt, withFlow};
 use kilovars::Kvar;
 use kilovars::SignedKvar;
 use kilowatts::Kw;
+use kilowatts::NO_KW;
+use kilowatts::SignedKw;
 use row_places::Reactive;
 use row_places::Reserves;
+use row_places::SETTING_FLOW;
 use row_places::SETTING_NSC;
 use row_places::SETTING_ON;
 use row_places::SETTING_ONLINE;
@@ -72,6 +75,14 @@ pub fn reactive_at(settings: &[SettingRow], k: usize) -> Reactive
         qru: Kvar(settings[k][SETTING_QRU]),
         qrd: Kvar(settings[k][SETTING_QRD]),
     }
+}
+
+// The flow of interval t, which stands in the first device's row.
+pub fn flow_at(settings: &[SettingRow], t: usize) -> SignedKw
+    requires { ⌜ t < length (now settings) ⌝ }
+    ensures { λ r. ⌜ r .0 ≡ flowAt (now (settings .entry)) t ⌝ }
+{
+    SignedKw(settings[t][SETTING_FLOW])
 }
 
 // "u = on (1/0)"
@@ -136,6 +147,7 @@ fn setting_row(x: Setting) -> SettingRow
         reactive.q.0,
         reactive.qru.0,
         reactive.qrd.0,
+        NO_KW.0,
     ]
 }
 
@@ -145,4 +157,14 @@ pub fn put_setting(settings: &mut [SettingRow], k: usize, x: Setting)
     ensures { λ _. ⌜ now (settings .exit) ≡ set (now (settings .entry)) k (settingRow x) ⌝ }
 {
     settings[k] = setting_row(x);
+}
+
+// The flow of interval t into the first device's row; the row's other figures stay.
+pub fn put_flow(settings: &mut [SettingRow], t: usize, x: SignedKw)
+    requires { ⌜ t < length (now settings) ⌝ }
+    ensures { λ _. ⌜ now (settings .exit) ≡ set (now (settings .entry)) t (withFlow (getD (now (settings .entry)) t []) (x .0)) ⌝ }
+{
+    let mut row = settings[t];
+    row[SETTING_FLOW] = x.0;
+    settings[t] = row;
 }

@@ -7,25 +7,27 @@ use native.Mathlib.Nat.{mul-le-mul, mul-comm}
 use lib.ListN.{getD, length}
 use lib.IntN.{ℤ, pos, negℤ, _*ℤ_}
 use Rattle.numbers.specs.Laws.{maxZero}
+use Rattle.numbers.specs.Sum.{sumℤ}
 use Rattle.energy.specs.declared.Watts.{Watts}
 use Rattle.grains.specs.declared.Ledger.{Ledger}
 use Rattle.energy.specs.Energy.{watts}
 use Rattle.grains.specs.Money.{Ledgered}
 use Rattle.model.specs.Case.{System, Plan, Case, Six}
 use Rattle.model.specs.Forced as F
-use Rattle.model.specs.Completion.{Shortfall, shortfalls, shortfallNeed, mismatchNeed, overrunNeed, shortfallCost, mismatchCost}
+use Rattle.model.specs.Completion.{Shortfall, shortfalls, bars, shortfallNeed, mismatchNeed, overrunNeed, shortfallCost, mismatchCost}
 use Rattle.model.specs.Completion as C
 use Rattle.model.specs.Ours.{ours, whole}
 use Rattle.ranges.specs.Ranges.{SixRange}
 use Rattle.row_places.specs.declared.Front.{Front}
 use Rattle.row_places.specs.declared.Zone.{Zone}
 use Rattle.row_places.specs.Figures.{zoneOf}
-use Rattle.records.specs.Views.{sixIn, systemIn, caseIn, planIn}
+use Rattle.records.specs.Views.{mostDevices, sixIn, systemIn, caseIn, planIn}
 use Rattle.records.specs.Viewed as Viewed
 use Rattle.records.specs.Ranged as Ranged
 use Rattle.money.specs.Bounds.{minutesMost, priceMost, shortPriceMost, shortfallMost, mismatchMost, limitMost, shortMost, zoneMost, mismatchCostMost, overrunCostMost}
 use Rattle.money.specs.Entries.{Entered, entered-as, spent-as}
-use Rattle.slack_money.specs.Sizes.{shortfall-bound, mismatch-bound, overrun-bound}
+use Rattle.theorems.specs.Sizes.{mismatch-bound}
+use Rattle.slack_money.specs.Sizes.{shortfall-bound, overrun-bound}
 use Rattle.money.specs.Unbroken.{Unbroken, plan-range, system-range, few-devices, few-intervals}
 use Rattle.money.specs.Terms.{our}
 
@@ -186,17 +188,21 @@ zone-entered zone minutes x h e s = record { is = λ w. entered-as (spent-as zon
 
 -- ---- mismatches
 
--- an interval, its mismatch and the price
+-- what an interval's mismatches cost together
+unfoldable pub mismatchesCost : Case → Plan → ℕ → ℤ
+mismatchesCost c p t = sumℤ (mismatchCost c p (our c p) t) bars
+
+-- an interval, its mismatches together and the price
 pub record IntervalOf (price minutes m : ℕ) : Type 0 where
   pub day : Day
   pub t : ℕ
   pub interval : t < length (day .halves)
   pub is : price ≡ day .front .mismatch
   pub minutes-are : minutes ≡ 2 * getD (day .halves) t 0
-  pub power : m ≡ mismatchNeed (system day) (plan day) t
+  pub power : m ≡ mismatchNeed (system day) (plan day) t 0 + mismatchNeed (system day) (plan day) t 1
 
 pub record MismatchEntered (price minutes m : ℕ) (l r : Ledger) : Type 0 where
-  pub is : (w : IntervalOf price minutes m) → Entered l r (negℤ (mismatchCost (case (w .day)) (plan (w .day)) (our (case (w .day)) (plan (w .day))) (w .t))) mismatchCostMost
+  pub is : (w : IntervalOf price minutes m) → Entered l r (negℤ (mismatchesCost (case (w .day)) (plan (w .day)) (w .t))) mismatchCostMost
 
 module _ {price minutes m : ℕ} (w : IntervalOf price minutes m) where
   pub interval-minutes : minutes ≤ minutesMost
@@ -208,21 +214,31 @@ module _ {price minutes m : ℕ} (w : IntervalOf price minutes m) where
   pub mismatch-power : m ≤ mismatchMost
   mismatch-power =
       let ready = w .day .unbroken .ready in
+      let bound = mismatch-bound (system (w .day)) (plan (w .day)) (system-range ready) (plan-range ready) (w .day .unbroken .rules) mostDevices (few-devices ready) (w .t) in
+      let within = in-intervals (w .day) (w .t) (w .interval) in
       omega (
         arith,
         w .power,
-        mismatch-bound (system (w .day)) (plan (w .day)) (system-range ready) (plan-range ready) (w .day .unbroken .rules) (few-devices ready) (w .t) (in-intervals (w .day) (w .t) (w .interval)),
+        bound 0 within,
+        bound 1 within,
       )
 
-  mismatch-term : negℤ (pos (m * minutes * price)) ≡ negℤ (mismatchCost (case (w .day)) (plan (w .day)) (our (case (w .day)) (plan (w .day))) (w .t))
-  unfolding mismatchCost whole ours
-  mismatch-term = ap (λ (n : ℕ). negℤ (pos n)) (shape m minutes price ∙ ap₂ (λ (d n : ℕ). d * n) (w .minutes-are ∙ duration-is (w .day) (w .t)) (ap₂ (λ (a b : ℕ). a * b) priced (w .power)))
+  mismatch-term : negℤ (pos (m * minutes * price)) ≡ negℤ (mismatchesCost (case (w .day)) (plan (w .day)) (w .t))
+  unfolding mismatchesCost mismatchCost whole ours
+  mismatch-term = ap (λ (n : ℕ). negℤ (pos n))
+      (ap (λ (n : ℕ). n * minutes * price) (w .power) ∙ shape (need 0) (need 1) minutes price ∙ ap₂ (λ (d c : ℕ). d * (c * need 0) + (d * (c * need 1) + 0)) minuted priced)
     where
       priced : price ≡ case (w .day) .prices .mismatch
       priced = w .is ∙ sym (Viewed.mismatch-price-is (w .day .front) (w .day .halves) (w .day .zones) (w .day .minima) (w .day .devices) (w .day .cells))
 
-      shape : (m d c : ℕ) → m * d * c ≡ d * (c * m)
-      shape m d c = omega arith
+      minuted : minutes ≡ F.duration (system (w .day)) (w .t)
+      minuted = w .minutes-are ∙ duration-is (w .day) (w .t)
+
+      need : ℕ → ℕ
+      need b = mismatchNeed (system (w .day)) (plan (w .day)) (w .t) b
+
+      shape : (m n d c : ℕ) → (m + n) * d * c ≡ d * (c * m) + (d * (c * n) + 0)
+      shape m n d c = omega arith
 
 -- the size of an energy and of its price
 pub energy-cost : (m minutes price : ℕ) {a g : ℕ} → m ≤ mismatchMost → minutes ≤ minutesMost → price ≤ priceMost → a ≡ m * minutes → g ≡ a * price

@@ -10,12 +10,12 @@ use Rattle.grains.specs.declared.Ledger.{Ledger}
 use Rattle.numbers.specs.Base.{upTo}
 use Rattle.model.specs.Case.{System, Plan, Case}
 use Rattle.model.specs.Forced.{intervals, devices, zones, device}
-use Rattle.model.specs.Completion.{blockWorth, onCost, changeCost, reservesCost, shortfallCost, mismatchCost, overruns, realSurplus}
+use Rattle.model.specs.Completion.{blockWorth, onCost, changeCost, reservesCost, shortfallCost, overruns, realSurplus}
 use Rattle.model.specs.Editions.{mostWindows}
 use Rattle.money.specs.Bounds.{overrunCostMost, windowsCostMost}
 use Rattle.money.specs.Entries.{Entered, entered-as}
 use Rattle.money.specs.Terms.{our, cellBalance}
-use Rattle.slack_money.specs.Charges.{overrunBalance}
+use Rattle.slack_money.specs.Charges.{mismatchesCost, overrunBalance}
 
 -- ---- the day
 
@@ -23,12 +23,12 @@ module _ (c : Case) (p : Plan) where
   abbrev q : System
   q = c .system
 
-  -- "per interval, per device; then per zone; then mismatch"
+  -- "per interval, per device; then per zone; then mismatch", of both bars
   unfoldable pub intervalBalance : ℕ → ℤ
   intervalBalance t =
       sumℤ (cellBalance c p t) (upTo (devices q))
       +ℤ sumℤ (λ z. negℤ (shortfallCost c p (our c p) t z)) (upTo (zones q))
-      +ℤ negℤ (mismatchCost c p (our c p) t)
+      +ℤ negℤ (mismatchesCost c p t)
 
   -- "Then each energy window's overrun"
   unfoldable pub windowsBalance : ℕ → ℤ
@@ -62,7 +62,7 @@ module _ (c : Case) (p : Plan) where
   S = shortfallCost c p (our c p)
 
   M : ℕ → ℤ
-  M = mismatchCost c p (our c p)
+  M = mismatchesCost c p
 
   cells-are : over (cellBalance c p) (devices q) ≡ over A (devices q) -ℤ over B (devices q) -ℤ over E (devices q) -ℤ over G (devices q)
   unfolding cellBalance over A B E G
@@ -93,7 +93,7 @@ module _ (c : Case) (p : Plan) where
 
   -- the surplus sums each term over the day by itself
   pub day-is : dayBalance ≡ realSurplus c p (our c p)
-  unfolding dayBalance realSurplus over A B E G S M
+  unfolding dayBalance realSurplus mismatchesCost over A B E G S M
   day-is = ap₂ (λ (y z : ℤ). y +ℤ z) (intervals-are ∙ ap (λ (z : ℤ). z +ℤ negℤ (over S (zones q)) +ℤ negℤ (sumℤ M (upTo (intervals q)))) cells-are) windows-are
 
   -- ---- what the entries of a device's windows come to

@@ -1,7 +1,7 @@
 -- What a day's pass over its rows asks of the money of shortfalls, mismatches and overruns, and what it learns, at its own case and plan.
 use mathlib.Core.Path.{_≡_}
 use mathlib.Core.List.{List, [], map}
-use Prim.Native.Nat.{ℕ, _*_, _<_}
+use Prim.Native.Nat.{ℕ, _+_, _*_, _<_}
 use lib.ListN.{length, getD}
 use lib.IntN.{negℤ}
 use Rattle.numbers.specs.Laws.{maxZero}
@@ -9,7 +9,7 @@ use Rattle.energy.specs.declared.Watts.{Watts}
 use Rattle.grains.specs.declared.Ledger.{Ledger}
 use Rattle.energy.specs.Energy.{watts}
 use Rattle.model.specs.Case.{System, Plan, Case}
-use Rattle.model.specs.Completion.{shortfalls, shortfallNeed, mismatchNeed, overrunNeed, shortfallCost, mismatchCost}
+use Rattle.model.specs.Completion.{shortfalls, shortfallNeed, mismatchNeed, overrunNeed, shortfallCost}
 use Rattle.row_places.specs.declared.Front.{Front}
 use Rattle.row_places.specs.declared.Zone.{Zone}
 use Rattle.row_places.specs.Figures.{zoneOf}
@@ -18,7 +18,7 @@ use Rattle.money.specs.Bounds.{zoneMost, mismatchCostMost, overrunCostMost}
 use Rattle.money.specs.Entries.{Entered}
 use Rattle.money.specs.Unbroken.{Unbroken}
 use Rattle.money.specs.Terms.{our}
-use Rattle.slack_money.specs.Charges.{Day, ZoneOf, ZoneEntered, IntervalOf, MismatchEntered, overrunBalance, OverrunOf, OverrunEntered}
+use Rattle.slack_money.specs.Charges.{Day, ZoneOf, ZoneEntered, mismatchesCost, IntervalOf, MismatchEntered, overrunBalance, OverrunOf, OverrunEntered}
 
 module _ {front : Front} {halves : List ℕ} {zones minima devices cells settings : List (List ℕ)} {starts powers : List ℕ}
     (u : Unbroken front halves zones minima devices cells settings starts powers) where
@@ -44,12 +44,12 @@ module _ {front : Front} {halves : List ℕ} {zones minima devices cells setting
     unfolding zone-here
     zone-learnt e = e .is zone-here
 
-  -- an interval's mismatch
-  module _ (t : ℕ) (h : t < length halves) {price minutes m : ℕ} (ep : price ≡ front .mismatch) (em : minutes ≡ 2 * getD halves t 0) (ex : m ≡ mismatchNeed q p t) where
+  -- an interval's mismatches
+  module _ (t : ℕ) (h : t < length halves) {price minutes m : ℕ} (ep : price ≡ front .mismatch) (em : minutes ≡ 2 * getD halves t 0) (ex : m ≡ mismatchNeed q p t 0 + mismatchNeed q p t 1) where
     pub mismatch-here : IntervalOf price minutes m
     mismatch-here = record { day = day; t = t; interval = h; is = ep; minutes-are = em; power = ex }
 
-    pub mismatch-learnt : {y v : Ledger} → MismatchEntered price minutes m y v → Entered y v (negℤ (mismatchCost c p (our c p) t)) mismatchCostMost
+    pub mismatch-learnt : {y v : Ledger} → MismatchEntered price minutes m y v → Entered y v (negℤ (mismatchesCost c p t)) mismatchCostMost
     unfolding mismatch-here
     mismatch-learnt e = e .is mismatch-here
 

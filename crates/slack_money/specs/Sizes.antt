@@ -1,5 +1,5 @@
 -- The sizes of needs where every rule holds, for any counts up to the most.
-use mathlib.Core.Bool.{Bool, true, false, not, _&&_}
+use mathlib.Core.Bool.{Bool, true, false, _&&_}
 use Prim.Native.Nat.{ℕ, _*_, _≤_, _<_}
 use native.Mathlib.Omega.{arith}
 use native.Mathlib.Nat.{mul-le-mul}
@@ -7,7 +7,6 @@ use lib.Dec.{eqb}
 use lib.ListN.{getD}
 use lib.IntN.{pos, _-ℤ_}
 use Rattle.numbers.specs.Laws.{maxZero, above-is}
-use Rattle.numbers.specs.Bounds.{bound-sub}
 use Rattle.bits.specs.Pick.{pick}
 use Rattle.model.specs.Case.{System, Plan, noMinima, noEnergyWindow}
 use Rattle.model.specs.Forced.{intervals, devices, zones, device, zone, energyWindow, consuming, member, power}
@@ -18,7 +17,7 @@ use Rattle.numbers.specs.Every.{all-or, gate-le}
 use Rattle.numbers.specs.Ranges.{sum-few}
 use Rattle.theorems.specs.Sizes.{power-bound, unit-bound, zone-at, device-at, minutes-bound}
 use Rattle.records.specs.Views.{mostDevices, mostIntervals}
-use Rattle.money.specs.Bounds.{powerMost, minutesMost, loadMost, mismatchMost, shareMost, shortfallMost, limitMost}
+use Rattle.money.specs.Bounds.{powerMost, minutesMost, loadMost, shareMost, shortfallMost, limitMost}
 
 -- a share of a power
 share : (a b n : ℕ) → a ≤ shareMost → b ≤ n → a * b ≤ shareMost * n
@@ -28,15 +27,6 @@ module _ (q : System) (p : Plan) (rq : SystemRange q) (rp : PlanRange q p) (ok :
   load-bound : (t z : ℕ) → t < intervals q → C.load q p t z ≤ loadMost
   unfolding C.load
   load-bound t z l = sum-few _ powerMost (devices q) mostDevices few (λ i m. gate-le (member q z i && consuming q i) (power q p t i) powerMost (power-bound q p rq rp ok t i l m))
-
-  total-bound : (b : Bool) (t : ℕ) → t < intervals q → C.total q p b t ≤ loadMost
-  unfolding C.total
-  total-bound true t l = sum-few _ powerMost (devices q) mostDevices few (λ i m. gate-le (consuming q i) (power q p t i) powerMost (power-bound q p rq rp ok t i l m))
-  total-bound false t l = sum-few _ powerMost (devices q) mostDevices few (λ i m. gate-le (not (consuming q i)) (power q p t i) powerMost (power-bound q p rq rp ok t i l m))
-
-  pub mismatch-bound : (t : ℕ) → t < intervals q → C.mismatchNeed q p t ≤ mismatchMost
-  unfolding C.mismatchNeed
-  mismatch-bound t l = bound-sub (pos (C.total q p true t)) (pos (C.total q p false t)) loadMost loadMost (total-bound true t l) (total-bound false t l)
 
   minima-at : (t z : ℕ) → z < zones q → MinimaRange (getD (zone q z .minima) t noMinima)
   minima-at t z m = all-or MinimaRange noMinima (record { rru = omega arith; rrd = omega arith; reactive = record { qru = omega arith; qrd = omega arith } })

@@ -6,7 +6,7 @@ use grains::Ledger;
 use kilowatts::Kw;
 use row_places::Zone;
 ghost use mathlib.Core.Path.{_≡_};
-ghost use Prim.Native.Nat.{_*_, _≤_};
+ghost use Prim.Native.Nat.{_+_, _*_, _≤_};
 ghost use Rattle.money.specs.Bounds.{minutesMost, shortPriceMost, shortfallMost, shortMost, zoneMost};
 ghost use Rattle.money.specs.Entries.{Room};
 ghost use Rattle.slack_money.specs.Charges.{SixSmall, sixCost, ZoneOf, ZoneEntered, IntervalOf, MismatchEntered, OverrunOf, OverrunEntered};
@@ -41,12 +41,12 @@ pub fn zone_money(l: Ledger, x: [Watts; 6], zone: Zone, minutes: u32) -> Ledger
     l.spend(six_cost(x, prices, minutes))
 }
 
-// An interval's mismatch: "d·mismatch price".
-pub fn mismatch_money(l: Ledger, m: Kw, price: u32, minutes: u32) -> Ledger
-    requires { ⌜ Room 0 l × IntervalOf price minutes (m .0) ⌝ }
-    ensures { λ r. ⌜ MismatchEntered price minutes (m .0) l r ⌝ }
+// An interval's mismatches, of both bars: "d·mismatch price".
+pub fn mismatch_money(l: Ledger, first: Kw, second: Kw, price: u32, minutes: u32) -> Ledger
+    requires { ⌜ Room 0 l × IntervalOf price minutes (first .0 + second .0) ⌝ }
+    ensures { λ r. ⌜ MismatchEntered price minutes (first .0 + second .0) l r ⌝ }
 {
-    l.spend(m.over(minutes).priced(price))
+    l.spend(first.plus(second).over(minutes).priced(price))
 }
 
 // An energy window's overrun: "overrun price·overrun".

@@ -11,7 +11,7 @@ use Rattle.layouts.specs.Layout.{Layout, nat, _then_, _▸_, readWhole, passes,
 use Rattle.model.specs.Editions.{deviceBits, intervalBits}
 use Rattle.model.specs.ByEdition as B
 use Rattle.model.specs.ByEdition.{completionFront, completionFrontBy, completionKind}
-use Rattle.model.specs.Messages.{Counts, six, deviceChoice, DeviceChoice, IntervalChoice, Written}
+use Rattle.model.specs.Messages.{Counts, six, deviceChoice, DeviceChoice, Bars, noBars, IntervalChoice, Written}
 use Rattle.layouts.specs.Since.{has, present, present-law, Where}
 use Rattle.layouts.specs.Trip.{Lawful, nat-law, int-law, then-law, held-law, list-law, weaken, whole-back, Fits}
 
@@ -41,13 +41,18 @@ pub record FitsDevice (r : DeviceChoice) : Type 0 where
   pub four : length (r .blocks) ≡ 4
   pub blocks : All (λ b. b ≤ 2 ^ 17 - 1) (r .blocks)
 
+-- a figure for each bar, in edition e
+pub record FitsBars (e : ℕ) (r : Bars) : Type 0 where
+  pub first : r .first ≤ 2 ^ 23 - 1
+  pub second : Where (has 5 e) 0 (λ v. v ≤ 2 ^ 23 - 1) (r .second)
+
 pub record FitsInterval (e : ℕ) (n : Counts) (r : IntervalChoice) : Type 0 where
   pub each : length (r .devices) ≡ n .devices
   pub devices : All FitsDevice (r .devices)
   pub every : length (r .zones) ≡ n .zones
   pub zones : All (FitsKinds e) (r .zones)
-  pub mismatch : r .mismatch ≤ 2 ^ 23 - 1
-  pub reactiveMismatch : Where (has 2 e) 0 (λ v. v ≤ 2 ^ 23 - 1) (r .reactiveMismatch)
+  pub mismatch : FitsBars e (r .mismatch)
+  pub reactiveMismatch : Where (has 2 e) noBars (FitsBars e) (r .reactiveMismatch)
 
 pub record FitsWritten (e : ℕ) (n : Counts) (windows : ℕ) (r : Written) : Type 0 where
   pub length : length (r .intervals) ≡ n .intervals
@@ -86,12 +91,16 @@ device-law =
     (pair-law _ _ _ _ (any-law 1 (omega arith)) (pair-law _ _ _ _ (any-law 3 (omega arith)) (list-law 4 (any 17) _ (any-law 17 (omega arith)))))))
     (λ r ok. ((ok .started, (ok .stopped, (ok .state, (ok .four, ok .blocks)))), refl))
 
+bars-law : (e : ℕ) → Lawful (B.barsChoice e) (FitsBars e)
+unfolding B.barsChoice
+bars-law e = weaken _ _ _ (held-law _ _ _ _ (pair-law _ _ _ _ (any-law 23 (omega arith)) (present-law (has 5 e) 0 (any 23) _ (any-law 23 (omega arith))))) (λ r ok. ((ok .first, ok .second), refl))
+
 interval-law : (e : ℕ) (n : Counts) → Lawful (B.intervalChoice e (n .devices) (n .zones)) (FitsInterval e n)
 unfolding B.intervalChoice
 interval-law e n =
     weaken _ _ _ (held-law _ _ _ _ (pair-law _ _ _ _ (list-law (n .devices) deviceChoice FitsDevice device-law)
     (pair-law _ _ _ _ (list-law (n .zones) (B.zoneChoice e) (FitsKinds e) (kinds-law e))
-    (pair-law _ _ _ _ (any-law 23 (omega arith)) (present-law (has 2 e) 0 (any 23) _ (any-law 23 (omega arith)))))))
+    (pair-law _ _ _ _ (bars-law e) (present-law (has 2 e) noBars (B.barsChoice e) _ (bars-law e))))))
     (λ r ok. (((ok .each, ok .devices), ((ok .every, ok .zones), (ok .mismatch, ok .reactiveMismatch))), refl))
 
 -- ---- a completion of every edition

@@ -22,7 +22,7 @@ use Rattle.model.specs.Forced.{intervals, devices, zones, device, cap, least, c
 use Rattle.model.specs.Rules.{blocks}
 use Rattle.model.specs.Completion as C
 use Rattle.model.specs.Completion.{Completion, Between, Shortfall, shortfalls, Meets, StateAllowed, MayUse, bySide, stateCost, shortfallPrice, blockPrice}
-use Rattle.model.specs.Completion.{realSurplus, surplusOf, shortfallNeed, mismatchNeed, overrunNeed}
+use Rattle.model.specs.Completion.{bars, realSurplus, surplusOf, shortfallNeed, mismatchNeed, overrunNeed}
 use Rattle.model.specs.Completion.{ReactiveShortfall, reactiveShortfalls, reactiveNeed, reactiveMismatchNeed, reactivePrice, reactiveCosts}
 use Rattle.model.specs.Breaches.{breaches}
 use Rattle.model.specs.Ours.{filling, fillingAbove, lasts, bestState, ours, whole}
@@ -188,8 +188,8 @@ module _ (c : Case) (p : Plan) where
     state = λ t i l m. our-state-allowed c p t i;
     shortfall = λ t z k l m. record { enough = L.short-meets (shortfallNeed q p t z k); notNegative = L.pos-nonneg (L.maxZero (shortfallNeed q p t z k)) };
     reactiveShortfall = λ t z k l m. record { enough = L.short-meets (reactiveNeed q p t z k); notNegative = L.pos-nonneg (L.maxZero (reactiveNeed q p t z k)) };
-    mismatch = λ t l. record { enough = L.≤-refl (pos (mismatchNeed q p t)); notNegative = L.pos-nonneg (mismatchNeed q p t) };
-    reactiveMismatch = λ t l. record { enough = L.≤-refl (pos (reactiveMismatchNeed q p t)); notNegative = L.pos-nonneg (reactiveMismatchNeed q p t) };
+    mismatch = λ t b l k. record { enough = L.≤-refl (pos (mismatchNeed q p t b)); notNegative = L.pos-nonneg (mismatchNeed q p t b) };
+    reactiveMismatch = λ t b l k. record { enough = L.≤-refl (pos (reactiveMismatchNeed q p t b)); notNegative = L.pos-nonneg (reactiveMismatchNeed q p t b) };
     overrun = λ i w l m. record { enough = L.short-meets (overrunNeed q p i w); notNegative = L.pos-nonneg (L.maxZero (overrunNeed q p i w)) };
   }
 
@@ -225,9 +225,14 @@ module _ (c : Case) (p : Plan) where
         price : Shortfall → ℕ
         price s = shortfallPrice (getD (c .prices .zones) z noKinds .six) s
 
-    mismatch-least : (t : ℕ) → t < intervals q → C.mismatchCost c p our t ≤ℤ C.mismatchCost c p x t
+    mismatch-least : (t b : ℕ) → t < intervals q → b < 2 → C.mismatchCost c p our t b ≤ℤ C.mismatchCost c p x t b
     unfolding C.mismatchCost whole ours
-    mismatch-least t l = L.mul-mono (pos (duration q t)) _ _ (L.pos-nonneg (duration q t)) (L.mul-mono (pos (c .prices .mismatch)) _ _ (L.pos-nonneg (c .prices .mismatch)) (m .mismatch t l .enough))
+    mismatch-least t b l k = L.mul-mono (pos (duration q t)) _ _ (L.pos-nonneg (duration q t))
+        (L.mul-mono (pos (c .prices .mismatch)) _ _ (L.pos-nonneg (c .prices .mismatch)) (m .mismatch t b l k .enough))
+
+    -- on both bars
+    mismatches-least : (t : ℕ) → t < intervals q → sumℤ (C.mismatchCost c p our t) bars ≤ℤ sumℤ (C.mismatchCost c p x t) bars
+    mismatches-least t l = sum-mono (C.mismatchCost c p our t) (C.mismatchCost c p x t) bars (mismatch-least t 0 l (omega arith), (mismatch-least t 1 l (omega arith), tt))
 
     overruns-least : (i : ℕ) → i < devices q → C.overruns c p our i ≤ℤ C.overruns c p x i
     unfolding C.overruns whole ours
@@ -248,10 +253,14 @@ module _ (c : Case) (p : Plan) where
         price : ReactiveShortfall → ℕ
         price s = reactivePrice (getD (c .prices .zones) z noKinds .reactive) s
 
-    reactive-mismatch-least : (t : ℕ) → t < intervals q → C.reactiveMismatchCost c p our t ≤ℤ C.reactiveMismatchCost c p x t
+    reactive-mismatch-least : (t b : ℕ) → t < intervals q → b < 2 → C.reactiveMismatchCost c p our t b ≤ℤ C.reactiveMismatchCost c p x t b
     unfolding C.reactiveMismatchCost whole ours
-    reactive-mismatch-least t l =
-        L.mul-mono (pos (duration q t)) _ _ (L.pos-nonneg (duration q t)) (L.mul-mono (pos (c .prices .mismatch)) _ _ (L.pos-nonneg (c .prices .mismatch)) (m .reactiveMismatch t l .enough))
+    reactive-mismatch-least t b l k =
+        L.mul-mono (pos (duration q t)) _ _ (L.pos-nonneg (duration q t)) (L.mul-mono (pos (c .prices .mismatch)) _ _ (L.pos-nonneg (c .prices .mismatch)) (m .reactiveMismatch t b l k .enough))
+
+    reactive-mismatches-least : (t : ℕ) → t < intervals q → sumℤ (C.reactiveMismatchCost c p our t) bars ≤ℤ sumℤ (C.reactiveMismatchCost c p x t) bars
+    reactive-mismatches-least t l = sum-mono (C.reactiveMismatchCost c p our t) (C.reactiveMismatchCost c p x t) bars
+        (reactive-mismatch-least t 0 l (omega arith), (reactive-mismatch-least t 1 l (omega arith), tt))
 
     reactive-least : reactiveCosts c p our ≤ℤ reactiveCosts c p x
     unfolding reactiveCosts
@@ -259,7 +268,7 @@ module _ (c : Case) (p : Plan) where
         L.add-mono (L.add-mono
         (grid-mono (intervals q) (devices q) _ _ reactive-reserves-same)
         (grid-mono (intervals q) (zones q) _ _ reactive-shortfalls-least))
-        (sum-mono _ _ (upTo (intervals q)) (all-upTo _ _ reactive-mismatch-least))
+        (sum-mono _ _ (upTo (intervals q)) (all-upTo _ _ reactive-mismatches-least))
 
     real-best : realSurplus c p x ≤ℤ realSurplus c p our
     unfolding realSurplus
@@ -270,7 +279,7 @@ module _ (c : Case) (p : Plan) where
         (grid-mono (intervals q) (devices q) _ _ changes-least))
         (grid-mono (intervals q) (devices q) _ _ reserves-same))
         (grid-mono (intervals q) (zones q) _ _ shortfalls-least))
-        (sum-mono _ _ (upTo (intervals q)) (all-upTo _ _ mismatch-least)))
+        (sum-mono _ _ (upTo (intervals q)) (all-upTo _ _ mismatches-least)))
         (L.mul-mono (pos (c .prices .overrun)) _ _ (L.pos-nonneg (c .prices .overrun)) (sum-mono _ _ (upTo (devices q)) (all-upTo _ _ overruns-least)))
 
     -- no completion that meets every rule has a greater surplus

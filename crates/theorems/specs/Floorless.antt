@@ -17,9 +17,10 @@ use Rattle.model.specs.declared.Breach.{Breach}
 use Rattle.model.specs.Case.{System, Plan, Case, noBlock, noCell, noDevice}
 use Rattle.model.specs.Forced.{intervals, devices, device, cell, cap, floor, u, least, consuming, power}
 use Rattle.model.specs.Rules.{blocks, cellBreach}
-use Rattle.model.specs.Breaches.{floorsKept, capsKept, firstTests, realTests, reactiveTests, cellTests, failing, cellBreaches, allWindows, breaches}
+use Rattle.model.specs.Breaches.{floorsKept, capsKept, firstTests, realTests, reactiveTests, cellTests, failing, cellBreaches, allWindows}
 use Rattle.model.specs.Completion.{Completion, blockPrice}
 use Rattle.model.specs.Ours.{filling, fillingAbove, withBlocks, ours}
+use Rattle.model.specs.OneBar as O
 use Rattle.model.specs.BeforeFloors as P
 use Rattle.ranges.specs.Floorless.{BlockFloorless, CellFloorless, DeviceFloorless, SystemFloorless}
 
@@ -44,8 +45,8 @@ module _ (q : System) (p : Plan) (h : SystemFloorless q) where
   unfolding cellBreaches P.cellBreaches cellTests
   cells-as-before t i = ap (λ (ns : List (ℕ × Bool)). map (cellBreach t i) (failing (ns ++ reactiveTests q p t i))) (tests-as-before t i)
 
-  pub breaches-as-before : breaches q p ≡ P.breaches q p
-  unfolding breaches P.breaches
+  pub breaches-as-before : O.breaches q p ≡ P.breaches q p
+  unfolding O.breaches P.breaches
   breaches-as-before = ap (λ (bs : List Breach). bs ++ allWindows q p)
       (gather-cong _ _ (upTo (intervals q)) (all (λ t. gather-cong (cellBreaches q p t) (P.cellBreaches q p t) (upTo (devices q)) (all (cells-as-before t) (upTo (devices q)))) (upTo (intervals q))))
 
@@ -58,8 +59,8 @@ above-none b price most p = fun-ext (λ k. ap (λ (room : ℕ → ℕ). 0 + fill
     less-none : (n : ℕ) → n - 0 ≡ n
     less-none n = omega arith
 
-pub ours-as-before : (c : Case) (p : Plan) → SystemFloorless (c .system) → ours c p ≡ P.ours c p
-unfolding ours P.ours
-ours-as-before c p h = ap (λ (b : ℕ → ℕ → ℕ → ℕ). withBlocks b (ours c p)) (fun-ext (λ t. fun-ext (λ i.
+pub ours-as-before : (c : Case) (p : Plan) → SystemFloorless (c .system) → O.ours c p ≡ P.ours c p
+unfolding ours O.ours P.ours
+ours-as-before c p h = ap (λ (b : ℕ → ℕ → ℕ → ℕ). withBlocks b (O.ours c p)) (fun-ext (λ t. fun-ext (λ i.
     ap (λ (low : ℕ → ℕ). fillingAbove (consuming (c .system) i) (blockPrice c t i) low (cap (c .system) t i) (power (c .system) p t i)) (none-least (c .system) p h t i)
     ∙ above-none (consuming (c .system) i) (blockPrice c t i) (cap (c .system) t i) (power (c .system) p t i))))

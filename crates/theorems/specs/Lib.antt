@@ -1,7 +1,9 @@
 pub mod Best
 pub mod Plain
+pub mod Barless
 pub mod Floorless
 pub mod Theorem
+pub mod BarsAsBefore
 pub mod AsBefore
 pub mod SizesAsBefore
 pub mod Back

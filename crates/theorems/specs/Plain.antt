@@ -1,6 +1,6 @@
 -- Where a case and a plan know no reactive power, nothing of it is short, apart or paid for, and no rule of it fails.
 use mathlib.Core.Path.{_≡_, refl, ap, _∙_}
-use mathlib.Core.Bool.{Bool, true, false}
+use mathlib.Core.Bool.{Bool, true, false, not, _&&_}
 use mathlib.Core.List.{List, [], _∷_, _++_, map, append-nil}
 use Prim.Native.Nat.{ℕ, zero, _+_, _*_, _≤_, _<_}
 use native.Mathlib.Omega.{arith}
@@ -17,8 +17,9 @@ use Rattle.numbers.specs.Base.{upTo}
 use Rattle.numbers.specs.Z.{whole, n-}
 use Rattle.bits.specs.Pick.{pick}
 use Rattle.model.specs.Case.{System, Plan, Case, ReactiveReserves, noReactive, noReactiveReserves, noReactiveLimits, noSetting, noDevice, noCell, noZone, noMinima, noKinds}
-use Rattle.model.specs.Forced.{intervals, devices, zones, device, cell, zone, consuming, duration, setting, bracket}
+use Rattle.model.specs.Forced.{intervals, devices, zones, device, cell, zone, consuming, onBar, duration, setting, bracket}
 use Rattle.model.specs.Completion as C
+use Rattle.model.specs.OneBar as B
 use Rattle.model.specs.Ours as O
 use Rattle.model.specs.Ours.{whole as asWhole}
 use Rattle.model.specs.BeforeFloors.{realTests, cellBreaches, breaches, ours, ourSurplus}
@@ -31,17 +32,17 @@ use Rattle.ranges.specs.Plain.{SystemPlain, DevicePlain, ZonePlain, PlanPlain}
 
 -- ---- numbers that are 0
 
-times-none : (x y : ℤ) → natAbs y ≤ 0 → natAbs (x *ℤ y) ≤ 0
+pub times-none : (x y : ℤ) → natAbs y ≤ 0 → natAbs (x *ℤ y) ≤ 0
 times-none x y h = omega (arith, bound-mul x y (natAbs x) 0 (omega arith) h, mul-zero (natAbs x))
 
-sum-none : {A : Type 0} (f : A → ℤ) (ks : List A) → ((k : A) → natAbs (f k) ≤ 0) → natAbs (sumℤ f ks) ≤ 0
+pub sum-none : {A : Type 0} (f : A → ℤ) (ks : List A) → ((k : A) → natAbs (f k) ≤ 0) → natAbs (sumℤ f ks) ≤ 0
 sum-none f ks h = omega (arith, bound-sum f 0 ks (all {P = λ k. natAbs (f k) ≤ 0} h ks), mul-zero (length ks))
 
 either-none : (b : Bool) → natAbs (pick b (pos 0) (pos 0)) ≤ 0
 either-none true = omega arith
 either-none false = omega arith
 
-none-zero : (z : ℤ) → natAbs z ≤ 0 → z ≡ pos 0
+pub none-zero : (z : ℤ) → natAbs z ≤ 0 → z ≡ pos 0
 none-zero (pos n) h = ap pos (omega arith)
 none-zero (negsuc n) h = absurd (omega arith)
 
@@ -67,14 +68,24 @@ module _ (q : System) (p : Plan) (hs : SystemPlain q) (hp : PlanPlain p) where
   unfolding C.reactiveNeed
   none-short t z k = omega (arith, above-is (C.reactiveRequired q p t z k) (1000 * C.reactiveHeld q p t z k), none-required t z k)
 
-  side-none : (b : Bool) (t : ℕ) → natAbs (C.reactiveTotal q p b t) ≤ 0
+  side-none : (s : Bool) (t b : ℕ) → natAbs (C.reactiveTotal q p s t b) ≤ 0
   unfolding C.reactiveTotal
-  side-none true t = sum-none _ (upTo (devices q)) (λ i. rw (no-reactive t i) (either-none (consuming q i)))
-  side-none false t = sum-none _ (upTo (devices q)) (λ i. rw (no-reactive t i) (either-none (consuming q i)))
+  side-none true t b = sum-none _ (upTo (devices q)) (λ i. rw (no-reactive t i) (either-none (onBar q b i && consuming q i)))
+  side-none false t b = sum-none _ (upTo (devices q)) (λ i. rw (no-reactive t i) (either-none (onBar q b i && not (consuming q i))))
 
-  pub none-apart : (t : ℕ) → C.reactiveMismatchNeed q p t ≡ 0
+  pub none-apart : (t b : ℕ) → C.reactiveMismatchNeed q p t b ≡ 0
   unfolding C.reactiveMismatchNeed
-  none-apart t = omega (arith, bound-sub (C.reactiveTotal q p true t) (C.reactiveTotal q p false t) 0 0 (side-none true t) (side-none false t))
+  none-apart t b = omega (arith, bound-sub (C.reactiveTotal q p true t b) (C.reactiveTotal q p false t b) 0 0 (side-none true t b) (side-none false t b))
+
+  -- and on one bar
+  one-side-none : (s : Bool) (t : ℕ) → natAbs (B.reactiveTotal q p s t) ≤ 0
+  unfolding B.reactiveTotal
+  one-side-none true t = sum-none _ (upTo (devices q)) (λ i. rw (no-reactive t i) (either-none (consuming q i)))
+  one-side-none false t = sum-none _ (upTo (devices q)) (λ i. rw (no-reactive t i) (either-none (consuming q i)))
+
+  one-none-apart : (t : ℕ) → B.reactiveMismatchNeed q p t ≡ 0
+  unfolding B.reactiveMismatchNeed
+  one-none-apart t = omega (arith, bound-sub (B.reactiveTotal q p true t) (B.reactiveTotal q p false t) 0 0 (one-side-none true t) (one-side-none false t))
 
 module _ (c : Case) (p : Plan) (hs : SystemPlain (c .system)) (hp : PlanPlain p) where
   abbrev q : System
@@ -92,27 +103,27 @@ module _ (c : Case) (p : Plan) (hs : SystemPlain (c .system)) (hp : PlanPlain p)
       nothing-held a = omega (arith, mul-zero (a .qru), mul-zero (a .qrd))
 
   shortfalls-free : (t z : ℕ) → natAbs (C.reactiveShortfallCost c p our t z) ≤ 0
-  unfolding C.reactiveShortfallCost asWhole ours O.ours
+  unfolding C.reactiveShortfallCost asWhole ours B.ours O.ours
   shortfalls-free t z = times-none (pos (duration q t)) (sumℤ term C.reactiveShortfalls) (sum-none term C.reactiveShortfalls (λ k.
       times-none (pos (C.reactivePrice (getD (c .prices .zones) z noKinds .reactive) k)) (pos (maxZero (C.reactiveNeed q p t z k))) (omega (arith, none-short q p hs hp t z k))))
     where
       term : C.ReactiveShortfall → ℤ
       term k = pos (C.reactivePrice (getD (c .prices .zones) z noKinds .reactive) k) *ℤ our .reactiveShortfall t z k
 
-  mismatch-free : (t : ℕ) → natAbs (C.reactiveMismatchCost c p our t) ≤ 0
-  unfolding C.reactiveMismatchCost asWhole ours O.ours
-  mismatch-free t = times-none (pos (duration q t)) (pos (c .prices .mismatch) *ℤ our .reactiveMismatch t)
-      (times-none (pos (c .prices .mismatch)) (pos (C.reactiveMismatchNeed q p t)) (omega (arith, none-apart q p hs hp t)))
+  mismatch-free : (t : ℕ) → natAbs (C.reactiveMismatchCost c p our t 0) ≤ 0
+  unfolding C.reactiveMismatchCost asWhole ours B.ours
+  mismatch-free t = times-none (pos (duration q t)) (pos (c .prices .mismatch) *ℤ our .reactiveMismatch t 0)
+      (times-none (pos (c .prices .mismatch)) (pos (B.reactiveMismatchNeed q p t)) (omega (arith, one-none-apart q p hs hp t)))
 
   -- over the intervals
   day-none : (n : ℕ) (f : ℕ → ℕ → ℤ) → ((t k : ℕ) → natAbs (f t k) ≤ 0) → natAbs (sumℤ (λ t. sumℤ (f t) (upTo n)) (upTo (intervals q))) ≤ 0
   day-none n f h = sum-none (λ t. sumℤ (f t) (upTo n)) (upTo (intervals q)) (λ t. sum-none (f t) (upTo n) (λ k. h t k))
 
-  costs-free : C.reactiveCosts c p our ≡ pos 0
-  unfolding C.reactiveCosts
+  costs-free : B.reactiveCosts c p our ≡ pos 0
+  unfolding B.reactiveCosts
   costs-free = none-zero (A +ℤ B +ℤ E) (bound-add (A +ℤ B) E 0 0
       (bound-add A B 0 0 (day-none (devices q) (C.reactiveReservesCost c p our) reserves-free) (day-none (zones q) (C.reactiveShortfallCost c p our) shortfalls-free))
-      (sum-none (C.reactiveMismatchCost c p our) (upTo (intervals q)) mismatch-free))
+      (sum-none (λ t. C.reactiveMismatchCost c p our t 0) (upTo (intervals q)) mismatch-free))
     where
       A : ℤ
       A = sumℤ (λ t. sumℤ (C.reactiveReservesCost c p our t) (upTo (devices q))) (upTo (intervals q))
@@ -121,12 +132,12 @@ module _ (c : Case) (p : Plan) (hs : SystemPlain (c .system)) (hp : PlanPlain p)
       B = sumℤ (λ t. sumℤ (C.reactiveShortfallCost c p our t) (upTo (zones q))) (upTo (intervals q))
 
       E : ℤ
-      E = sumℤ (C.reactiveMismatchCost c p our) (upTo (intervals q))
+      E = sumℤ (λ t. C.reactiveMismatchCost c p our t 0) (upTo (intervals q))
 
   -- our surplus is that of real power
-  pub surplus-real : ourSurplus c p ≡ C.realSurplus c p our
-  unfolding ourSurplus C.surplusOf
-  surplus-real = ap (λ (z : ℤ). C.realSurplus c p our -ℤ z) costs-free ∙ less-none (C.realSurplus c p our)
+  pub surplus-real : ourSurplus c p ≡ B.realSurplus c p our
+  unfolding ourSurplus B.surplusOf
+  surplus-real = ap (λ (z : ℤ). B.realSurplus c p our -ℤ z) costs-free ∙ less-none (B.realSurplus c p our)
 
 -- ---- rules
 

@@ -26,7 +26,7 @@ use Rattle.bits.specs.Twos.{toTwos}
 use Rattle.layouts.specs.Numbers.{Tells, fails-tells}
 use Rattle.layouts.specs.Layout.{Layout, Field, nat, int, _then_, _▸_, list, held, readWhole, Whole, passes, fails, bytes, any}
 use Rattle.model.specs.Messages as M
-use Rattle.model.specs.Messages.{Counts, Written}
+use Rattle.model.specs.Messages.{Counts, noBars, Written}
 use Rattle.model.specs.Editions.{newest, Largest, deviceBits, intervalBits, mostDevices, mostIntervals, mostZones, mostWindows}
 use Rattle.model.specs.Widths.{bounded}
 use Rattle.model.specs.ByEdition as B
@@ -36,7 +36,9 @@ use Rattle.layouts.specs.Trip.{Fits, length-bits}
 use Rattle.theorems.specs.Back.{FitsDevice, FitsInterval, FitsSix, FitsKinds, FitsWritten, Countable, completed-back}
 use Rattle.layouts.specs.Since.{has, present, nothing}
 use Rattle.layouts.specs.Sure.{Any, sure-checked}
-use Rattle.ranges.specs.Plain.{SystemPlain, PlanPlain, stated-plain, planned-plain}
+use Rattle.ranges.specs.Plain.{SystemPlain, stated-plain, planned-plain}
+use Rattle.ranges.specs.Barless.{SystemBarless, stated-barless, planned-barless}
+use Rattle.theorems.specs.Barless.{Lacks}
 use Rattle.ranges.specs.Ranges.{PricesRange, KindsRange, DevicePriceRange, CellPriceRange, CaseRange, Taken, StatedRange, PlanRange, stated-sure, stated-range, planned-sure, planned-range}
 use Rattle.theorems.specs.Sizes.{PriceRange, mostPrice, mostShortfallPrice, mostChange, mostBlocks, surplusLimit, fits, surplus-size, device-at, floored}
 use Rattle.numbers.specs.Every.{all-or}
@@ -127,8 +129,12 @@ blocksWidth = mostBlocks * 17
 abbrev deviceWidth : ℕ
 deviceWidth = 1 + (1 + (3 + blocksWidth))
 
+-- a mismatch for each bar
+abbrev barsWidth : ℕ
+barsWidth = 23 + 23
+
 abbrev intervalWidth : ℕ
-intervalWidth = mostDevices * deviceWidth + (mostZones * zoneWidth + (23 + 23))
+intervalWidth = mostDevices * deviceWidth + (mostZones * zoneWidth + (barsWidth + barsWidth))
 
 abbrev frontWidth : ℕ → ℕ
 frontWidth e = 4 + (4 + (deviceBits e + (intervalBits e + 3)))
@@ -159,6 +165,10 @@ zone-sized : (e : ℕ) → Sized (B.zoneChoice e) (FitsKinds e) zoneWidth
 unfolding B.zoneChoice
 zone-sized e = held-sized _ _ _ _ _ _ (pair-sized _ _ _ _ _ _ six-sized (present-sized (has 2 e) noReactiveReserves B.reactiveChoice (33 + 33) two-sized)) (λ b ok. (ok .six, tt))
 
+bars-sized : (e : ℕ) → Sized (B.barsChoice e) Any barsWidth
+unfolding B.barsChoice
+bars-sized e = held-sized _ _ _ _ _ _ (pair-sized _ _ _ _ _ _ (nat-sized _ Any) (present-sized (has 5 e) 0 (any 23) 23 (nat-sized _ Any))) (λ b ok. (tt, tt))
+
 device-sized : Sized M.deviceChoice FitsDevice deviceWidth
 unfolding M.deviceChoice
 device-sized = held-sized _ _ _ _ _ _
@@ -172,7 +182,7 @@ module _ (e : ℕ) (n : Counts) (d : n .devices ≤ mostDevices) (i : n .interva
   unfolding B.intervalChoice
   interval-sized = held-sized _ _ _ _ _ _
       (pair-sized _ _ _ _ _ _ (list-sized _ mostDevices _ FitsDevice deviceWidth device-sized) (pair-sized _ _ _ _ _ _ (list-sized _ mostZones _ (FitsKinds e) zoneWidth (zone-sized e))
-      (pair-sized _ _ _ _ _ _ (nat-sized _ Any) (present-sized (has 2 e) 0 (any 23) 23 (nat-sized _ Any)))))
+      (pair-sized _ _ _ _ _ _ (bars-sized e) (present-sized (has 2 e) noBars (B.barsChoice e) barsWidth (bars-sized e)))))
       (λ b ok. ((omega (arith, ok .each), ok .devices), ((omega (arith, ok .every), ok .zones), (tt, tt))))
 
   front-sized : Sized (B.completionFront e n) Any (frontWidth e)
@@ -202,13 +212,10 @@ module _ (c : Case) (p : Plan) (g : CaseRange c) (rp : PlanRange (c .system) p) 
   small-surplus = surplus-size c p (g .system) rp ok (price-range c (g .prices))
 
   -- an edition that lacks reactive power knows none
-  abbrev Lacks : ℕ → Type 0
-  Lacks e = has 2 e ≡ false → SystemPlain (c .system) × PlanPlain p
-
-  pub our-fits : (e : ℕ) → Lacks e → FitsWritten e (countsOf (c .system)) (energyWindows (c .system)) our
+  pub our-fits : (e : ℕ) → Lacks e (c .system) p → FitsWritten e (countsOf (c .system)) (energyWindows (c .system)) our
   our-fits e plain = let small = small-surplus in fits c p (g .system) rp ok e plain (fits-64 (ourSurplus c p) small) (omega arith)
 
-  pub our-size : (e : ℕ) → Lacks e → length (completionIn e (c .system) .write our) ≤ completionWidth e
+  pub our-size : (e : ℕ) → Lacks e (c .system) p → length (completionIn e (c .system) .write our) ≤ completionWidth e
   unfolding energyWindows
   our-size e plain = completion-sized e (countsOf (c .system)) (g .system .devices) (g .system .intervals) (g .system .zones) (energyWindows (c .system))
       (sum-few (λ i. length (device (c .system) i .energyWindows)) mostWindows (devices (c .system)) mostDevices (g .system .devices)
@@ -216,7 +223,7 @@ module _ (c : Case) (p : Plan) (g : CaseRange c) (rp : PlanRange (c .system) p) 
       .size our (our-fits e plain)
 
   -- "exactly the completion's bytes": they read back as our completion with the surplus reported, in every edition whose fields hold the case's counts
-  pub our-back : (e : ℕ) → Lacks e → Countable e (countsOf (c .system)) → readWhole (completionIn e (c .system)) (bytes (completionIn e (c .system) .write our)) ≡ passes our
+  pub our-back : (e : ℕ) → Lacks e (c .system) p → Countable e (countsOf (c .system)) → readWhole (completionIn e (c .system)) (bytes (completionIn e (c .system) .write our)) ≡ passes our
   our-back e plain k = completed-back e (countsOf (c .system)) (energyWindows (c .system)) k our (our-fits e plain)
       (let n = our-size e plain in omega (arith, bounded e .deviceBits, bounded e .intervalBits))
 
@@ -272,12 +279,18 @@ pub record Sound (x : Stated) : Type 0 where
   pub range : CaseRange (x .case)
   pub countable : Countable (x .edition) (countsOf (x .case .system))
   pub plain : has 2 (x .edition) ≡ false → SystemPlain (x .case .system)
+  pub barless : has 5 (x .edition) ≡ false → SystemBarless (x .case .system)
 
 -- what any reader takes is, if it takes no more than the most
 pub stated-sound : (l : Largest) → l .devices ≤ mostDevices → l .intervals ≤ mostIntervals → (s : List ℕ) (x : Stated) → statedIn l s ≡ passes x → Sound x
 stated-sound l most long s x e =
     let g = stated-range l most long s x e in
-    record { range = g .case .range; countable = taken-countable (x .edition) l (x .case) (g .edition .1) (g .case); plain = stated-plain l most long s x e }
+    record {
+      range = g .case .range;
+      countable = taken-countable (x .edition) l (x .case) (g .edition .1) (g .case);
+      plain = stated-plain l most long s x e;
+      barless = stated-barless l most long s x e;
+    }
 
 module _ (x : Stated) (ps : List ℕ) (p : Plan) (g : Sound x) (rp : readPlan x ps ≡ passes p) (room : ℕ) where
   abbrev c : Case
@@ -293,7 +306,11 @@ module _ (x : Stated) (ps : List ℕ) (p : Plan) (g : Sound x) (rp : readPlan x 
   our-bytes : (z : ℤ) → verdict x p room ≡ Accepted z → readWhole (completionIn (x .edition) (c .system)) (completionBytes x p) ≡ passes (written (c .system) (ours c p) (ourSurplus c p))
   unfolding completionBytes
   our-bytes z e = our-back c p (g .range) plan-in (right .meets z e .rules) (x .edition)
-      (λ h. (g .plain h, planned-plain (x .edition) h (c .system) ps p rp)) (g .countable)
+      (record {
+        plain = λ h. (g .plain h, planned-plain (x .edition) h (c .system) ps p rp);
+        barless = λ h. (g .barless h, planned-barless (x .edition) h (c .system) ps p rp);
+      })
+      (g .countable)
 
   wrote-by : (z : ℤ) (before after : List ℕ) → verdict x p room ≡ Accepted z → after ≡ completionBytes x p ++ drop (length (completionBytes x p)) before → Wrote x p z before after
   unfolding ourSurplus

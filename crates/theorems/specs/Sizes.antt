@@ -7,18 +7,22 @@ use native.Mathlib.Omega.{arith}
 use native.Mathlib.Nat.{mul-le-mul, zero-mul, one-mul}
 use lib.Dec.{T, ltb, leb, eqb}
 use lib.ListN.{length, getD, length-map}
-use lib.IntN.{ℤ, pos, natAbs, _+ℤ_, _-ℤ_, _*ℤ_}
+use lib.IntN.{ℤ, pos, negℤ, natAbs, _+ℤ_, _-ℤ_, _*ℤ_}
 use Rattle.numbers.specs.Laws.{maxZero, above-is}
 use Rattle.numbers.specs.Sum.{All, all, sumℤ, sum-sub}
 use Rattle.numbers.specs.Bounds.{bound-sub, bound-add, bound-mul, bound-sum, bound-few, apart-is, abs-neg}
 use Rattle.numbers.specs.State.{best, best-is}
 use Rattle.bits.specs.Pick.{pick}
 use Rattle.numbers.specs.Base.{range, upTo}
-use Rattle.model.specs.Case.{System, Plan, Case, noDevice, noBlock, noCell, noZone, Minima, noMinima, noSetting, noEnergyWindow, noKinds, noReactiveReserves}
+use Rattle.model.specs.Case.{System, Plan, Case, noDevice, noBlock, noCell, noZone, Minima, noMinima, noSetting, noEnergyWindow, noKinds, noReactiveReserves, noFlow}
 use Rattle.layouts.specs.Since.{has, Where}
+use Rattle.model.specs.Messages.{noBars}
 use Rattle.ranges.specs.Plain.{SystemPlain, PlanPlain}
 use Rattle.theorems.specs.Plain.{none-short, none-apart}
-use Rattle.model.specs.Forced.{intervals, devices, zones, device, cell, zone, cap, floor, energyWindow, consuming, member, duration, endOf, setting, u, least, uBefore, su, sd, psu, psd, power}
+use Rattle.ranges.specs.Barless.{SystemBarless, PlanBarless}
+use Rattle.theorems.specs.Barless.{Lacks, other-bar, other-bar-reactive}
+use Rattle.model.specs.Forced.{intervals, devices, zones, device, cell, zone, cap, floor, energyWindow, consuming, onBar, member, duration, endOf}
+use Rattle.model.specs.Forced.{setting, flow, u, least, uBefore, su, sd, psu, psd, power}
 use Rattle.model.specs.Rules.{blocks, EveryRule}
 use Rattle.model.specs.Named.{rule16-holds, rule18-holds}
 use Rattle.model.specs.Completion as C
@@ -31,7 +35,7 @@ use Rattle.theorems.specs.Best.{above-cap}
 use Rattle.model.specs.Editions.{mostDevices, mostIntervals, mostZones, mostStates, mostWindows}
 use Rattle.model.specs.Judgement.{written, countsOf, energyWindows, ourSurplus}
 use Rattle.layouts.specs.Trip.{Fits}
-use Rattle.theorems.specs.Back.{FitsSix, FitsTwo, FitsKinds, FitsDevice, FitsInterval, FitsWritten}
+use Rattle.theorems.specs.Back.{FitsSix, FitsTwo, FitsKinds, FitsDevice, FitsBars, FitsInterval, FitsWritten}
 
 -- ---- the greatest figures that pass reading, each with its words
 
@@ -77,9 +81,20 @@ mostChange = 1000000000
 
 -- ---- the greatest needs, of n devices and m intervals
 
--- the power of a side, and so the mismatch: it is at most the larger side's
+-- the power of a side
 abbrev pub mostTotal : ℕ → ℕ
 mostTotal n = n * mostPower
+
+-- "a flow from bar 0 to bar 1 (18 bits, ±100,000)", kW
+abbrev pub mostFlow : ℕ
+mostFlow = 100000
+
+-- the mismatch of a bar: at most the larger side's power, and the flow
+abbrev pub mostMismatch : ℕ → ℕ
+mostMismatch n = mostTotal n + mostFlow
+
+abbrev pub barCount : ℕ
+barCount = 2
 
 -- W: a minimum, or shares of the load and twice of the largest unit
 abbrev pub mostShortfall : ℕ → ℕ
@@ -127,7 +142,7 @@ abbrev pub mostShortfallCost : ℕ → ℕ
 mostShortfallCost n = mostMinutes * (shortfallKinds * (mostShortfallPrice * mostShortfall n))
 
 abbrev pub mostMismatchCost : ℕ → ℕ
-mostMismatchCost n = mostMinutes * (mostPrice * mostTotal n)
+mostMismatchCost n = mostMinutes * (mostPrice * mostMismatch n)
 
 abbrev pub mostReactiveReserves : ℕ
 mostReactiveReserves = mostMinutes * (reactiveKinds * (mostPrice * mostPower))
@@ -141,11 +156,11 @@ mostOverrunCost n m = mostPrice * (n * (mostWindows * mostOverrun m))
 -- the greatest surplus in size: of real power, and what reactive power takes of it
 abbrev pub mostRealSurplus : ℕ → ℕ → ℕ
 mostRealSurplus n m =
-    m * (n * mostBlockWorth) + m * (n * mostOnCosts) + m * (n * mostChanges) + m * (n * mostReserves) + m * (mostZones * mostShortfallCost n) + m * mostMismatchCost n
-    + mostOverrunCost n m
+    m * (n * mostBlockWorth) + m * (n * mostOnCosts) + m * (n * mostChanges) + m * (n * mostReserves) + m * (mostZones * mostShortfallCost n)
+    + m * (barCount * mostMismatchCost n) + mostOverrunCost n m
 
 abbrev pub mostReactiveCosts : ℕ → ℕ → ℕ
-mostReactiveCosts n m = m * (n * mostReactiveReserves) + m * (mostZones * mostReactiveShortfallCost) + m * mostMismatchCost n
+mostReactiveCosts n m = m * (n * mostReactiveReserves) + m * (mostZones * mostReactiveShortfallCost) + m * (barCount * mostMismatchCost n)
 
 abbrev pub mostSurplus : ℕ → ℕ → ℕ
 mostSurplus n m = mostRealSurplus n m + mostReactiveCosts n m
@@ -228,36 +243,50 @@ module _ (q : System) (p : Plan) (rq : SystemRange q) (rp : PlanRange q p) (ok :
   unfolding C.minutesIn endOf
   minutes-bound from until t = omega (arith, duration-bound t)
 
+  pub flow-bound : (t : ℕ) → natAbs (flow q p t) ≤ mostFlow
+  flow-bound t = all-or (λ z. natAbs z ≤ mostFlow) noFlow (omega arith) (p .flows) (rp .flows) t
+
+  leaving-bound : (t b : ℕ) → natAbs (C.leaving q p t b) ≤ mostFlow
+  leaving-bound t b = go (eqb b 0)
+    where
+      go : (s : Bool) → natAbs (pick s (flow q p t) (negℤ (flow q p t))) ≤ mostFlow
+      go true = flow-bound t
+      go false = omega (arith, abs-neg (flow q p t), flow-bound t)
+
   -- ---- at most n devices
   module _ (n : ℕ) (few : devices q ≤ n) where
     pub load-bound : (t z : ℕ) → t < intervals q → C.load q p t z ≤ mostTotal n
     unfolding C.load
     load-bound t z l = sum-few _ mostPower (devices q) n few (λ i m. gate-le (member q z i && consuming q i) (power q p t i) mostPower (power-bound t i l m))
 
-    pub total-bound : (b : Bool) (t : ℕ) → t < intervals q → C.total q p b t ≤ mostTotal n
+    pub total-bound : (s : Bool) (t b : ℕ) → t < intervals q → C.total q p s t b ≤ mostTotal n
     unfolding C.total
-    total-bound true t l = sum-few _ mostPower (devices q) n few (λ i m. gate-le (consuming q i) (power q p t i) mostPower (power-bound t i l m))
-    total-bound false t l = sum-few _ mostPower (devices q) n few (λ i m. gate-le (not (consuming q i)) (power q p t i) mostPower (power-bound t i l m))
+    total-bound true t b l = sum-few _ mostPower (devices q) n few (λ i m. gate-le (onBar q b i && consuming q i) (power q p t i) mostPower (power-bound t i l m))
+    total-bound false t b l = sum-few _ mostPower (devices q) n few (λ i m. gate-le (onBar q b i && not (consuming q i)) (power q p t i) mostPower (power-bound t i l m))
 
-    pub mismatch-bound : (t : ℕ) → t < intervals q → C.mismatchNeed q p t ≤ mostTotal n
+    pub mismatch-bound : (t b : ℕ) → t < intervals q → C.mismatchNeed q p t b ≤ mostMismatch n
     unfolding C.mismatchNeed
-    mismatch-bound t l = omega (arith, apart-is (C.total q p true t) (C.total q p false t), total-bound true t l, total-bound false t l)
+    mismatch-bound t b l = bound-add (pos (C.total q p true t b) -ℤ pos (C.total q p false t b)) (C.leaving q p t b) (mostTotal n) mostFlow
+        (omega (arith, apart-is (C.total q p true t b) (C.total q p false t b), total-bound true t b l, total-bound false t b l)) (leaving-bound t b)
 
     -- the reactive power of both sides together, and so their difference
-    pub reactive-mismatch-bound : (t : ℕ) → t < intervals q → C.reactiveMismatchNeed q p t ≤ mostTotal n
+    pub reactive-mismatch-bound : (t b : ℕ) → t < intervals q → C.reactiveMismatchNeed q p t b ≤ mostTotal n
     unfolding C.reactiveMismatchNeed C.reactiveTotal
-    reactive-mismatch-bound t l = rw (sym (sum-sub f g (upTo (devices q)))) (bound-few (λ i. f i -ℤ g i) mostPower (devices q) n few (λ i m. go i (consuming q i) (setting-at t i l m .reactive .q)))
+    reactive-mismatch-bound t b l = rw (sym (sum-sub f g (upTo (devices q))))
+        (bound-few (λ i. f i -ℤ g i) mostPower (devices q) n few (λ i m. go i (onBar q b i) (consuming q i) (setting-at t i l m .reactive .q)))
       where
         f : ℕ → ℤ
-        f i = pick (consuming q i) (setting q p t i .reactive .q) (pos 0)
+        f i = pick (onBar q b i && consuming q i) (setting q p t i .reactive .q) (pos 0)
 
         g : ℕ → ℤ
-        g i = pick (consuming q i) (pos 0) (setting q p t i .reactive .q)
+        g i = pick (onBar q b i && not (consuming q i)) (setting q p t i .reactive .q) (pos 0)
 
-        go : (i : ℕ) (b : Bool) → natAbs (setting q p t i .reactive .q) ≤ mostPower
-            → natAbs (pick b (setting q p t i .reactive .q) (pos 0) -ℤ pick b (pos 0) (setting q p t i .reactive .q)) ≤ mostPower
-        go i true h = omega (arith, bound-sub (setting q p t i .reactive .q) (pos 0) mostPower 0 h (omega arith))
-        go i false h = omega (arith, bound-sub (pos 0) (setting q p t i .reactive .q) 0 mostPower (omega arith) h)
+        go : (i : ℕ) (on s : Bool) → natAbs (setting q p t i .reactive .q) ≤ mostPower
+            → natAbs (pick (on && s) (setting q p t i .reactive .q) (pos 0) -ℤ pick (on && not s) (setting q p t i .reactive .q) (pos 0)) ≤ mostPower
+        go i true true h = omega (arith, bound-sub (setting q p t i .reactive .q) (pos 0) mostPower 0 h (omega arith))
+        go i true false h = omega (arith, bound-sub (pos 0) (setting q p t i .reactive .q) 0 mostPower (omega arith) h)
+        go i false true h = omega arith
+        go i false false h = omega arith
 
     share-bound : (share t z : ℕ) → share ≤ mostShare → t < intervals q → share * C.load q p t z ≤ mostShare * mostTotal n
     share-bound share t z h l = mul-le-mul h (load-bound t z l)
@@ -352,11 +381,11 @@ module _ (c : Case) (p : Plan) (rq : SystemRange (c .system)) (rp : PlanRange (c
   overrun-fits : (i w : ℕ) → i < devices q → maxZero (C.overrunNeed q p i w) ≤ 2 ^ 32 - 1
   overrun-fits i w m = omega (arith, overrun-bound q p rq rp ok mostIntervals (rq .intervals) i w m)
 
-  -- in edition e, where an edition that lacks reactive power knows none
-  module _ (e : ℕ) (plain : has 2 e ≡ false → SystemPlain q × PlanPlain p) where
+  -- in edition e, where an edition that lacks reactive power knows none, and one that lacks busbars has one
+  module _ (e : ℕ) (lacks : Lacks e q p) where
     two-fit : (t z : ℕ) → z < zones q
         → Where (has 2 e) noReactiveReserves FitsTwo (record { qru = maxZero (C.reactiveNeed q p t z C.qru); qrd = maxZero (C.reactiveNeed q p t z C.qrd) })
-    two-fit t z m = go (has 2 e) plain
+    two-fit t z m = go (has 2 e) (lacks .plain)
       where
         go : (b : Bool) → (b ≡ false → SystemPlain q × PlanPlain p)
             → Where b noReactiveReserves FitsTwo (record { qru = maxZero (C.reactiveNeed q p t z C.qru); qrd = maxZero (C.reactiveNeed q p t z C.qrd) })
@@ -366,15 +395,32 @@ module _ (c : Case) (p : Plan) (rq : SystemRange (c .system)) (rp : PlanRange (c
         }
         go false h = let s = h refl in rw (none-short q p (s .0) (s .1) t z C.qru, none-short q p (s .0) (s .1) t z C.qrd) refl
 
-    apart-fits : (t : ℕ) → t < intervals q → Where (has 2 e) 0 (λ v. v ≤ 2 ^ 23 - 1) (C.reactiveMismatchNeed q p t)
-    apart-fits t l = go (has 2 e) plain
+    -- bar 1's, which an edition that has one bar lacks
+    second-fits : (t : ℕ) (f : ℕ) → f ≤ 2 ^ 23 - 1 → (SystemBarless q → PlanBarless p → f ≡ 0) → Where (has 5 e) 0 (λ v. v ≤ 2 ^ 23 - 1) f
+    second-fits t f h k = go (has 5 e) (lacks .barless)
       where
-        go : (b : Bool) → (b ≡ false → SystemPlain q × PlanPlain p) → Where b 0 (λ v. v ≤ 2 ^ 23 - 1) (C.reactiveMismatchNeed q p t)
-        go true h = omega (arith, reactive-mismatch-bound q p rq rp ok mostDevices (rq .devices) t l)
-        go false h = let s = h refl in none-apart q p (s .0) (s .1) t
+        go : (b : Bool) → (b ≡ false → SystemBarless q × PlanBarless p) → Where b 0 (λ v. v ≤ 2 ^ 23 - 1) f
+        go true s = h
+        go false s = let r = s refl in k (r .0) (r .1)
+
+    mismatch-fits : (t b : ℕ) → t < intervals q → C.mismatchNeed q p t b ≤ 2 ^ 23 - 1
+    mismatch-fits t b l = omega (arith, mismatch-bound q p rq rp ok mostDevices (rq .devices) t b l)
+
+    reactive-fits : (t b : ℕ) → t < intervals q → C.reactiveMismatchNeed q p t b ≤ 2 ^ 23 - 1
+    reactive-fits t b l = omega (arith, reactive-mismatch-bound q p rq rp ok mostDevices (rq .devices) t b l)
+
+    bars-fit : (t : ℕ) → t < intervals q → FitsBars e (record { first = C.mismatchNeed q p t 0; second = C.mismatchNeed q p t 1 })
+    bars-fit t l = record { first = mismatch-fits t 0 l; second = second-fits t _ (mismatch-fits t 1 l) (λ s r. other-bar q p s r t 0) }
+
+    apart-fits : (t : ℕ) → t < intervals q → Where (has 2 e) noBars (FitsBars e) (record { first = C.reactiveMismatchNeed q p t 0; second = C.reactiveMismatchNeed q p t 1 })
+    apart-fits t l = go (has 2 e) (lacks .plain)
+      where
+        go : (b : Bool) → (b ≡ false → SystemPlain q × PlanPlain p) → Where b noBars (FitsBars e) (record { first = C.reactiveMismatchNeed q p t 0; second = C.reactiveMismatchNeed q p t 1 })
+        go true h = record { first = reactive-fits t 0 l; second = second-fits t _ (reactive-fits t 1 l) (λ s r. other-bar-reactive q p s r t 0) }
+        go false h = let s = h refl in rw (none-apart q p (s .0) (s .1) t 0, none-apart q p (s .0) (s .1) t 1) refl
 
   -- all but the surplus
-  pub fits : (e : ℕ) → (has 2 e ≡ false → SystemPlain q × PlanPlain p) → Fits 64 (ourSurplus c p) → natAbs (ourSurplus c p) ≤ 2 ^ 63
+  pub fits : (e : ℕ) → Lacks e q p → Fits 64 (ourSurplus c p) → natAbs (ourSurplus c p) ≤ 2 ^ 63
       → FitsWritten e (countsOf q) (energyWindows q) (written q (ours c p) (ourSurplus c p))
   unfolding written ours energyWindows
   fits e plain f s = record {
@@ -394,7 +440,7 @@ module _ (c : Case) (p : Plan) (rq : SystemRange (c .system)) (rp : PlanRange (c
         };
         reactive = two-fit e plain t z m;
       }));
-      mismatch = omega (arith, mismatch-bound q p rq rp ok mostDevices (rq .devices) t l);
+      mismatch = bars-fit e plain t l;
       reactiveMismatch = apart-fits e plain t l;
     }));
     count = gather-counted (λ i w. maxZero (C.overrunNeed q p i w)) (λ i. length (device q i .energyWindows)) (upTo (devices q));
@@ -527,27 +573,33 @@ module _ (c : Case) (p : Plan) (rq : SystemRange (c .system)) (rp : PlanRange (c
         most : ℕ
         most = mostShortfallPrice * mostShortfall N
 
-    mismatch-cost : (t : ℕ) → t < intervals sys → natAbs (C.mismatchCost c p our t) ≤ mostMismatchCost N
+    mismatch-cost : (t b : ℕ) → t < intervals sys → natAbs (C.mismatchCost c p our t b) ≤ mostMismatchCost N
     unfolding C.mismatchCost whole ours
-    mismatch-cost t l = bound-mul (d t) (pos (c .prices .mismatch) *ℤ our .mismatch t) mostMinutes (mostPrice * mostTotal N) (duration-bound sys p rq rp ok t)
-        (bound-mul (pos (c .prices .mismatch)) (our .mismatch t) mostPrice (mostTotal N) (rc .mismatch) (mismatch-bound sys p rq rp ok N few t l))
+    mismatch-cost t b l = bound-mul (d t) (pos (c .prices .mismatch) *ℤ our .mismatch t b) mostMinutes (mostPrice * mostMismatch N) (duration-bound sys p rq rp ok t)
+        (bound-mul (pos (c .prices .mismatch)) (our .mismatch t b) mostPrice (mostMismatch N) (rc .mismatch) (mismatch-bound sys p rq rp ok N few t b l))
+
+    -- over the intervals and both bars
+    on-bars : (f : ℕ → ℕ → ℤ) → ((t b : ℕ) → t < intervals sys → natAbs (f t b) ≤ mostMismatchCost N)
+        → natAbs (sumℤ (λ t. sumℤ (f t) C.bars) (upTo (intervals sys))) ≤ T * (barCount * mostMismatchCost N)
+    on-bars f h = bound-few (λ t. sumℤ (f t) C.bars) (barCount * mostMismatchCost N) (intervals sys) T short
+        (λ t l. bound-sum (f t) (mostMismatchCost N) C.bars (h t 0 l, (h t 1 l, tt)))
 
     overruns-sum : (i : ℕ) → i < devices sys → natAbs (C.overruns c p our i) ≤ mostWindows * mostOverrun T
     unfolding C.overruns whole ours
     overruns-sum i m = bound-few (our .overrun i) (mostOverrun T) (length (device sys i .energyWindows)) mostWindows (device-at sys p rq rp ok i m .energies)
         (λ w k. overrun-bound sys p rq rp ok T short i w m)
 
-    reactive-mismatch-cost : (t : ℕ) → t < intervals sys → natAbs (C.reactiveMismatchCost c p our t) ≤ mostMismatchCost N
+    reactive-mismatch-cost : (t b : ℕ) → t < intervals sys → natAbs (C.reactiveMismatchCost c p our t b) ≤ mostMismatchCost N
     unfolding C.reactiveMismatchCost whole ours
-    reactive-mismatch-cost t l = bound-mul (d t) (pos (c .prices .mismatch) *ℤ our .reactiveMismatch t) mostMinutes (mostPrice * mostTotal N) (duration-bound sys p rq rp ok t)
-        (bound-mul (pos (c .prices .mismatch)) (our .reactiveMismatch t) mostPrice (mostTotal N) (rc .mismatch) (reactive-mismatch-bound sys p rq rp ok N few t l))
+    reactive-mismatch-cost t b l = bound-mul (d t) (pos (c .prices .mismatch) *ℤ our .reactiveMismatch t b) mostMinutes (mostPrice * mostMismatch N) (duration-bound sys p rq rp ok t)
+        (bound-mul (pos (c .prices .mismatch)) (our .reactiveMismatch t b) mostPrice (mostMismatch N) (rc .mismatch) (omega (arith, reactive-mismatch-bound sys p rq rp ok N few t b l)))
 
     reactive-size : natAbs (C.reactiveCosts c p our) ≤ mostReactiveCosts N T
     unfolding C.reactiveCosts
     reactive-size = bound-add (A +ℤ B) E _ _
         (bound-add A B _ _ (grid T short (devices sys) N mostReactiveReserves (C.reactiveReservesCost c p our) few reactive-reserves-cost)
         (grid T short (zones sys) mostZones mostReactiveShortfallCost (C.reactiveShortfallCost c p our) (rq .zones) reactive-shortfall-cost))
-        (bound-few (C.reactiveMismatchCost c p our) (mostMismatchCost N) (intervals sys) T short reactive-mismatch-cost)
+        (on-bars (C.reactiveMismatchCost c p our) reactive-mismatch-cost)
       where
         A : ℤ
         A = sumℤ (λ t. sumℤ (C.reactiveReservesCost c p our t) (upTo (devices sys))) (upTo (intervals sys))
@@ -556,7 +608,7 @@ module _ (c : Case) (p : Plan) (rq : SystemRange (c .system)) (rp : PlanRange (c
         B = sumℤ (λ t. sumℤ (C.reactiveShortfallCost c p our t) (upTo (zones sys))) (upTo (intervals sys))
 
         E : ℤ
-        E = sumℤ (C.reactiveMismatchCost c p our) (upTo (intervals sys))
+        E = sumℤ (λ t. sumℤ (C.reactiveMismatchCost c p our t) C.bars) (upTo (intervals sys))
 
     real-size : natAbs (C.realSurplus c p our) ≤ mostRealSurplus N T
     unfolding C.realSurplus
@@ -569,7 +621,7 @@ module _ (c : Case) (p : Plan) (rq : SystemRange (c .system)) (rp : PlanRange (c
           (grid T short (devices sys) N mostChanges (C.changeCost c p our) few change-cost))
           (grid T short (devices sys) N mostReserves (C.reservesCost c p our) few reserves-cost))
           (grid T short (zones sys) mostZones (mostShortfallCost N) (C.shortfallCost c p our) (rq .zones) shortfall-cost))
-          (bound-few (C.mismatchCost c p our) (mostMismatchCost N) (intervals sys) T short mismatch-cost))
+          (on-bars (C.mismatchCost c p our) mismatch-cost))
           (bound-mul (pos (c .prices .overrun)) (sumℤ (C.overruns c p our) (upTo (devices sys))) mostPrice (N * (mostWindows * mostOverrun T)) (rc .overrun)
           (bound-few (C.overruns c p our) (mostWindows * mostOverrun T) (devices sys) N few overruns-sum)),
     )
@@ -593,7 +645,7 @@ module _ (c : Case) (p : Plan) (rq : SystemRange (c .system)) (rp : PlanRange (c
         K = sumℤ (λ t. sumℤ (C.shortfallCost c p our t) (upTo (zones sys))) (upTo (intervals sys))
 
         M : ℤ
-        M = sumℤ (C.mismatchCost c p our) (upTo (intervals sys))
+        M = sumℤ (λ t. sumℤ (C.mismatchCost c p our t) C.bars) (upTo (intervals sys))
 
         G : ℤ
         G = pos (c .prices .overrun) *ℤ sumℤ (C.overruns c p our) (upTo (devices sys))

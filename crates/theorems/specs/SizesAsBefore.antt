@@ -6,7 +6,8 @@ use Prim.Native.Nat.{ℕ, _≤_}
 use native.Mathlib.Omega.{arith}
 use Rattle.layouts.specs.declared.Fault.{Fault}
 use Rattle.layouts.specs.declared.Place.{Place}
-use Rattle.layouts.specs.Since.{has}
+use borrow.Author.Tests.{leb-false}
+use Rattle.layouts.specs.Since.{has, has-not}
 use Rattle.layouts.specs.Checked.{Checked}
 use Rattle.layouts.specs.Sure.{Any, sure-checked, held-sure, nat-sure}
 use Rattle.layouts.specs.As.{mapWhole, whole-as, ahead, holding, leads, only}
@@ -17,9 +18,12 @@ use Rattle.model.specs.Widths.{older-widths}
 use Rattle.model.specs.ByEdition.{Stated, caseKind, editionOf, editionField, caseLayout, statedIn, plannedIn}
 use Rattle.model.specs.Judgement as J
 use Rattle.model.specs.AsBefore.{stated}
+use Rattle.model.specs.OneBar as O
 use Rattle.model.specs.BeforeSizes as P
 use Rattle.model.specs.BeforeSizes.{caseBy}
 use Rattle.ranges.specs.Ranges.{pair-sure, content-sure}
+use Rattle.ranges.specs.Barless.{SystemBarless, PlanBarless, stated-barless, planned-barless}
+use Rattle.theorems.specs.BarsAsBefore.{judged-on-one}
 
 module _ (l : Largest) (most : l .devices ≤ mostDevices) (long : l .intervals ≤ mostIntervals) (e : ℕ) (first : 1 ≤ e) (last : e ≤ newest) where
   case-checked : Checked (caseBy (widthsOf e) e l) Any
@@ -42,25 +46,30 @@ module _ (l : Largest) (most : l .devices ≤ mostDevices) (long : l .intervals 
 -- ---- editions 1 to 3
 
 module _ (e : ℕ) (older : has 4 e ≡ false) where
-  bytes-as-before : (c : Case) (p : Plan) → J.completionBytes (stated e c) p ≡ P.completionBytes e c p
-  unfolding J.completionBytes P.completionBytes
+  -- what came later is lacking too
+  barless : has 5 e ≡ false
+  barless = has-not 5 e (let l = leb-false 4 e older in omega arith)
+
+  bytes-as-before : (c : Case) (p : Plan) → O.completionBytes (stated e c) p ≡ P.completionBytes e c p
+  unfolding O.completionBytes P.completionBytes
   bytes-as-before c p = rw (older-widths e older) refl
 
-  judged-as-before : (c : Case) (p : Plan) (buffer : List ℕ) → J.judged (stated e c) p buffer ≡ P.judged e c p buffer
-  unfolding J.judged J.verdict P.judged
-  judged-as-before c p buffer = rw (bytes-as-before c p) refl
+  judged-as-before : (c : Case) (p : Plan) → SystemBarless (c .system) → PlanBarless p → (buffer : List ℕ) → J.judged (stated e c) p buffer ≡ P.judged e c p buffer
+  unfolding O.judged P.judged
+  judged-as-before c p hs hp buffer = judged-on-one (stated e c) p barless hs hp buffer ∙ rw (bytes-as-before c p) refl
 
-  plan-as-before : (c : Case) (buffer : List ℕ) (r : Whole Plan) → J.withPlan (stated e c) buffer r ≡ P.withPlan e c buffer r
-  plan-as-before c buffer (passes p) = judged-as-before c p buffer
-  plan-as-before c buffer (fails f) = refl
+  plan-as-before : (c : Case) → SystemBarless (c .system) → (ps buffer : List ℕ) (r : Whole Plan) → plannedIn e (c .system) ps ≡ r → J.withPlan (stated e c) buffer r ≡ P.withPlan e c buffer r
+  plan-as-before c hs ps buffer (passes p) h = judged-as-before c p hs (planned-barless e barless (c .system) ps p h) buffer
+  plan-as-before c hs ps buffer (fails f) h = refl
 
   pub planned-as-before : (c : Case) (s : List ℕ) → plannedIn e (c .system) s ≡ P.readPlan e c s
   unfolding plannedIn P.readPlan
   planned-as-before c s = rw (older-widths e older) refl
 
-  case-as-before : (ps buffer : List ℕ) (r : Whole Case) → J.withCase ps buffer (mapWhole (stated e) r) ≡ P.withCase e ps buffer r
-  case-as-before ps buffer (passes c) = ap (J.withPlan (stated e c) buffer) (planned-as-before c ps) ∙ plan-as-before c buffer (P.readPlan e c ps)
-  case-as-before ps buffer (fails f) = refl
+  case-as-before : (ps buffer : List ℕ) (r : Whole Case) → ((c : Case) → r ≡ passes c → SystemBarless (c .system)) → J.withCase ps buffer (mapWhole (stated e) r) ≡ P.withCase e ps buffer r
+  case-as-before ps buffer (passes c) hs =
+      ap (J.withPlan (stated e c) buffer) (planned-as-before c ps) ∙ plan-as-before c (hs c refl) ps buffer (P.readPlan e c ps) (planned-as-before c ps)
+  case-as-before ps buffer (fails f) hs = refl
 
   -- by any reader that takes no more than the most, for all bytes whose edition is e
   module _ (l : Largest) (most : l .devices ≤ mostDevices) (long : l .intervals ≤ mostIntervals) (first : 1 ≤ e) (last : e ≤ newest) where
@@ -72,3 +81,4 @@ module _ (e : ℕ) (older : has 4 e ≡ false) where
     pub sized-judged : (cs ps buffer : List ℕ) → editionOf cs ≡ e → J.judgement l cs ps buffer ≡ P.judgement e l cs ps buffer
     unfolding J.judgement P.judgement
     sized-judged cs ps buffer h = ap (J.withCase ps buffer) (sized-as-before cs h) ∙ case-as-before ps buffer (P.readCase e l cs)
+        (λ c r. stated-barless l most long cs (stated e c) (sized-as-before cs h ∙ ap (mapWhole (stated e)) r) barless)

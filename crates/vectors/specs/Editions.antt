@@ -6,7 +6,7 @@ use lib.Dec.{T}
 use lib.IntN.{ℤ, pos}
 use Rattle.numbers.specs.Base.{every}
 use Rattle.layouts.specs.Layout.{Whole, passes, fails, bytes}
-use Rattle.model.specs.Case.{Plan, noReactive}
+use Rattle.model.specs.Case.{Plan, noReactive, noFlow}
 use Rattle.model.specs.Editions.{newest, batch}
 use Rattle.model.specs.ByEdition.{Stated, caseLayout, planLayout, statedIn}
 use Rattle.model.specs.AsBefore.{stated}
@@ -25,7 +25,7 @@ caseAs e (passes x) = bytes (caseLayout batch .write (stated e (x .case)))
 caseAs e (fails f) = []
 
 plan : Plan
-plan = record { settings = (record { on = 1; online = 60; reserves = record { rgu = 3; rgd = 0; scr = 3; nsc = 0; rruOn = 4; rruOff = 0; rrdOn = 0; rrdOff = 0 }; reactive = noReactive } ∷ []) ∷ [] }
+plan = record { settings = (record { on = 1; online = 60; reserves = record { rgu = 3; rgd = 0; scr = 3; nsc = 0; rruOn = 4; rruOff = 0; rrdOn = 0; rrdOff = 0 }; reactive = noReactive } ∷ []) ∷ []; flows = noFlow ∷ [] }
 
 planAs : ℕ → List ℕ
 planAs e = bytes (planLayout e 1 1 .write plan)
@@ -43,6 +43,8 @@ rows : List Row
 rows =
     record { ofCase = 1; ofPlan = 1; tells = pos 0 ∷ pos 3600 ∷ [] } ∷
     record { ofCase = 2; ofPlan = 2; tells = pos 0 ∷ pos 3600 ∷ [] } ∷
+    record { ofCase = 4; ofPlan = 4; tells = pos 0 ∷ pos 3600 ∷ [] } ∷
+    record { ofCase = 5; ofPlan = 5; tells = pos 0 ∷ pos 3600 ∷ [] } ∷
     -- "kind or edition wrong": the plan's is not its case's, though there is such an edition
     record { ofCase = 1; ofPlan = 2; tells = pos 2 ∷ pos 2 ∷ pos 2 ∷ pos 4 ∷ [] } ∷
     record { ofCase = 2; ofPlan = 1; tells = pos 2 ∷ pos 2 ∷ pos 2 ∷ pos 4 ∷ [] } ∷

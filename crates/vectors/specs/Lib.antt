@@ -9,4 +9,5 @@ pub mod ReactiveRows
 pub mod ReactiveDay
 pub mod Floors
 pub mod FloorDay
+pub mod BarDay
 pub mod FloorRows

@@ -42,6 +42,11 @@ pub record DeviceDone (e : ℕ) (s : List ℕ) (p : Place) (zones last : ℕ) (w
 abbrev pub devicesIn : (n m : ℕ) → (devices cells : List (List ℕ)) → List (C.Device × C.DevicePrices)
 devicesIn n m devices cells = rows (λ i. devicePair (getD devices i []) (part m i cells)) n
 
+-- a row that a device was stored in
+pub record Stored (r : List ℕ) : Type 0 where
+  pub device : Device
+  pub is : r ≡ deviceRow device
+
 -- what holds of them: absent blocks have cap 0, lists at most four
 pub record Manned (n m : ℕ) (devices cells : List (List ℕ)) : Type 0 where
   pub counted : (i : ℕ) → i < n → Counted (deviceOf (getD devices i []))
@@ -49,4 +54,5 @@ pub record Manned (n m : ℕ) (devices cells : List (List ℕ)) : Type 0 where
 
 pub record DevicesDone (e : ℕ) (s : List ℕ) (p : Place) (n m zones last : ℕ) (w : Went) (devices cells : List (List ℕ)) : Type 0 where
   pub is : told w (devicesIn n m devices cells) ≡ got (list n (B.device e m zones last)) s p
+  pub stored : (q : Place) → w ≡ On q → (i : ℕ) → i < n → Stored (getD devices i [])
   pub manned : (q : Place) → w ≡ On q → Manned n m devices cells

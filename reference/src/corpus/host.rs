@@ -39,7 +39,9 @@ const PARTS: [(&str, Maker); 8] = [
         "days of many devices or many intervals, and few of the other",
         narrow_days,
     ),
-    ("starts and trajectories over 96 intervals", |_| long_days()),
+    ("starts, trajectories and flows over 96 intervals", |_| {
+        long_days()
+    }),
     (
         "days with as many devices or intervals as may be, and with more",
         grown_days,
@@ -53,17 +55,17 @@ const LARGE: Largest = Largest::LARGE;
 /// The day of the lowest surplus, and its plan with the last device off in the last interval, which
 /// the case does not allow.
 fn largest_day() -> Vec<u8> {
-    let day = very_low_surplus_day(Edition::Four, LARGE);
+    let day = very_low_surplus_day(Edition::NEWEST, LARGE);
     let mut switched_off = day.plan.clone();
     switched_off.intervals[LARGE.intervals - 1][LARGE.devices - 1].on = false;
     batch_of(day.edition, &day.case, &[day.plan, switched_off])
 }
 
 fn most_breaches() -> Vec<u8> {
-    batch_of_day(&most_breaches_day(Edition::Four, LARGE))
+    batch_of_day(&most_breaches_day(Edition::NEWEST, LARGE))
 }
 
-/// A case of so many devices and intervals.
+/// A case of so many devices and intervals, of an edition that can say them.
 fn sample(rng: &mut Rng, devices: usize, intervals: usize) -> Sample {
     let shape = Shape {
         size: Size::Beyond,
@@ -72,7 +74,8 @@ fn sample(rng: &mut Rng, devices: usize, intervals: usize) -> Sample {
         zones: rng.below(5),
     };
     let scale = rng.pick(&[Scale::Calm, Scale::Low, Scale::Low, Scale::Wide]);
-    sample_of(rng, Edition::Four, &shape, scale)
+    let edition = rng.pick(&shape.size.editions());
+    sample_of(rng, edition, &shape, scale)
 }
 
 /// A case with a plan that keeps every rule and, where one is drawn, a plan that breaks one.
@@ -85,7 +88,7 @@ fn kept_and_broken(rng: &mut Rng, devices: usize, intervals: usize) -> Vec<u8> {
 }
 
 fn days_beyond(rng: &mut Rng) -> Vec<Vec<u8>> {
-    [(17, 49), (22, 55)]
+    [(17, 49), (18, 55)]
         .map(|(devices, intervals)| kept_and_broken(rng, devices, intervals))
         .to_vec()
 }
@@ -127,47 +130,47 @@ fn slow_day(initially_on: bool, is_on: impl Fn(usize) -> bool) -> Day {
         ..Setting::default()
     };
     Day {
-        edition: Edition::Four,
+        edition: Edition::NEWEST,
         case: Case {
             mismatch_price: 1,
             overrun_price: 1,
+            link_limit: 0,
             durations: vec![2; LARGE.intervals],
             zones: Vec::new(),
             devices: vec![device],
         },
-        plan: Plan {
-            intervals: (0..LARGE.intervals).map(|t| vec![setting(t)]).collect(),
-        },
+        plan: Plan::plain((0..LARGE.intervals).map(|t| vec![setting(t)]).collect()),
     }
 }
 
 /// A start in every other interval; one start in the last, whose startup power fills the day; a
-/// start in every other interval, whose startup powers all meet.
+/// start in every other interval, whose startup powers all meet; a flow above its limit in the last
+/// interval.
 fn long_days() -> Vec<Vec<u8>> {
     let is_last = |t: usize| t + 1 == LARGE.intervals;
     let is_even = |t: usize| t % 2 == 1;
+    let mut flowing = slow_day(true, |_| true);
+    flowing.plan.flows[LARGE.intervals - 1] = 1;
     vec![
-        busiest_batch(Edition::Four, 1, 1, LARGE.intervals),
+        busiest_batch(Edition::NEWEST, 1, 1, LARGE.intervals),
         batch_of_day(&slow_day(false, is_last)),
         batch_of_day(&slow_day(true, is_even)),
+        batch_of_day(&flowing),
     ]
 }
 
-/// In edition 4 as many as the host form takes, one more and as many as the counts can say; in the
-/// older editions one more than they take.
+/// Of each edition one more than it takes; as many as the newest takes, and as its counts can say.
 fn grown_days(rng: &mut Rng) -> Vec<Vec<u8>> {
     const SAID: usize = 127;
     let mut batches = Vec::new();
-    for devices in [LARGE.devices, LARGE.devices + 1, SAID] {
-        batches.push(grown_day(rng, Edition::Four, devices, 1));
+    for edition in Edition::ALL {
+        let Largest { devices, intervals } = edition.largest();
+        batches.push(grown_day(rng, edition, devices + 1, 1));
+        batches.push(grown_day(rng, edition, 1, intervals + 1));
     }
-    for intervals in [LARGE.intervals, LARGE.intervals + 1, SAID] {
-        batches.push(grown_day(rng, Edition::Four, 1, intervals));
-    }
-    let small = Largest::SMALL;
-    for edition in Edition::Four.older() {
-        batches.push(grown_day(rng, edition, small.devices + 1, 1));
-        batches.push(grown_day(rng, edition, 1, small.intervals + 1));
+    for (devices, intervals) in [(LARGE.devices, LARGE.intervals), (SAID, SAID)] {
+        batches.push(grown_day(rng, Edition::NEWEST, devices, 1));
+        batches.push(grown_day(rng, Edition::NEWEST, 1, intervals));
     }
     batches
 }

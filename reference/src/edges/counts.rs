@@ -71,10 +71,14 @@ pub(super) const LARGE_ACCEPTED_EDGES: &[AcceptedEdge] = &[
         })
     }),
     ("mismatch of more than 1,600,000 kW", |day| {
-        day.any_choices(|choices| choices.mismatch > 1_600_000)
+        day.any_choices(|choices| choices.mismatches[0] > 1_600_000)
     }),
     ("reactive mismatch of more than 1,600,000 kvar", |day| {
-        day.any_choices(|choices| choices.reactive_mismatch > 1_600_000)
+        day.any_choices(|choices| choices.reactive_mismatches[0] > 1_600_000)
+    }),
+    ("flow behind interval 48", |day| {
+        let mut later = day.plan.flows.iter().skip(SMALL.intervals);
+        later.any(|&flow| flow != 0)
     }),
     ("overrun of more than 1,728,000,000 kW·min", |day| {
         let mut overruns = day.completion.overruns.iter().flatten();
@@ -100,6 +104,10 @@ pub(super) const LARGE_BROKEN_EDGES: &[BrokenEdge] = &[
     }),
     ("(broken) rule 20 behind device 16", |day| {
         let is_so = |place: &Place| place.rule == 20 && place.device > SMALL.devices;
+        day.breaches.iter().any(is_so)
+    }),
+    ("(broken) rule 27 behind interval 48", |day| {
+        let is_so = |place: &Place| place.rule == 27 && place.interval > SMALL.intervals;
         day.breaches.iter().any(is_so)
     }),
     ("(broken) bracket of more than 48", |day| {

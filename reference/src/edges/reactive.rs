@@ -1,7 +1,7 @@
 //! Edges of A.1: reactive limits, links, reserves, shortfalls and mismatch.
 
 use super::{AcceptedEdge, BrokenDay, BrokenEdge, Day, Spot};
-use crate::case::{Link, LinkLine, Side};
+use crate::case::{Link, LinkLine, Side, BARS};
 use crate::edition::Edition;
 use crate::plan::Setting;
 use crate::reactive::ReactivePoint;
@@ -238,7 +238,8 @@ pub(super) const REACTIVE_ACCEPTED_EDGES: &[AcceptedEdge] = &[
     ("reactive power in balance, other than 0", |day| {
         let intervals = day.plan.intervals.iter().zip(&day.completion.intervals);
         intervals.into_iter().any(|(settings, choices)| {
-            settings.iter().any(|s| s.reactive_power != 0) && choices.reactive_mismatch == 0
+            settings.iter().any(|s| s.reactive_power != 0)
+                && choices.reactive_mismatches == [0; BARS]
         })
     }),
     ("qru shortfall", |day| {
@@ -392,7 +393,7 @@ pub(super) const REACTIVE_BROKEN_EDGES: &[BrokenEdge] = &[
         },
     ),
     ("(broken) rule 20 behind a reactive rule", |day| {
-        day.any_two_in_a_row(|a, b| a.rule >= 21 && b.rule == 20)
+        day.any_two_in_a_row(|a, b| (21..=26).contains(&a.rule) && b.rule == 20)
     }),
 ];
 

@@ -90,7 +90,7 @@ pub fn plan_of_another_edition(rng: &mut Rng, sample: &Sample) -> Vec<u8> {
         .filter(|&edition| edition != sample.edition)
         .filter(|edition| edition.largest().holds(devices, intervals))
         .collect();
-    let plan = good_plan(rng, sample).without_reactive_power();
+    let plan = good_plan(rng, sample).in_figures_of_edition_1();
     if others.is_empty() {
         return with_other_edition(rng, &encode_plan(sample.edition, &plan));
     }

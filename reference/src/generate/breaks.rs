@@ -4,6 +4,7 @@ use crate::bits::HIGHEST_POWER;
 use crate::case::{Device, ReactiveReserves, Reserves, Side, Terms};
 use crate::edition::Edition;
 use crate::forced::{commit, Commitment};
+use crate::generate::bars::break_flow;
 use crate::generate::device::random_commitment;
 use crate::generate::plans::{good_plan, plan_of, set_reactive_power};
 use crate::generate::reactive::Running;
@@ -19,6 +20,7 @@ const ATTEMPTS: usize = 24;
 pub fn plan_breaking(rng: &mut Rng, sample: &Sample, rule: u8) -> Option<Plan> {
     match rule {
         1..=4 | 20 => plan_with_spoilt_schedule(rng, sample, rule),
+        27 => plan_with_broken_flow(rng, sample),
         18 | 19 if rng.chance(50) => plan_with_spoilt_schedule(rng, sample, rule)
             .or_else(|| plan_with_broken_setting(rng, sample, rule)),
         _ => plan_with_broken_setting(rng, sample, rule),
@@ -60,6 +62,21 @@ fn plan_with_broken_setting(rng: &mut Rng, sample: &Sample, rule: u8) -> Option<
     (0..ATTEMPTS)
         .any(|_| break_somewhere(rng, sample, &mut plan, rule))
         .then_some(plan)
+}
+
+/// A good plan with a flow beyond the limit in one interval.
+fn plan_with_broken_flow(rng: &mut Rng, sample: &Sample) -> Option<Plan> {
+    let mut plan = good_plan(rng, sample);
+    let excess = random_excess(rng);
+    break_flow(rng, sample, &mut plan, excess).then_some(plan)
+}
+
+/// How far beyond a bound to go.
+fn random_excess(rng: &mut Rng) -> i128 {
+    match rng.below(3) {
+        0 => rng.from_to(1, 1_000),
+        _ => 1,
+    }
 }
 
 /// Breaks `rule`, one of 5 to 19 and 21 to 26, at a place drawn by chance; false if it cannot be
@@ -147,10 +164,7 @@ impl<'a> Spot<'a> {
             lowest: previous - most_fall(device, &sample.spans, &commitment, t),
             trajectory: commitment.trajectory(t),
             bracket: commitment.bracket[t],
-            excess: match rng.below(3) {
-                0 => rng.from_to(1, 1_000),
-                _ => 1,
-            },
+            excess: random_excess(rng),
         }
     }
 
@@ -376,12 +390,16 @@ pub fn plan_broken_severally(rng: &mut Rng, sample: &Sample) -> Plan {
     for _ in 0..ATTEMPTS {
         let rule = random_rule_of_a_setting(rng, sample.edition);
         break_somewhere(rng, sample, &mut plan, rule);
+        if sample.edition.has_bars() && rng.chance(15) {
+            let excess = random_excess(rng);
+            break_flow(rng, sample, &mut plan, excess);
+        }
     }
     plan
 }
 
-/// A good plan as meters tell it the day after: powers that drifted, reserves that were held or
-/// not, now and then a device that was switched otherwise.
+/// A good plan as meters tell it the day after: powers and flows that drifted, reserves that were
+/// held or not, now and then a device that was switched otherwise.
 pub fn metered_plan(rng: &mut Rng, sample: &Sample) -> Plan {
     let mut plan = good_plan(rng, sample);
     let drift = rng.pick(&[1, 30, 1_000]);
@@ -401,6 +419,11 @@ pub fn metered_plan(rng: &mut Rng, sample: &Sample) -> Plan {
             let two = setting.reactive_reserves.in_order();
             let drifted = two.map(|reserve| metered(rng, reserve, 0));
             setting.reactive_reserves = ReactiveReserves::from_order(drifted);
+        }
+    }
+    if sample.edition.has_bars() {
+        for flow in &mut plan.flows {
+            *flow = metered(rng, *flow, -HIGHEST_POWER);
         }
     }
     plan
@@ -455,6 +478,9 @@ pub fn nudged_plan(rng: &mut Rng, sample: &Sample) -> Plan {
     let j = rng.below(sample.case.devices.len());
     let setting = &mut plan.intervals[t][j];
     match rng.below(10) {
+        _ if sample.edition.has_bars() && rng.chance(20) => {
+            plan.flows[t] = near(rng, plan.flows[t], -HIGHEST_POWER);
+        }
         0 => setting.on = !setting.on,
         1 | 2 => setting.online_power = near(rng, setting.online_power, 0),
         3..=6 if sample.edition.has_reactive_power() => nudge_reactive_power(rng, setting),

@@ -216,6 +216,7 @@ pub fn give_intervals(day: &mut Day, count: usize) {
         over_and_over(&mut device.terms, count);
     }
     over_and_over(&mut day.plan.intervals, count);
+    over_and_over(&mut day.plan.flows, count);
 }
 
 fn over_and_over<T: Clone>(items: &mut Vec<T>, count: usize) {

@@ -143,6 +143,7 @@ fn bare_device(rng: &mut Rng, intervals: usize, initially_on: bool, scale: Scale
         start_windows: Vec::new(),
         energy_windows: Vec::new(),
         link: Link::None,
+        bar: 0,
         terms: vec![Terms::default(); intervals],
     }
 }

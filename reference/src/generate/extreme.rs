@@ -15,23 +15,26 @@ const HIGHEST_COST: i128 = 1_000_000_000;
 const HIGHEST_PRICE: i128 = 10_000;
 const HIGHEST_POWER: i128 = 100_000;
 
+/// The greatest minimum, over nothing.
+const UNMET: EnergyWindow = EnergyWindow {
+    kind: EnergyKind::Minimum,
+    start: 0,
+    end: 0,
+    energy: 4_000_000_000,
+};
+
 /// Every price and every need as great as it can be, no reserve anywhere: consuming devices that pay
 /// for their power, in all four zones, each with four energy minima over nothing. From edition 2 on
 /// also every reactive need, and 100,000 kvar of each device that nothing produces; from edition 3
-/// on all power in the last block, whose floor asks for it.
+/// on all power in the last block, whose floor asks for it; in edition 5 the greatest flow from the
+/// bar of all devices to the other.
 pub fn very_low_surplus_day(edition: Edition, largest: Largest) -> Day {
-    let unmet = EnergyWindow {
-        kind: EnergyKind::Minimum,
-        start: 0,
-        end: 0,
-        energy: 4_000_000_000,
-    };
     let device = Device {
         zone_bits: [true; MOST_ZONES],
         on_cost: 100_000,
         start_cost: HIGHEST_COST,
         stop_cost: HIGHEST_COST,
-        energy_windows: vec![unmet; MOST_ITEMS],
+        energy_windows: vec![UNMET; MOST_ITEMS],
         ..device(largest, Side::Consuming, -HIGHEST_PRICE, HIGHEST_COST)
     };
     let zone = Zone {
@@ -42,6 +45,7 @@ pub fn very_low_surplus_day(edition: Edition, largest: Largest) -> Day {
     let case = Case {
         mismatch_price: HIGHEST_PRICE,
         overrun_price: HIGHEST_PRICE,
+        link_limit: 0,
         durations: vec![LONGEST; largest.intervals],
         zones: vec![zone; MOST_ZONES],
         devices: vec![device; largest.devices],
@@ -53,7 +57,15 @@ pub fn very_low_surplus_day(edition: Edition, largest: Largest) -> Day {
     if edition.has_floors() {
         set_greatest_floors(&mut day.case);
     }
+    if edition.has_bars() {
+        set_greatest_flows(&mut day);
+    }
     day
+}
+
+fn set_greatest_flows(day: &mut Day) {
+    day.case.link_limit = HIGHEST_POWER;
+    day.plan.flows.fill(HIGHEST_POWER);
 }
 
 /// The greatest floor in the last block of each device and interval.
@@ -121,6 +133,7 @@ pub fn very_high_surplus_day(edition: Edition, largest: Largest) -> Day {
     let case = Case {
         mismatch_price: 1,
         overrun_price: 1,
+        link_limit: 0,
         durations: vec![LONGEST; largest.intervals],
         zones: Vec::new(),
         devices: [
@@ -135,7 +148,8 @@ pub fn very_high_surplus_day(edition: Edition, largest: Largest) -> Day {
 /// The most breaches that a plan can have: devices that are switched in every interval, so that each
 /// breaks 15 rules in each interval, rule 2 in every other, in which it is on, rule 3 or 4 in all but
 /// the first, and rule 20 in four windows. From edition 2 on four rules more in each interval: 21 to
-/// 24, or, of a device whose link is an equality, 21, 22, 25 and 26.
+/// 24, or, of a device whose link is an equality, 21, 22, 25 and 26. In edition 5 rule 27 in each
+/// interval.
 ///
 /// No plan has more. Rules 5 and 6 are never broken at one place, nor rules 3 and 4; each interval
 /// more away from the initial state breaks rule 2 once more and is two switches less. No link is of
@@ -144,6 +158,9 @@ pub fn most_breaches_day(edition: Edition, largest: Largest) -> Day {
     let mut day = most_breaches_without_reactive_power(edition, largest);
     if edition.has_reactive_power() {
         add_most_reactive_breaches(&mut day);
+    }
+    if edition.has_bars() {
+        day.plan.flows.fill(1);
     }
     day
 }
@@ -189,15 +206,16 @@ fn most_breaches_without_reactive_power(edition: Edition, largest: Largest) -> D
         case: Case {
             mismatch_price: 1,
             overrun_price: 1,
+            link_limit: 0,
             durations: vec![SHORTEST; largest.intervals],
             zones: Vec::new(),
             devices: (0..largest.devices).map(device).collect(),
         },
-        plan: Plan {
-            intervals: (0..largest.intervals)
+        plan: Plan::plain(
+            (0..largest.intervals)
                 .map(|t| vec![setting(t); largest.devices])
                 .collect(),
-        },
+        ),
     }
 }
 
@@ -275,9 +293,7 @@ fn full_day(edition: Edition, case: Case) -> Day {
     let settings = vec![setting; case.devices.len()];
     Day {
         edition,
-        plan: Plan {
-            intervals: vec![settings; case.intervals()],
-        },
+        plan: Plan::plain(vec![settings; case.intervals()]),
         case,
     }
 }

@@ -6,12 +6,14 @@
 //! - [`schedule`]: the dispatch that a commitment leaves open.
 //! - [`reactive`]: reactive power of devices and plans.
 //! - [`floors`]: floors of blocks.
+//! - [`bars`]: bars of devices, the link between them and its flows.
 //! - [`plans`]: plans that keep every rule, and wild ones.
 //! - [`breaks`]: plans broken at a chosen rule.
 //! - [`damage`]: messages damaged in every way that numbers 1 to 6 name.
 //! - [`extreme`]: days with the greatest figures that messages can say.
 //! - [`batches`]: batches of all of these.
 
+pub mod bars;
 pub mod batches;
 pub mod breaks;
 pub mod damage;

@@ -4,6 +4,7 @@ use crate::bits::HIGHEST_POWER;
 use crate::case::{Case, Device, ReactiveReserves, Reserves, Side};
 use crate::edition::Edition;
 use crate::forced::Commitment;
+use crate::generate::bars::set_flows;
 use crate::generate::reactive::Running;
 use crate::generate::sample::Sample;
 use crate::generate::schedule::{Preference, Schedule};
@@ -47,9 +48,7 @@ pub fn good_plan(rng: &mut Rng, sample: &Sample) -> Plan {
 /// A plan that follows one schedule per device.
 pub fn plan_of(rng: &mut Rng, sample: &Sample, schedules: &[&Schedule]) -> Plan {
     let devices = sample.case.devices.len();
-    let mut plan = Plan {
-        intervals: vec![vec![Setting::default(); devices]; sample.spans.len()],
-    };
+    let mut plan = Plan::plain(vec![vec![Setting::default(); devices]; sample.spans.len()]);
     for (j, schedule) in schedules.iter().enumerate() {
         for (t, setting) in settings_of(rng, sample, j, schedule)
             .into_iter()
@@ -57,6 +56,9 @@ pub fn plan_of(rng: &mut Rng, sample: &Sample, schedules: &[&Schedule]) -> Plan 
         {
             plan.intervals[t][j] = setting;
         }
+    }
+    if sample.edition.has_bars() {
+        set_flows(rng, sample, &mut plan);
     }
     plan
 }
@@ -176,9 +178,13 @@ pub fn wild_plan(rng: &mut Rng, edition: Edition, case: &Case) -> Plan {
         setting
     };
     let devices = case.devices.len();
-    Plan {
-        intervals: (0..case.intervals())
-            .map(|_| (0..devices).map(|_| setting()).collect())
-            .collect(),
+    let settings = (0..case.intervals())
+        .map(|_| (0..devices).map(|_| setting()).collect())
+        .collect();
+    let mut plan = Plan::plain(settings);
+    if edition.has_bars() {
+        let scale = rng.pick(&[0, case.link_limit, HIGHEST_POWER]);
+        plan.flows.fill_with(|| rng.from_to(-scale, scale));
     }
+    plan
 }

@@ -1,12 +1,14 @@
 //! A generated case with, per device, schedules that keep the rules and schedules that break
 //! exactly one of rules 1 to 4 and 18 to 20.
 
+use crate::bits::HIGHEST_POWER;
 use crate::case::{
     Block, Case, Device, Reserves, Side, Status, Zone, MOST_ITEMS, MOST_MINIMA, MOST_SHORTFALLS,
 };
 use crate::clock::{spans, Span};
 use crate::edition::Edition;
 use crate::forced::{commit, Commitment};
+use crate::generate::bars::{set_bars, set_bars_and_limit};
 use crate::generate::device::{random_commitment, random_device, Built, Scale};
 use crate::generate::floors::scramble_floors;
 use crate::generate::reactive::{can_be_kept, scramble_reactive_power};
@@ -93,6 +95,7 @@ pub fn sample_of_devices(
         devices.push(built.device);
     }
     set_zone_bits(rng, shape.zones, &mut devices);
+    let link_limit = set_bars_and_limit(rng, edition, &mut devices, scale);
     let zones = (0..shape.zones)
         .map(|_| random_zone(rng, edition, shape.intervals, scale))
         .collect();
@@ -101,6 +104,7 @@ pub fn sample_of_devices(
         case: Case {
             mismatch_price: slack_price(rng, scale),
             overrun_price: slack_price(rng, scale),
+            link_limit,
             durations,
             zones,
             devices,
@@ -306,6 +310,10 @@ pub fn wild_case(rng: &mut Rng, size: Size) -> (Edition, Case) {
     let edition = rng.pick(&size.editions());
     let shape = Shape::random(rng, size);
     let mut case = sample_of(rng, edition, &shape, Scale::Wide).case;
+    if edition.has_bars() {
+        set_bars(rng, &mut case.devices);
+        case.link_limit = rng.pick(&[0, 200, HIGHEST_POWER]);
+    }
     for device in &mut case.devices {
         scramble(rng, device, shape.zones);
         if edition.has_reactive_power() {

@@ -1,12 +1,12 @@
 -- A plan that fails reading is refused; else the breaches of its rows are listed.
 use borrow.Author.Needs.{needs}
-use Rattle.plan_unit.specs.Read.{planned-of}
+use Rattle.plan_unit.specs.Read.{plan-room, planned-of}
 use Rattle.breach_lists.specs.Plans.{list-fails, list-passes}
 use Rattle.breach_lists.proofs.breaches_of_plan.Statement.{statement}
 use Rattle.breach_lists.proofs.breaches_of_plan.Tie as tie
 
 read-plan-requires : tie.Need-read-plan-requires
-read-plan-requires c κs = search needs
+read-plan-requires c κs = let entry : _ = c .before .before .before .before .before .before in plan-room (entry .pre .0) (entry .pre .1)
 
 enum-known-f : tie.Need-enum-known-f
 enum-known-f c = search needs

@@ -1,64 +1,31 @@
--- The loop's invariant: the devices below i break no rule, and the next part begins at a.
-use Prim.Native.Nat.{_≤_, _-_, _*_}
-use native.Mathlib.Omega.{arith}
-use mathlib.Core.Path.{_≡_}
+-- Neither the link nor a device breaks a rule.
 use borrow.Author.Tests.{not-false}
 use lib.ListN.{length}
 use Rattle.numbers.specs.Tests.{never}
-use Rattle.numbers.specs.Parts.{next-part}
 use Rattle.records.specs.Views.{systemIn, planIn}
 use Rattle.records.specs.Viewed.{intervals-are, devices-are}
-use Rattle.failing_rules.specs.Parts.{place}
-use Rattle.breaches.specs.Day.{HoldTo, hold-none, hold-next, none-at-all}
+use Rattle.link_rules.specs.Link.{link-rows, link-none}
+use Rattle.breaches.specs.Day.{none-at-all}
 use borrow.Author.Needs.{needs}
 use Rattle.breaches.proofs.no_breach.Statement.{statement}
 use Rattle.breaches.proofs.no_breach.Tie as tie
 
-abbrev Inv-loop : tie.InvT-loop
-Inv-loop front halves zones minima devices cells settings starts powers i₀ a₀ i a = (i ≤ length devices) × (a ≡ i * length halves)
-    × HoldTo (systemIn halves zones minima devices cells) (planIn (length devices) (length halves) settings) (length halves) i
+link-held-requires : tie.Need-link-held-requires
+link-held-requires c κs = link-rows (c .before .before .before .pre)
 
-abbrev μ-loop : tie.MeasureT-loop
-μ-loop front halves zones minima devices cells settings starts powers i₀ a₀ i a = length devices - i
-
-loop-holds : tie.Need-loop-holds Inv-loop μ-loop
-loop-holds c = (search needs, search needs, hold-none _ _ _)
-
-device-held-requires : tie.Need-device-held-requires Inv-loop μ-loop
-device-held-requires c κs = search needs
-
-returns : tie.Need-returns Inv-loop μ-loop
+returns : tie.Need-returns
 returns c = λ e. never e
 
-add-a : tie.Need-add-a Inv-loop μ-loop
-add-a c = let a : _ = c .before .before .before .before .before .before .before .args in
-    omega (
-      arith,
-      place (c .before .before .before .before .before .before .before .pre) (c .before .before .before .loop .i) (c .before .before .before .loop .a)
-          (c .before .before .loop-test .taken) (c .before .before .before .loop .inv .1),
-    )
+devices-held-requires : tie.Need-devices-held-requires
+devices-held-requires c κs = search needs
 
-add-i : tie.Need-add-i Inv-loop μ-loop
-add-i c = search needs
-
-loop-less : tie.Need-loop-less Inv-loop μ-loop
-loop-less c = search needs
-
-loop-again : tie.Need-loop-again Inv-loop μ-loop
-loop-again c = let a : _ = c .before .before .before .before .before .before .before .args in (
-  search needs,
-  omega (arith, c .before .before .before .loop .inv .1, next-part (length (a .halves .now)) (c .before .before .before .loop .i)),
-  hold-next (systemIn (a .halves .now) (a .zones .now) (a .minima .now) (a .devices .now) (a .cells .now))
-      (planIn (length (a .devices .now)) (length (a .halves .now)) (a .settings .now)) (c .before .before .before .loop .inv .2) (c .before .device-held .ensures (not-false _ (c .if1 .left))),
-)
-
-returns-2 : tie.Need-returns-2 Inv-loop μ-loop
-returns-2 c = λ e. let a : _ = c .before .before .before .before .before .args in
-    let z : c .before .loop .i ≡ length (a .devices .now) = omega (arith, c .loop-test .left, c .before .loop .inv .0) in
+returns-2 : tie.Need-returns-2
+returns-2 c = λ e. let s : _ = c .before .before .before .before .before .before in let a : _ = s .args in
     none-at-all (systemIn (a .halves .now) (a .zones .now) (a .minima .now) (a .devices .now) (a .cells .now))
     (planIn (length (a .devices .now)) (length (a .halves .now)) (a .settings .now))
     (intervals-are (a .halves .now) (a .zones .now) (a .minima .now) (a .devices .now) (a .cells .now))
-    (devices-are (a .halves .now) (a .zones .now) (a .minima .now) (a .devices .now) (a .cells .now)) (rw z at (c .before .loop .inv .2))
+    (devices-are (a .halves .now) (a .zones .now) (a .minima .now) (a .devices .now) (a .cells .now))
+    (λ t h. link-none (s .pre) t h (c .before .before .link-held .ensures (not-false _ (c .before .if1 .left)) .at t h)) (c .devices-held .ensures e)
 
 pub no-breach-spec : {M : Type 1} → statement M
-no-breach-spec = tie.close (tie.spec Inv-loop μ-loop loop-holds device-held-requires returns add-a add-i loop-less loop-again returns-2)
+no-breach-spec = tie.close (tie.spec link-held-requires returns devices-held-requires returns-2)

@@ -6,7 +6,7 @@ use Rattle.case_reader.proofs.read_body.Statement.{statement}
 use Rattle.case_reader.proofs.read_body.Tie as tie
 
 read-list-requires : tie.Need-read-list-requires
-read-list-requires c κs = (search needs, c .before .before .before .pre .room)
+read-list-requires c κs = search needs
 
 enum-known-durations : tie.Need-enum-known-durations
 enum-known-durations c = search needs
@@ -24,7 +24,7 @@ returns c =
     let start : _ = c .before .before .before .before .before .before .before .before in
     let a : _ = start .args in
     let halves : _ = read-list .last .1 .1 .1 .1 .1 .1 .0 in
-    body-no-halves (a .s .now) (a .p) (a .front) (a .counts) halves (a .zones .now) (a .minima .now) (a .devices .now) (a .cells .now)
+    body-no-halves (a .s .now) (a .p) (a .front) (a .counts) (a .limit) halves (a .zones .now) (a .minima .now) (a .devices .now) (a .cells .now)
     (read-list .ensures) (enum-told .given .1)
 
 last-end-requires : tie.Need-last-end-requires
@@ -39,10 +39,7 @@ last-end-requires c κs =
     (went-good _ (read-list .ensures) (durations .given .1))
 
 read-zones-requires : tie.Need-read-zones-requires
-read-zones-requires c κs =
-    let b₁ : _ = c .before .before .before .before .before .before .before .before in
-    let start : _ = b₁ .before .before .before .before .before in
-    start .pre .zones-fit
+read-zones-requires c κs = search needs
 
 enum-known-zoned : tie.Need-enum-known-zoned
 enum-known-zoned c = search needs
@@ -70,22 +67,24 @@ returns-2 c =
     let a : _ = start .args in
     let halves : _ = read-list .last .1 .1 .1 .1 .1 .1 .0 in
     let z : _ = read-zones .last .1 .1 .1 .1 .1 in
-    body-no-zones (a .s .now) (a .p) (a .front) (a .counts) halves (z .0) (z .1 .0) (a .devices .now) (a .cells .now)
+    body-no-zones (a .s .now) (a .p) (a .front) (a .counts) (a .limit) halves (z .0) (z .1 .0) (a .devices .now) (a .cells .now)
     (read-list .ensures) (durations .given .1) (read-zones .ensures) (enum-told2 .given .1)
 
 cast-read-devices : tie.Need-cast-read-devices
-cast-read-devices c =
-    let b₁ : _ = c .before .before .before .before .before .before .before .before in
-    let b₂ : _ = b₁ .before .before .before .before .before .before .before .before in
-    let start : _ = b₂ .before .before .before .before in
-    omega (arith, start .pre .few-zones)
+cast-read-devices c = search needs
 
 read-devices-requires : tie.Need-read-devices-requires
-read-devices-requires c κs =
-    let b₁ : _ = c .before .before .before .before .before .before .before .before in
+read-devices-requires c κs = search needs
+
+put-limit-requires : tie.Need-put-limit-requires
+put-limit-requires c κs =
+    let d₀ : _ = c .before in
+    let read-devices : _ = d₀ .before .before .read-devices in
+    let b₁ : _ = d₀ .before .before .before .before .before .before .before .before in
     let b₂ : _ = b₁ .before .before .before .before .before .before .before .before in
-    let start : _ = b₂ .before .before .before .before .before .before in
-    (start .pre .few-zones, start .pre .devices-fit)
+    let start : _ = b₂ .before .before .before .before .before .before .before .before .before in
+    let dk : _ = read-devices .kept .1 .1 .1 .1 .1 .1 .1 in
+    omega (arith, start .pre .some-devices, start .pre .devices-fit .room, dk .0)
 
 same-length-5 : tie.Need-same-length-5
 same-length-5 c = search needs
@@ -104,9 +103,11 @@ same-length-9 c = search needs
 
 returns-3 : tie.Need-returns-3
 returns-3 c =
-    let read-devices : _ = c .before .before .read-devices in
-    let zoned : _ = c .before .before .before .before .before .before .before .zoned in
-    let b₁ : _ = c .before .before .before .before .before .before .before .before in
+    let put-limit : _ = c .before .put-limit in
+    let d₀ : _ = c .before .before .before in
+    let read-devices : _ = d₀ .before .before .read-devices in
+    let zoned : _ = d₀ .before .before .before .before .before .before .before .zoned in
+    let b₁ : _ = d₀ .before .before .before .before .before .before .before .before in
     let read-zones : _ = b₁ .before .before .before .read-zones in
     let last-end : _ = b₁ .before .before .before .before .before .before .last-end in
     let durations : _ = b₁ .before .before .before .before .before .before .before .before .before .durations in
@@ -120,8 +121,10 @@ returns-3 c =
     let zk : _ = read-zones .kept .1 .1 .1 .1 .1 in
     let dk : _ = read-devices .kept .1 .1 .1 .1 .1 .1 .1 in
     let room = room-kept (start .pre) (read-list .kept .1 .1 .1 .1 .1 .1 .0) (zk .0) (zk .1 .0) (dk .0) (dk .1 .0) in
-    body-done (a .s .now) (a .p) (a .front) (a .counts) halves (z .0) (z .1 .0) (d .0) (d .1 .0)
+    let after : _ = put-limit .last .0 in
+    body-done (a .s .now) (a .p) (a .front) (a .counts) (a .limit) halves (z .0) (z .1 .0) after (d .1 .0)
     (read-list .ensures) (durations .given .1) (read-zones .ensures) (zoned .given .1) (last-end .ensures) (read-devices .result) room (read-devices .ensures)
+    (put-limit .ensures)
 
 pub read-body-spec : {M : Type 1} → statement M
 read-body-spec =
@@ -142,6 +145,7 @@ read-body-spec =
     returns-2
     cast-read-devices
     read-devices-requires
+    put-limit-requires
     same-length-5
     same-length-6
     same-length-7

@@ -19,15 +19,15 @@ returns c =
     let start : _ = c .before .before .before .before .before in
     let a : _ = start .args in
     let r : _ = read-front .result in
-    fields-no-front (a .most-devices) (a .most-intervals) (a .s .now) (r .front) (r .counts) (read-front .ensures)
+    fields-no-front (a .most-devices) (a .most-intervals) (a .s .now) (r .front) (r .counts) (r .limit) (read-front .ensures)
     (a .halves .now) (a .zones .now) (a .minima .now) (a .devices .now) (a .cells .now) (enum-told .given .1)
 
 read-body-requires : tie.Need-read-body-requires
 read-body-requires c κs =
-    let went : _ = c .before .before .before .before .before .before .before .before .went in
-    let read-front : _ = c .before .before .before .before .before .before .before .before .before .before .read-front in
+    let went : _ = c .before .before .before .before .before .before .before .before .before .went in
+    let read-front : _ = c .before .before .before .before .before .before .before .before .before .before .before .read-front in
     let b₁ : _ = c .before .before .before .before .before .before .before .before in
-    let start : _ = b₁ .before .before .before .before .before in
+    let start : _ = b₁ .before .before .before .before .before .before in
     room-within (start .pre) (read-front .ensures .within _ (went .given .1))
 
 same-length : tie.Need-same-length
@@ -49,13 +49,13 @@ returns-2 : tie.Need-returns-2
 returns-2 c =
     let read-body : _ = c .before .before .before .before .before .before .read-body in
     let b₁ : _ = c .before .before .before .before .before .before .before .before in
-    let went : _ = b₁ .before .before .before .before .before .before .before .went in
-    let read-front : _ = b₁ .before .before .before .before .before .before .before .before .before .read-front in
+    let went : _ = b₁ .before .before .before .before .before .before .before .before .went in
+    let read-front : _ = b₁ .before .before .before .before .before .before .before .before .before .before .read-front in
     let b₂ : _ = b₁ .before .before .before .before .before .before .before .before in
-    let start : _ = b₂ .before .before .before .before in
+    let start : _ = b₂ .before .before .before .before .before in
     let a : _ = start .args in
     let r : _ = read-front .result in
-    fields-done (a .most-devices) (a .most-intervals) (a .s .now) (r .front) (r .counts) (read-front .ensures) (went .given .1) (read-body .ensures)
+    fields-done (a .most-devices) (a .most-intervals) (a .s .now) (r .front) (r .counts) (r .limit) (read-front .ensures) (went .given .1) (read-body .ensures)
 
 pub read-fields-spec : {M : Type 1} → statement M
 read-fields-spec =

@@ -14,12 +14,12 @@ abbrev summed : ℕ → ℕ → ℕ → ℕ → ℕ
 summed d z w x = d * deviceWidth + z * w + x
 
 abbrev most : ℕ
-most = summed mostDevices mostZones 264 46
+most = summed mostDevices mostZones 264 92
 
-summed-few : (d z w x : ℕ) → d ≤ mostDevices → z ≤ mostZones → w ≤ 264 → x ≤ 46 → summed d z w x ≤ most
+summed-few : (d z w x : ℕ) → d ≤ mostDevices → z ≤ mostZones → w ≤ 264 → x ≤ 92 → summed d z w x ≤ most
 summed-few d z w x hd hz hw hx = omega (arith, mul-le-mul hz hw)
 
-intervals-are : (e d i z w x : ℕ) → d ≤ mostDevices → i ≤ mostIntervals → z ≤ mostZones → (w ≡ zoneWidth e) × (w ≤ 264) → (x ≡ mismatchesWidth e) × (x ≤ 46)
+intervals-are : (e d i z w x : ℕ) → d ≤ mostDevices → i ≤ mostIntervals → z ≤ mostZones → (w ≡ zoneWidth e) × (w ≤ 264) → (x ≡ mismatchesWidth e) × (x ≤ 92)
     → (i * summed d z w x ≡ i * intervalWidth e d z) × (i * summed d z w x < 2 ^ 32)
 intervals-are e d i z w x hd hi hz hw hx =
     let s : summed d z w x ≡ intervalWidth e d z = rw (hw .0, hx .0) (omega arith) in

@@ -1,4 +1,4 @@
--- `device_reader::device_of`: figures, lists and link in their places. Assumes nothing.
+-- `device_reader::device_of`: figures, lists, link and bar in their places. Assumes nothing.
 use Rattle.device_reader.proofs.HeadSteps.{device-made}
 use borrow.Author.Needs.{needs}
 use Rattle.device_reader.proofs.device_of.Statement.{statement}
@@ -16,35 +16,35 @@ starts-of-requires c κs = search needs
 energies-of-requires : tie.Need-energies-of-requires
 energies-of-requires c κs = search needs
 
-array-read-t16 : tie.Need-array-read-t16
-array-read-t16 c = search needs
+array-read-t17 : tie.Need-array-read-t17
+array-read-t17 c = search needs
 
-array-read-t19 : tie.Need-array-read-t19
-array-read-t19 c = search needs
+array-read-t20 : tie.Need-array-read-t20
+array-read-t20 c = search needs
 
-array-read-t23 : tie.Need-array-read-t23
-array-read-t23 c = search needs
+array-read-t24 : tie.Need-array-read-t24
+array-read-t24 c = search needs
 
-array-read-t26 : tie.Need-array-read-t26
-array-read-t26 c = search needs
+array-read-t27 : tie.Need-array-read-t27
+array-read-t27 c = search needs
 
-array-read-t29 : tie.Need-array-read-t29
-array-read-t29 c = search needs
+array-read-t30 : tie.Need-array-read-t30
+array-read-t30 c = search needs
 
-array-read-t32 : tie.Need-array-read-t32
-array-read-t32 c = search needs
+array-read-t33 : tie.Need-array-read-t33
+array-read-t33 c = search needs
 
-array-read-t35 : tie.Need-array-read-t35
-array-read-t35 c = search needs
+array-read-t36 : tie.Need-array-read-t36
+array-read-t36 c = search needs
 
-array-read-t38 : tie.Need-array-read-t38
-array-read-t38 c = search needs
+array-read-t39 : tie.Need-array-read-t39
+array-read-t39 c = search needs
 
-array-read-t41 : tie.Need-array-read-t41
-array-read-t41 c = search needs
+array-read-t42 : tie.Need-array-read-t42
+array-read-t42 c = search needs
 
-array-read-t45 : tie.Need-array-read-t45
-array-read-t45 c = search needs
+array-read-t46 : tie.Need-array-read-t46
+array-read-t46 c = search needs
 
 array-read-money-of : tie.Need-array-read-money-of
 array-read-money-of c = search needs
@@ -60,13 +60,14 @@ money-of-requires-2 c κs = search needs
 
 returns : tie.Need-returns
 returns c =
-    let begin : _ = c .before .before .before .before .before .before .before .before .before in
-    let limits-of : _ = c .before .before .before .before .before .limits-of in
-    let states-of : _ = c .before .before .before .before .states-of in
-    let starts-of : _ = c .before .before .before .starts-of in
-    let energies-of : _ = c .before .before .energies-of in
+    let at-energies : _ = c .before .before .before in
+    let begin : _ = at-energies .before .before .before .before .before .before .before in
+    let limits-of : _ = at-energies .before .before .before .limits-of in
+    let states-of : _ = at-energies .before .before .states-of in
+    let starts-of : _ = at-energies .before .starts-of in
+    let energies-of : _ = at-energies .energies-of in
     let a : _ = begin .args in
-    device-made (a .sides) (a .figures) (a .states) (a .starts) (a .energies) (a .link)
+    device-made (a .sides) (a .figures) (a .states) (a .starts) (a .energies) (a .linked)
     (c .before .money-of .ensures) (c .money-of2 .ensures) (limits-of .ensures) (states-of .ensures) (starts-of .ensures) (energies-of .ensures)
 
 pub device-of-spec : {M : Type 1} → statement M
@@ -77,16 +78,16 @@ device-of-spec =
     states-of-requires
     starts-of-requires
     energies-of-requires
-    array-read-t16
-    array-read-t19
-    array-read-t23
-    array-read-t26
-    array-read-t29
-    array-read-t32
-    array-read-t35
-    array-read-t38
-    array-read-t41
-    array-read-t45
+    array-read-t17
+    array-read-t20
+    array-read-t24
+    array-read-t27
+    array-read-t30
+    array-read-t33
+    array-read-t36
+    array-read-t39
+    array-read-t42
+    array-read-t46
     array-read-money-of
     money-of-requires
     array-read-money-of-2

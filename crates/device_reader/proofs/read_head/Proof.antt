@@ -3,8 +3,8 @@ use Rattle.fields.specs.Got.{went-good, went-bad}
 use Rattle.item_reader.specs.declared.Listed.the-variants.{States, Starts, Energies}
 use Rattle.device_reader.proofs.HeadSteps.{sides-natural, figures-natural, items-natural, energies-natural, windows-natural, lists-natural, rest-natural, partsIn, head-none, head-done}
 use Rattle.fields.proofs.Chains.{then-off, then-late, then-told}
-use Rattle.records.specs.Views.{linkIn}
-use Rattle.link_reader.proofs.Links.{link-natural}
+use Rattle.device_reader.specs.Parts.{linkedIn}
+use Rattle.device_reader.specs.Devices.{linked-natural}
 use borrow.Author.Needs.{needs}
 use Rattle.device_reader.proofs.read_head.Statement.{statement}
 use Rattle.device_reader.proofs.read_head.Tie as tie
@@ -135,15 +135,15 @@ returns-5 c =
     (went-good _ (at-starts .read-items2 .ensures .is) (at-energies .before .before .went4 .given .1))
     (then-off (items-natural (a .edition) (a .last) Energies) _ _ _ (went-bad _ (at-energies .read-items3 .ensures .is) (c .before .enum-told5 .given .1)))))))
 
-read-link-requires : tie.Need-read-link-requires
-read-link-requires c κs = search needs
+read-linked-requires : tie.Need-read-linked-requires
+read-linked-requires c κs = search needs
 
 device-of-requires : tie.Need-device-of-requires
 device-of-requires c κs = search needs
 
 returns-6 : tie.Need-returns-6
 returns-6 c =
-    let at-link : _ = c .before .before in
+    let at-link : _ = c .before in
     let at-energies : _ = at-link .before .before .before .before in
     let at-starts : _ = at-energies .before .before .before .before in
     let at-states : _ = at-starts .before .before .before .before in
@@ -155,8 +155,8 @@ returns-6 c =
     let states : _ = at-states .read-items .result in
     let starts : _ = at-starts .read-items2 .result in
     let energies : _ = at-energies .read-items3 .result in
-    let w : _ = at-link .read-link .result .went in
-    let l : _ = at-link .read-link .result .link in
+    let w : _ = at-link .read-linked .result .went in
+    let l : _ = at-link .read-linked .result in
     let v : _ = partsIn x f states starts energies l in
     head-done _ _ _ _ _ x f states starts energies (at-states .read-items .ensures) (at-starts .read-items2 .ensures) (at-energies .read-items3 .ensures) w l
     (then-told (sides-natural _) _ _ _ w (v .1) (rest-natural (a .edition) (a .last)) (went-good _ (at-sides .read-sides .ensures) (at-figures .before .before .went .given .1))
@@ -165,8 +165,8 @@ returns-6 c =
     (went-good _ (at-states .read-items .ensures .is) (at-starts .before .before .went3 .given .1))
     (then-told (items-natural (a .edition) (a .last) Starts) _ _ _ w (v .1 .1 .1 .1) (energies-natural (a .edition) (a .last))
     (went-good _ (at-starts .read-items2 .ensures .is) (at-energies .before .before .went4 .given .1))
-    (then-told (items-natural (a .edition) (a .last) Energies) _ _ _ w (linkIn l) (link-natural (a .edition))
-    (went-good _ (at-energies .read-items3 .ensures .is) (at-link .before .before .went5 .given .1)) (at-link .read-link .ensures))))))
+    (then-told (items-natural (a .edition) (a .last) Energies) _ _ _ w (linkedIn l) (linked-natural (a .edition))
+    (went-good _ (at-energies .read-items3 .ensures .is) (at-link .before .before .went5 .given .1)) (at-link .read-linked .ensures))))))
     (c .device-of .ensures)
 
 pub read-head-spec : {M : Type 1} → statement M
@@ -198,6 +198,6 @@ read-head-spec =
     enum-told-5
     stopped-requires-5
     returns-5
-    read-link-requires
+    read-linked-requires
     device-of-requires
     returns-6)

@@ -1,5 +1,5 @@
 -- The limits, the lists and the link are the row's; the other figures stand there by name.
-use mathlib.Core.Path.{refl}
+use Rattle.row_places.specs.Figures.{device-made}
 use borrow.Author.Needs.{needs}
 use Rattle.device_rows.proofs.device_with.Statement.{statement}
 use Rattle.device_rows.proofs.device_with.Tie as tie
@@ -55,15 +55,16 @@ energies-in-requires c κs = search needs
 link-in-requires : tie.Need-link-in-requires
 link-in-requires c κs = search needs
 
+array-read-t58 : tie.Need-array-read-t58
+array-read-t58 c = search needs
+
 returns : tie.Need-returns
-returns c = rw (
-  c .before .before .before .before .limits-in .ensures,
-  c .before .before .before .states-in .ensures,
-  c .before .before .starts-in .ensures,
-  c .before .energies-in .ensures,
-  c .link-in .ensures,
-)
-    refl
+returns c = device-made (c .before .before .before .before .before .args .t1)
+    (c .before .before .before .before .limits-in .ensures)
+    (c .before .before .before .states-in .ensures)
+    (c .before .before .starts-in .ensures)
+    (c .before .energies-in .ensures)
+    (c .link-in .ensures)
 
 pub device-with-spec : {M : Type 1} → statement M
 device-with-spec =
@@ -86,4 +87,5 @@ device-with-spec =
     starts-in-requires
     energies-in-requires
     link-in-requires
+    array-read-t58
     returns)

@@ -175,10 +175,61 @@ returns c = let earlier : _ = c .before .before .before .before .before .before 
     (c .before .before .before .before .state-figures .ensures) (c .before .before .start-figures .ensures) (c .energy-figures .ensures)
 
 pub device-row-spec : {M : Type 1} → statement M
-device-row-spec = tie.close (tie.spec narrow-requires narrow-requires-2 narrow-requires-3 narrow-requires-4 narrow-requires-5 state-figures-requires
-    start-figures-requires energy-figures-requires array-read-t21 array-read-t24 array-read-t27 array-read-t30 element-copy-out-t33 element-copy-out-t36
-    element-copy-out-t39 element-copy-out-t42 element-copy-out-t45 element-copy-out-t48 element-copy-out-t51 element-copy-out-t54 array-read-t57 array-read-t60
-    array-read-t63 array-read-t66 array-read-t69 array-read-t72 array-read-t75 array-read-t78 array-read-t81 array-read-t84 array-read-t87 array-read-t90
-    array-read-t93 array-read-t96 array-read-t99 array-read-t102 array-read-t105 array-read-t108 array-read-t111 array-read-t114 array-read-t117 array-read-t120
-    array-read-t123 array-read-t126 array-read-t129 array-read-t132 array-read-t135 array-read-t138 array-read-t141 array-read-t144 array-read-t147
-    array-read-t150 array-read-t153 array-read-t156 returns)
+device-row-spec =
+    tie.close
+    (tie.spec
+    narrow-requires
+    narrow-requires-2
+    narrow-requires-3
+    narrow-requires-4
+    narrow-requires-5
+    state-figures-requires
+    start-figures-requires
+    energy-figures-requires
+    array-read-t21
+    array-read-t24
+    array-read-t27
+    array-read-t30
+    element-copy-out-t33
+    element-copy-out-t36
+    element-copy-out-t39
+    element-copy-out-t42
+    element-copy-out-t45
+    element-copy-out-t48
+    element-copy-out-t51
+    element-copy-out-t54
+    array-read-t57
+    array-read-t60
+    array-read-t63
+    array-read-t66
+    array-read-t69
+    array-read-t72
+    array-read-t75
+    array-read-t78
+    array-read-t81
+    array-read-t84
+    array-read-t87
+    array-read-t90
+    array-read-t93
+    array-read-t96
+    array-read-t99
+    array-read-t102
+    array-read-t105
+    array-read-t108
+    array-read-t111
+    array-read-t114
+    array-read-t117
+    array-read-t120
+    array-read-t123
+    array-read-t126
+    array-read-t129
+    array-read-t132
+    array-read-t135
+    array-read-t138
+    array-read-t141
+    array-read-t144
+    array-read-t147
+    array-read-t150
+    array-read-t153
+    array-read-t156
+    returns)

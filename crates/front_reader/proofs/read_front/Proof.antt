@@ -28,7 +28,7 @@ returns c =
     let start : _ = c .before .before .before .before .before .before in
     let a : _ = start .args in
     let l = largest (a .most-devices) (a .most-intervals) in
-    front-no-edition l (a .s .now) (read-edition .ensures) _ _ (enum-told .given .1) (place-of .ensures) (no-front .ensures)
+    front-no-edition l (a .s .now) (read-edition .ensures) _ _ _ (enum-told .given .1) (place-of .ensures) (no-front .ensures)
 
 read-counts-requires : tie.Need-read-counts-requires
 read-counts-requires c κs = search needs
@@ -53,25 +53,13 @@ returns-2 c =
     let a : _ = start .args in
     let l = largest (a .most-devices) (a .most-intervals) in
     let counts : _ = read-counts .result .counts in
-    front-no-counts l (a .s .now) (read-edition .ensures) (first .given .1) counts (read-counts .ensures) _ _ (enum-told2 .given .1) (no-front2 .ensures)
+    front-no-counts l (a .s .now) (read-edition .ensures) (first .given .1) counts (read-counts .ensures) _ _ _ (enum-told2 .given .1) (no-front2 .ensures)
 
-read-prices-requires : tie.Need-read-prices-requires
-read-prices-requires c κs = search needs
+read-figures-requires : tie.Need-read-figures-requires
+read-figures-requires c κs = search needs
 
 returns-3 : tie.Need-returns-3
-returns-3 c =
-    let read-prices : _ = c .read-prices in
-    let went : _ = c .before .before .before .went in
-    let read-counts : _ = c .before .before .before .before .before .read-counts in
-    let first : _ = c .before .before .before .before .before .before .before .first in
-    let read-edition : _ = c .before .before .before .before .before .before .before .before .before .read-edition in
-    let b₁ : _ = c .before .before .before .before .before .before .before .before in
-    let start : _ = b₁ .before .before .before in
-    let a : _ = start .args in
-    let l = largest (a .most-devices) (a .most-intervals) in
-    let r : _ = read-prices .result in
-    front-done l (a .s .now) (read-edition .ensures) (first .given .1) (read-counts .result .counts) (read-counts .ensures) (r .front) (r .went)
-    (went .given .1) (read-prices .ensures)
+returns-3 c = search front-done
 
 pub read-front-spec : {M : Type 1} → statement M
 read-front-spec =
@@ -88,5 +76,5 @@ read-front-spec =
     enum-told-2
     no-front-requires-2
     returns-2
-    read-prices-requires
+    read-figures-requires
     returns-3)

@@ -10,11 +10,11 @@ slice-aggregate-read-list c = search needs
 read-list-requires : tie.Need-read-list-requires
 read-list-requires c κs = search needs
 
-array-read-t12 : tie.Need-array-read-t12
-array-read-t12 c = search needs
+array-read-t11 : tie.Need-array-read-t11
+array-read-t11 c = search needs
 
-array-read-t15 : tie.Need-array-read-t15
-array-read-t15 c = search needs
+array-read-t14 : tie.Need-array-read-t14
+array-read-t14 c = search needs
 
 returns : tie.Need-returns
 returns c =
@@ -23,8 +23,9 @@ returns c =
     record {
       is = prices-told (start .args .s .now) (start .args .p) (read-list .result) (read-list .last .1 .1 .1 .1 .1 .1 .0) (search needs) (read-list .ensures);
       edition-is = refl;
-      counts-are = refl;
     }
 
 pub read-prices-spec : {M : Type 1} → statement M
-read-prices-spec = tie.close (tie.spec slice-aggregate-read-list read-list-requires array-read-t12 array-read-t15 returns)
+read-prices-spec =
+    tie.close
+    (tie.spec slice-aggregate-read-list read-list-requires array-read-t11 array-read-t14 returns)

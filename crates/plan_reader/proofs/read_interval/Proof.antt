@@ -1,83 +1,81 @@
--- The loop's invariant: the first i devices' settings of interval t stand in their rows, k is the row of the next, and rows of other intervals are as they were.
-use Prim.Native.Nat.{_-_}
-use native.Mathlib.Omega.{arith}
-use Rattle.plan_reader.proofs.Turns.{Filling, filling-none, filling-fits, filling-more, filling-off, filling-done, next-small}
+-- The settings, then the flow into the first device's row.
+use Rattle.plan_reader.proofs.Turns.{interval-off, flow-off, flow-fits, flow-done}
 use borrow.Author.Needs.{needs}
 use Rattle.plan_reader.proofs.read_interval.Statement.{statement}
 use Rattle.plan_reader.proofs.read_interval.Tie as tie
 
-abbrev Inv-loop : tie.InvT-loop
-Inv-loop s edition devices intervals t settings₀ q₀ k₀ i₀ settings q k i = Filling edition devices intervals t s q₀ settings₀ i k settings q
+read-settings-requires : tie.Need-read-settings-requires
+read-settings-requires c κs = search needs
 
-abbrev μ-loop : tie.MeasureT-loop
-μ-loop s edition devices intervals t settings₀ q₀ k₀ i₀ settings q k i = devices - i
-
-loop-holds : tie.Need-loop-holds Inv-loop μ-loop
-loop-holds c = filling-none (c .before .pre .0 .full)
-
-read-setting-requires : tie.Need-read-setting-requires Inv-loop μ-loop
-read-setting-requires c κs = search needs
-
-enum-known-went : tie.Need-enum-known-went Inv-loop μ-loop
+enum-known-went : tie.Need-enum-known-went
 enum-known-went c = search needs
 
-enum-told : tie.Need-enum-told Inv-loop μ-loop
+enum-told : tie.Need-enum-told
 enum-told c = search needs
 
-same-length : tie.Need-same-length Inv-loop μ-loop
+same-length : tie.Need-same-length
 same-length c = search needs
 
-returns : tie.Need-returns Inv-loop μ-loop
+returns : tie.Need-returns
 returns c =
-    let r = c .before .before .read-setting in
-    let b = c .before .before .before .before in
-    filling-off (b .loop .inv) (search needs) (b .before .before .pre .1) (r .result .setting) (r .ensures) (c .enum-told .given .1)
+    let b = c .before .before .before in
+    let a = b .before .before .before in
+    interval-off (a .pre .0) (a .pre .1) (b .read-settings .ensures) (c .enum-told .given .1)
 
-put-setting-requires : tie.Need-put-setting-requires Inv-loop μ-loop
-put-setting-requires c κs =
-    let b = c .before .before .before .before .before .before .before in
-    filling-fits (b .loop .inv) (search needs) (b .before .before .pre .1)
+read-flow-requires : tie.Need-read-flow-requires
+read-flow-requires c κs = search needs
 
-add-k : tie.Need-add-k Inv-loop μ-loop
-add-k c =
-    let b = c .before .before .before .before .before .before .before .before .before in
-    omega (arith, next-small (b .before .before .pre .0) (b .loop .inv) (search needs) (b .before .before .pre .1))
+enum-known-read : tie.Need-enum-known-read
+enum-known-read c = search needs
 
-add-i : tie.Need-add-i Inv-loop μ-loop
-add-i c = search needs
+enum-told-2 : tie.Need-enum-told-2
+enum-told-2 c = search needs
 
-loop-less : tie.Need-loop-less Inv-loop μ-loop
-loop-less c = search needs
+place-of-requires : tie.Need-place-of-requires
+place-of-requires c κs = search needs
 
-loop-again : tie.Need-loop-again Inv-loop μ-loop
-loop-again c =
-    let m = c .before .before .before .before .before in
-    let r = m .before .before .read-setting in
-    let b = m .before .before .before .before in
-    filling-more (b .loop .inv) (search needs) (b .before .before .pre .1) (r .result .setting) (r .ensures) (m .went .given .1) (c .before .put-setting .ensures)
-
-same-length-2 : tie.Need-same-length-2 Inv-loop μ-loop
+same-length-2 : tie.Need-same-length-2
 same-length-2 c = search needs
 
-returns-2 : tie.Need-returns-2 Inv-loop μ-loop
-returns-2 c = filling-done (c .before .loop .inv) (search needs)
+returns-2 : tie.Need-returns-2
+returns-2 c =
+    let w = c .before .before .before .before .before in
+    let r = w .before .before .before in
+    let a = r .before .before .before in
+    flow-off (a .pre .0) (a .pre .1) (r .read-settings .ensures) (w .went .given .1) _ (c .before .before .before .read-flow .ensures) (c .before .enum-told2 .given .1) (c .place-of .ensures)
+
+put-flow-requires : tie.Need-put-flow-requires
+put-flow-requires c κs =
+    let w = c .before .before .before .before .before .before in
+    let a = w .before .before .before .before .before .before in
+    flow-fits (a .pre .0) (a .pre .1) (search needs)
+
+same-length-3 : tie.Need-same-length-3
+same-length-3 c = search needs
+
+returns-3 : tie.Need-returns-3
+returns-3 c =
+    let g = c .before .before .before .before in
+    let w = g .before .before .before .before in
+    let r = w .before .before .before in
+    let a = r .before .before .before in
+    flow-done (a .pre .0) (a .pre .1) (r .read-settings .ensures) (w .went .given .1) _ (g .before .before .read-flow .ensures) (g .read .given .1) (search needs) (c .before .put-flow .ensures)
 
 pub read-interval-spec : {M : Type 1} → statement M
 read-interval-spec =
     tie.close
     (tie.spec
-    Inv-loop
-    μ-loop
-    loop-holds
-    read-setting-requires
+    read-settings-requires
     enum-known-went
     enum-told
     same-length
     returns
-    put-setting-requires
-    add-k
-    add-i
-    loop-less
-    loop-again
+    read-flow-requires
+    enum-known-read
+    enum-told-2
+    place-of-requires
     same-length-2
-    returns-2)
+    returns-2
+    put-flow-requires
+    same-length-3
+    returns-3)

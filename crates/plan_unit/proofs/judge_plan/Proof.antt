@@ -1,11 +1,11 @@
 -- A plan that fails reading is refused; else its rows are judged.
-use Rattle.plan_unit.specs.Read.{planned-of, plan-fails, plan-passes}
+use Rattle.plan_unit.specs.Read.{plan-room, planned-of, plan-fails, plan-passes}
 use borrow.Author.Needs.{needs}
 use Rattle.plan_unit.proofs.judge_plan.Statement.{statement}
 use Rattle.plan_unit.proofs.judge_plan.Tie as tie
 
 read-plan-requires : tie.Need-read-plan-requires
-read-plan-requires c κs = search needs
+read-plan-requires c κs = let entry : _ = c .before .before .before .before .before .before in plan-room (entry .pre .0) (entry .pre .1)
 
 enum-known-f : tie.Need-enum-known-f
 enum-known-f c = search needs

@@ -3,7 +3,8 @@ use native.Mathlib.Omega.{arith}
 use Rattle.model.specs.Case.{noReactiveReserves}
 use Rattle.model.specs.ByEdition.{reactiveChoice}
 use Rattle.pen.specs.Pens.{pushes-then}
-use Rattle.reactive_writer.specs.Reactive.{twoOf, since-none, since-all, since-wide, two-is}
+use Rattle.completion_writer.specs.Bars.{since-none, since-all, since-wide}
+use Rattle.reactive_writer.specs.Reactive.{twoOf, two-is}
 use borrow.Author.Needs.{needs}
 use Rattle.reactive_writer.proofs.put_reactive_shortfalls.Statement.{statement}
 use Rattle.reactive_writer.proofs.put_reactive_shortfalls.Tie as tie
