@@ -1,4 +1,5 @@
 pub mod Vectors
+pub mod Day
 pub mod Lists
 pub mod Reactive
 pub mod Editions
