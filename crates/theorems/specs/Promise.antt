@@ -43,6 +43,8 @@ use Rattle.ranges.specs.Ranges.{PricesRange, KindsRange, DevicePriceRange, Cell
 use Rattle.theorems.specs.Sizes.{PriceRange, mostPrice, mostShortfallPrice, mostChange, mostBlocks, surplusLimit, fits, surplus-size, device-at, floored}
 use Rattle.numbers.specs.Every.{all-or}
 use Rattle.theorems.specs.Theorem.{Right, right-verdict, apart}
+use Rattle.theorems.specs.OfEdition.{RightOf, right-of}
+use Rattle.theorems.specs.Chosen.{Holds, holds-ours}
 
 -- ---- prices by index
 
@@ -246,6 +248,8 @@ planOf x = B.planLayout (x .edition) (devices (x .case .system)) (intervals (x .
 pub record Wrote (x : Stated) (p : Plan) (z : ℤ) (before after : List ℕ) : Type 0 where
   pub reads : readWhole (completionIn (x .edition) (x .case .system)) (take (length (completionBytes x p)) after) ≡ passes (written (x .case .system) (ours (x .case) p) z)
   pub bytes : take (length (completionBytes x p)) after ≡ completionBytes x p
+  -- "the completion written meets every rule, has exactly the surplus reported": taken from these bytes, field by field
+  pub holds : Holds x p z (take (length (completionBytes x p)) after)
   pub rest : drop (length (completionBytes x p)) after ≡ drop (length (completionBytes x p)) before
   pub size : natAbs z < surplusLimit
 
@@ -260,6 +264,7 @@ pub record PlanPromise (x : Stated) (ps before : List ℕ) (j : Judged) : Type 0
   pub plan-refused : (f : Fault) → readPlan x ps ≡ fails f → RefusedBy (planOf x) ps S.Plan f before j
   pub judges : (p : Plan) → readPlan x ps ≡ passes p → j .verdict ≡ verdict x p (length before)
   pub right : (p : Plan) → readPlan x ps ≡ passes p → Right x p (length before) (j .verdict)
+  pub right-of : (p : Plan) → readPlan x ps ≡ passes p → RightOf x p (j .verdict)
   pub wrote : (p : Plan) (z : ℤ) → readPlan x ps ≡ passes p → j .verdict ≡ Accepted z → Wrote x p z before (j .result)
   pub broken-untouched : (b : Breach) → j .verdict ≡ Broken b → j .result ≡ before
   pub refused-untouched : (s : Subject) (f : Fault) → j .verdict ≡ Refused s f → j .result ≡ before
@@ -302,24 +307,32 @@ module _ (x : Stated) (ps : List ℕ) (p : Plan) (g : Sound x) (rp : readPlan x 
   right : Right x p room (verdict x p room)
   right = right-verdict x p (floored (c .system) p (g .range .system) plan-in) room
 
+  lacking : Lacks (x .edition) (c .system) p
+  lacking = record {
+    plain = λ h. (g .plain h, planned-plain (x .edition) h (c .system) ps p rp);
+    barless = λ h. (g .barless h, planned-barless (x .edition) h (c .system) ps p rp);
+  }
+
+  right-by : RightOf x p (verdict x p room)
+  right-by = right-of x p (floored (c .system) p (g .range .system) plan-in) lacking room
+
   -- the bytes of an acceptance read back as our completion
   our-bytes : (z : ℤ) → verdict x p room ≡ Accepted z → readWhole (completionIn (x .edition) (c .system)) (completionBytes x p) ≡ passes (written (c .system) (ours c p) (ourSurplus c p))
   unfolding completionBytes
   our-bytes z e = our-back c p (g .range) plan-in (right .meets z e .rules) (x .edition)
-      (record {
-        plain = λ h. (g .plain h, planned-plain (x .edition) h (c .system) ps p rp);
-        barless = λ h. (g .barless h, planned-barless (x .edition) h (c .system) ps p rp);
-      })
-      (g .countable)
+      lacking (g .countable)
 
   wrote-by : (z : ℤ) (before after : List ℕ) → verdict x p room ≡ Accepted z → after ≡ completionBytes x p ++ drop (length (completionBytes x p)) before → Wrote x p z before after
   unfolding ourSurplus
   wrote-by z before after e h =
       let v = right in
       let t : take (length (completionBytes x p)) after ≡ completionBytes x p = ap (take (length (completionBytes x p))) h ∙ take-at (completionBytes x p) _ _ refl in
+      let r : readWhole (completionIn (x .edition) (c .system)) (take (length (completionBytes x p)) after) ≡ passes (written (c .system) (ours c p) z) =
+      ap (readWhole (completionIn (x .edition) (c .system))) t ∙ our-bytes z e ∙ ap (λ (y : ℤ). passes (written (c .system) (ours c p) y)) (v .surplus z e) in
       record {
-        reads = ap (readWhole (completionIn (x .edition) (c .system))) t ∙ our-bytes z e ∙ ap (λ (y : ℤ). passes (written (c .system) (ours c p) y)) (v .surplus z e);
+        reads = r;
         bytes = t;
+        holds = holds-ours x p z _ r (v .meets z e) (v .surplus z e);
         rest = ap (drop (length (completionBytes x p))) h ∙ drop-at (completionBytes x p) _ _ refl;
         size = rw (sym (v .surplus z e)) (small-surplus c p (g .range) plan-in (v .meets z e .rules));
       }
@@ -354,6 +367,7 @@ plan-promised x g ps before = record {
   plan-refused = λ f e. record { verdict = rw e refl; number = plan-tells x ps f e; untouched = rw e refl };
   judges = λ p e. rw e (judged-verdict x p before);
   right = λ p e. rw (e, judged-verdict x p before) (right x ps p g e (length before));
+  right-of = λ p e. rw (e, judged-verdict x p before) (right-by x ps p g e (length before));
   wrote = λ p z e a.
       let j : withPlan x before (readPlan x ps) ≡ judged x p before = rw e refl in
       let v : judged x p before .verdict ≡ Accepted z = ap (λ (j : Judged). j .verdict) (sym j) ∙ a in
@@ -364,7 +378,7 @@ plan-promised x g ps before = record {
 
 -- any reader that takes no more than the most
 module _ (l : Largest) (most : l .devices ≤ mostDevices) (long : l .intervals ≤ mostIntervals) where
-  case-tells : (cs : List ℕ) (f : Fault) → statedIn l cs ≡ fails f → Tells (B.caseLayout l) cs f
+  pub case-tells : (cs : List ℕ) (f : Fault) → statedIn l cs ≡ fails f → Tells (B.caseLayout l) cs f
   unfolding statedIn
   case-tells cs f e = fails-tells (B.caseLayout l) Any (sure-checked _ _ (stated-sure l most long)) cs f e
 

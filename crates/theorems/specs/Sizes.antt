@@ -32,7 +32,7 @@ use Rattle.numbers.specs.Every.{all-at, all-or, all-getD, all-gather, length-ra
 use Rattle.numbers.specs.Gather.{gather-counted}
 use Rattle.numbers.specs.Ranges.{sum-few}
 use Rattle.theorems.specs.Best.{above-cap}
-use Rattle.model.specs.Editions.{mostDevices, mostIntervals, mostZones, mostStates, mostWindows}
+use Rattle.model.specs.Editions.{smallWidths, mostDevices, mostIntervals, mostZones, mostStates, mostWindows}
 use Rattle.model.specs.Judgement.{written, countsOf, energyWindows, ourSurplus}
 use Rattle.layouts.specs.Trip.{Fits}
 use Rattle.theorems.specs.Back.{FitsSix, FitsTwo, FitsKinds, FitsDevice, FitsBars, FitsInterval, FitsWritten}
@@ -172,6 +172,9 @@ surplusLimit = 10 ^ 18
 -- "over any device and interval count up to these": 7.7·10^17 at 64 and 96; 3.61·10^17 at 16 and 48
 pub most-surplus : mostSurplus mostDevices mostIntervals < surplusLimit
 most-surplus = omega arith
+
+most-small-surplus : mostSurplus (smallWidths .deviceLimit) (smallWidths .intervalLimit) < surplusLimit
+most-small-surplus = omega arith
 
 -- one of u and 1 − u is 0
 shared : (m v a b : ℕ) → v ≤ 1 → a ≤ m * v → b ≤ m * (1 - v) → a + b ≤ m
@@ -654,6 +657,10 @@ module _ (c : Case) (p : Plan) (rq : SystemRange (c .system)) (rp : PlanRange (c
     pub surplus-within : natAbs (ourSurplus c p) ≤ mostSurplus N T
     unfolding ourSurplus C.surplusOf
     surplus-within = bound-sub (C.realSurplus c p our) (C.reactiveCosts c p our) (mostRealSurplus N T) (mostReactiveCosts N T) real-size reactive-size
+
+  -- "the small editions being instances": at 16 devices and 48 intervals
+  pub small-surplus-size : devices sys ≤ smallWidths .deviceLimit → intervals sys ≤ smallWidths .intervalLimit → natAbs (ourSurplus c p) < surplusLimit
+  small-surplus-size few short = omega (arith, surplus-within (smallWidths .deviceLimit) (smallWidths .intervalLimit) few short, most-small-surplus)
 
   pub surplus-size : natAbs (ourSurplus c p) < surplusLimit
   surplus-size = omega (arith, surplus-within mostDevices mostIntervals (rq .devices) (rq .intervals), most-surplus)
