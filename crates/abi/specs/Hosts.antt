@@ -4,17 +4,14 @@ use mathlib.Core.List.{List, _++_}
 use Prim.Native.Nat.{ℕ, _≤_, _<_}
 use native.Mathlib.Omega.{arith}
 use lib.ListN.{length, drop}
-use Rattle.layouts.specs.declared.Framed.{Framed}
-use Rattle.layouts.specs.Split.{Splits}
 use Rattle.model.specs.declared.Verdict.{Verdict}
 use Rattle.model.specs.declared.Listing.{Listing}
 use Rattle.model.specs.Editions.{host}
-use Rattle.model.specs.ByEdition.{statedIn}
 use Rattle.tellings.specs.declared.Told.{Told}
-use Rattle.plan_unit.specs.declared.Inspected.{Inspected}
+use Rattle.model.specs.declared.Inspected.{Inspected}
 use Rattle.plan_unit.specs.Judges.{Judges}
-use Rattle.plan_unit.specs.Inspection.{inspectedOf}
-use Rattle.tellings.specs.Told.{toldOf, toldCase, toldList, toldFrame, figuresOf}
+use Rattle.case_inspection.specs.Inspection.{Inspects}
+use Rattle.tellings.specs.Told.{toldOf, toldCase, toldList, figuresOf}
 use Rattle.breach_unit.specs.Breaches.{ListsBreaches}
 
 -- four numbers stored at the front of a lent slice; nothing is done, and 5 is answered, where it has fewer places
@@ -24,19 +21,11 @@ pub record HostJudges (cs ps before after figures told : List ℕ) (r : ℕ) : T
 
 pub record HostInspects (cs figures told : List ℕ) (r : ℕ) : Type 0 where
   pub short : length figures < 4 → (r ≡ 5) × (told ≡ figures)
-  pub inspects : 4 ≤ length figures → (r ≡ toldCase (inspectedOf (statedIn host cs)) .word) × (told ≡ figuresOf (toldCase (inspectedOf (statedIn host cs))) ++ drop 4 figures)
+  pub inspects : 4 ≤ length figures → (x : Inspected) × Inspects host cs x × (r ≡ toldCase x .word) × (told ≡ figuresOf (toldCase x) ++ drop 4 figures)
 
 pub record HostLists (cs ps before after figures told : List ℕ) (r : ℕ) : Type 0 where
   pub short : length figures < 4 → (r ≡ 5) × (after ≡ before) × (told ≡ figures)
   pub lists : 4 ≤ length figures → (x : Listing) × ListsBreaches host cs ps before after x × (r ≡ toldList x .word) × (told ≡ figuresOf (toldList x) ++ drop 4 figures)
-
--- "The host splitter's length limit is 1,048,576"
-abbrev pub hostLimit : ℕ
-hostLimit = 1048576
-
-pub record HostSplits (s : List ℕ) (at : ℕ) (figures told : List ℕ) (r : ℕ) : Type 0 where
-  pub short : length figures < 4 → (r ≡ 5) × (told ≡ figures)
-  pub splits : 4 ≤ length figures → (x : Framed) × Splits hostLimit s at x × (r ≡ toldFrame x .word) × (told ≡ figuresOf (toldFrame x) ++ drop 4 figures)
 
 -- ---- from what the code answers
 
@@ -66,22 +55,9 @@ module _ (cs figures : List ℕ) where
   pub inspects-short : length figures < 4 → HostInspects cs figures figures 5
   inspects-short h = record { short = λ _. (refl, refl); inspects = λ k. absurd (omega (arith, h, k)) }
 
-  pub inspects-told : {told : List ℕ} {t : Told} {x : Inspected} → 4 ≤ length figures → x ≡ inspectedOf (statedIn host cs) → t ≡ toldCase x
+  pub inspects-told : {told : List ℕ} {t : Told} (x : Inspected) → 4 ≤ length figures → Inspects host cs x → t ≡ toldCase x
       → told ≡ figuresOf t ++ drop 4 figures → HostInspects cs figures told (t .word)
-  inspects-told {told} {t} {x} h i e f =
-      let g : t ≡ toldCase (inspectedOf (statedIn host cs)) = e ∙ ap toldCase i in
-      record {
-        short = λ k. absurd (omega (arith, h, k));
-        inspects = λ _. (ap (λ (y : Told). y .word) g, f ∙ ap (λ (y : Told). figuresOf y ++ drop 4 figures) g);
-      }
-
-module _ (s : List ℕ) (at : ℕ) (figures : List ℕ) where
-  pub splits-short : length figures < 4 → HostSplits s at figures figures 5
-  splits-short h = record { short = λ _. (refl, refl); splits = λ k. absurd (omega (arith, h, k)) }
-
-  pub splits-told : {told : List ℕ} {t : Told} (x : Framed) → 4 ≤ length figures → Splits hostLimit s at x → t ≡ toldFrame x
-      → told ≡ figuresOf t ++ drop 4 figures → HostSplits s at figures told (t .word)
-  splits-told x h j e f = record {
+  inspects-told x h i e f = record {
     short = λ k. absurd (omega (arith, h, k));
-    splits = λ _. (x, j, ap (λ (y : Told). y .word) e, f ∙ ap (λ (y : Told). figuresOf y ++ drop 4 figures) e);
+    inspects = λ _. (x, i, ap (λ (y : Told). y .word) e, f ∙ ap (λ (y : Told). figuresOf y ++ drop 4 figures) e);
   }

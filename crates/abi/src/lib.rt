@@ -1,10 +1,11 @@
 // The judgement for hosts in other languages: a word and four numbers.
+use tellings::split;
 use tellings::store;
 use tellings::tell;
 use tellings::tell_case;
-use tellings::tell_frame;
 use tellings::tell_list;
-ghost use Rattle.abi.specs.Hosts.{HostJudges, HostInspects, HostLists, HostSplits};
+ghost use Rattle.abi.specs.Hosts.{HostJudges, HostInspects, HostLists};
+ghost use Rattle.tellings.specs.Splitting.{HostSplits};
 
 // `judge` for hosts: the word and the figures of the verdict; 5, with nothing done, where `figures` has fewer than four places.
 #[no_mangle]
@@ -34,7 +35,7 @@ pub extern "C" fn kadunfo_inspect(case: &[u8], figures: &mut [u64]) -> u64
     if figures.len() < 4 {
         return 5;
     }
-    let x = plan_unit::inspect(case);
+    let x = case_inspection::inspect(case);
     let t = tell_case(x);
     let word = t.word;
     store(figures, t);
@@ -61,21 +62,11 @@ pub extern "C" fn kadunfo_breaches(
     word
 }
 
-// The most bytes of a message that a host's splitter takes.
-const LONGEST: u64 = 1048576;
-
 // The splitter for hosts: 0 and where the message behind the length at byte `at` stands, 1 at the end, or 2 and the refusal; 5, with nothing done, where
 // `figures` has fewer than four places.
 #[no_mangle]
 pub extern "C" fn kadunfo_split(batch: &[u8], at: usize, figures: &mut [u64]) -> u64
     ensures { λ r. ⌜ HostSplits (now (batch .entry)) at (now (figures .entry)) (now (figures .exit)) r ⌝ }
 {
-    if figures.len() < 4 {
-        return 5;
-    }
-    let x = layouts::frame_at(batch, at, LONGEST);
-    let t = tell_frame(x);
-    let word = t.word;
-    store(figures, t);
-    word
+    split(batch, at, figures)
 }

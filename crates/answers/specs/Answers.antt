@@ -16,7 +16,7 @@ use Rattle.model.specs.ByEdition.{Stated, statedIn}
 use Rattle.model.specs.Forced.{intervals, devices, zones}
 use Rattle.model.specs.Judgement.{readPlan, withPlan}
 use Rattle.layouts.specs.Layout.{Whole, passes, fails}
-use Rattle.plan_unit.specs.Decoded.{statedFirst, DecodedFirst}
+use Rattle.decoded_cases.specs.Decoded.{statedFirst, DecodedFirst}
 use Rattle.wording.specs.Text.{texts}
 use Rattle.wording.specs.Writes.{Writes}
 use Rattle.frames.specs.Frames.{framed}

@@ -23,14 +23,15 @@ use Rattle.layouts.specs.Layout.{passes}
 use Rattle.row_places.specs.declared.Front.{Front}
 use Rattle.row_places.specs.declared.Counts.{Counts}
 use Rattle.records.specs.Viewed.{devices-are, intervals-are}
-use Rattle.fields.specs.declared.Ending.{Ending}
-use Rattle.fields.specs.declared.Ending.the-variants.{Passes, Fails}
-use Rattle.fields.specs.Ended.{ended}
+use Rattle.message_ends.specs.declared.Ending.{Ending}
+use Rattle.message_ends.specs.declared.Ending.the-variants.{Passes, Fails}
+use Rattle.message_ends.specs.Ended.{ended}
 use Rattle.case_reader.specs.Whole.{CaseDone}
-use Rattle.plan_unit.specs.Inspection.{inspectedOf}
-use Rattle.plan_unit.specs.Judges.{JudgesPlan}
-use Rattle.plan_unit.specs.Decoded.{Decoded, statedRows, statedFirst}
-use Rattle.plan_unit.specs.Read.{inspect-passes, decoded-first}
+use Rattle.case_inspection.specs.Inspection.{inspectedOf}
+use Rattle.plan_judgement.specs.JudgesPlan.{JudgesPlan}
+use Rattle.decoded_cases.specs.Decoded.{Decoded, statedRows, statedFirst}
+use Rattle.decoded_cases.specs.Cases.{decoded-first}
+use Rattle.case_inspection.specs.Steps.{inspect-passes}
 use Rattle.wording.specs.Text.{text, texts}
 use Rattle.wording.specs.Writes.{Writes}
 use Rattle.wording.specs.Lines.{no-line, one-line}

@@ -1,8 +1,8 @@
 // The batch program's answers on slices: to a frame, which is a message behind its length as far as the batch goes, its lines as text and how the batch goes on.
+use case_inspection::ZONES;
 use frames::LIMIT;
 use layouts::Framed;
 use model::Verdict;
-use plan_unit::ZONES;
 use row_places::CellRow;
 use row_places::Counts;
 use row_places::DeviceRow;
@@ -15,7 +15,7 @@ ghost use Prim.Native.Nat.{_≤_};
 ghost use lib.ListN.{length};
 ghost use Rattle.model.specs.Editions.{batch};
 ghost use Rattle.case_reader.specs.Whole.{CaseRoom};
-ghost use Rattle.plan_unit.specs.Decoded.{Decoded, Work, statedRows};
+ghost use Rattle.decoded_cases.specs.Decoded.{Decoded, Work, statedRows};
 ghost use Rattle.wording.specs.Writes.{lineRoom};
 ghost use Rattle.answers.specs.Answers.{accepts, AnswersCase, AnswersPlan};
 ghost use Rattle.answers.specs.Room.{resultRoom};
@@ -132,7 +132,7 @@ pub fn answer_plan(
         }
         Framed::Message(_, _) => {
             let message = layouts::message_at(frame, 0, LIMIT);
-            let v = plan_unit::judge_plan(
+            let v = plan_judgement::judge_plan(
                 front,
                 halves,
                 zones,

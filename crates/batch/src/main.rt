@@ -4,7 +4,7 @@ use answers::DEVICES;
 use answers::INTERVALS;
 use answers::MINIMA;
 use answers::TIMES;
-use plan_unit::ZONES;
+use case_inspection::ZONES;
 use row_places::CellRow;
 use row_places::DeviceRow;
 use row_places::Front;
@@ -15,7 +15,7 @@ ghost use mathlib.Core.Path.{_≡_};
 ghost use Prim.Native.Nat.{_^_, _≤_, _<_};
 ghost use lib.ListN.{length};
 ghost use Rattle.model.specs.Editions.{batch};
-ghost use Rattle.plan_unit.specs.Decoded.{Decoded, Work};
+ghost use Rattle.decoded_cases.specs.Decoded.{Decoded, Work};
 ghost use Rattle.frames.specs.Frames.{frameRoom};
 
 // The most bytes of a batch: no machine holds more.

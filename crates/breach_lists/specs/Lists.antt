@@ -19,7 +19,7 @@ use Rattle.row_places.specs.declared.Front.{Front}
 use Rattle.records.specs.Views.{systemIn, planIn}
 use Rattle.breach_entries.specs.Noted.{list-long, noted-all}
 use Rattle.breach_notes.specs.Day.{NotesAll}
-use Rattle.plan_unit.specs.Decoded.{statedRows}
+use Rattle.decoded_cases.specs.Decoded.{statedRows}
 
 module _ (front : Front) (halves : List ℕ) (zones minima devices cells settings : List (List ℕ)) where
   abbrev x : Stated

@@ -12,14 +12,14 @@ use Rattle.model.specs.Case.{Plan}
 use Rattle.model.specs.ByEdition.{Stated}
 use Rattle.model.specs.Judgement.{readPlan}
 use Rattle.model.specs.Lists.{Listings, listPlan}
-use Rattle.fields.specs.Ended.{ended}
-use Rattle.fields.specs.declared.Ending.{Ending}
-use Rattle.fields.specs.declared.Ending.the-variants.{Passes, Fails}
+use Rattle.message_ends.specs.Ended.{ended}
+use Rattle.message_ends.specs.declared.Ending.{Ending}
+use Rattle.message_ends.specs.declared.Ending.the-variants.{Passes, Fails}
 use Rattle.row_places.specs.declared.Front.{Front}
 use Rattle.records.specs.Views.{planIn}
 use Rattle.plan_header.specs.Plans.{PlanDone}
-use Rattle.plan_unit.specs.Decoded.{Decoded, statedRows, sound-rows}
-use Rattle.plan_unit.specs.Read.{plan-read}
+use Rattle.decoded_cases.specs.Decoded.{Decoded, statedRows, sound-rows}
+use Rattle.decoded_cases.specs.Plans.{plan-read}
 use Rattle.listings.specs.Promise.{PlanListed, plan-listed}
 use Rattle.breach_lists.specs.Lists.{ListsRows}
 

@@ -1,6 +1,6 @@
 // Every broken rule of a plan in a lent list, against a decoded case: of a decoded plan, and of a plan's bytes for a stack of plans.
-use fields::Ending;
 use layouts::Fault;
+use message_ends::Ending;
 use model::Listing;
 use model::Subject;
 use row_places::CellRow;
@@ -10,7 +10,7 @@ use row_places::MinimaRow;
 use row_places::SettingRow;
 use row_places::ZoneRow;
 ghost use Rattle.records.specs.Views.{Ready};
-ghost use Rattle.plan_unit.specs.Decoded.{Decoded, Planned, Work};
+ghost use Rattle.decoded_cases.specs.Decoded.{Decoded, Planned, Work};
 ghost use Rattle.breach_lists.specs.Lists.{ListsRows};
 ghost use Rattle.breach_lists.specs.Plans.{ListsPlan};
 

@@ -12,13 +12,13 @@ use Rattle.model.specs.Editions.{Largest, mostDevices, mostIntervals}
 use Rattle.model.specs.ByEdition.{Stated, statedIn}
 use Rattle.model.specs.Judgement.{readPlan}
 use Rattle.model.specs.Lists.{Listings, listPlan, listings}
-use Rattle.fields.specs.declared.Ending.{Ending}
-use Rattle.fields.specs.declared.Ending.the-variants.{Passes, Fails}
+use Rattle.message_ends.specs.declared.Ending.{Ending}
+use Rattle.message_ends.specs.declared.Ending.the-variants.{Passes, Fails}
 use Rattle.row_places.specs.declared.Front.{Front}
 use Rattle.row_places.specs.declared.Counts.{Counts}
 use Rattle.case_reader.specs.Whole.{CaseDone}
-use Rattle.plan_unit.specs.Decoded.{statedFirst}
-use Rattle.plan_unit.specs.Read.{passed, failed}
+use Rattle.decoded_cases.specs.Decoded.{statedFirst}
+use Rattle.decoded_cases.specs.Cases.{passed, failed}
 use Rattle.listings.specs.Promise.{CaseListed, case-listed}
 use Rattle.breach_lists.specs.Plans.{same-listing}
 

@@ -1,13 +1,13 @@
 // Every broken rule of a plan, on bytes. Nothing is required of the caller; every listing ends.
-use fields::Ending;
+use case_inspection::CELLS;
+use case_inspection::DEVICES;
+use case_inspection::INTERVALS;
+use case_inspection::MINIMA;
+use case_inspection::TIMES;
+use case_inspection::ZONES;
+use message_ends::Ending;
 use model::Listing;
 use model::Subject;
-use plan_unit::CELLS;
-use plan_unit::DEVICES;
-use plan_unit::INTERVALS;
-use plan_unit::MINIMA;
-use plan_unit::TIMES;
-use plan_unit::ZONES;
 ghost use Rattle.model.specs.Editions.{host};
 ghost use Rattle.breach_unit.specs.Breaches.{ListsBreaches};
 

@@ -10,8 +10,8 @@ use Rattle.model.specs.declared.Subject.the-variants as S
 use Rattle.model.specs.declared.Verdict.the-variants.{Refused}
 use Rattle.model.specs.Batch.{Line, caseLine, answer, framing}
 use Rattle.row_places.specs.declared.Counts.{Counts}
-use Rattle.fields.specs.declared.Ending.{Ending}
-use Rattle.fields.specs.declared.Ending.the-variants.{Passes, Fails}
+use Rattle.message_ends.specs.declared.Ending.{Ending}
+use Rattle.message_ends.specs.declared.Ending.the-variants.{Passes, Fails}
 use Rattle.wording.specs.Text.{texts}
 use Rattle.wording.specs.Writes.{Writes}
 use Rattle.case_lines.specs.declared.CaseLine.{CaseLine}

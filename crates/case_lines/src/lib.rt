@@ -1,7 +1,7 @@
 // The line to a batch's first frame, which is of the case, as text at the front of a lent buffer.
-use fields::Ending;
 use frames::LIMIT;
 use layouts::Framed;
+use message_ends::Ending;
 use model::Subject;
 use model::Verdict;
 use row_places::Counts;

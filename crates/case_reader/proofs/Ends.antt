@@ -21,11 +21,11 @@ use Rattle.row_places.specs.declared.Counts.{Counts}
 use Rattle.row_places.specs.declared.Front.{Front}
 use Rattle.fields.specs.declared.Went.{Went}
 use Rattle.fields.specs.declared.Went.the-variants as W
-use Rattle.fields.specs.declared.Ending.{Ending}
-use Rattle.fields.specs.declared.Ending.the-variants.{Passes, Fails}
+use Rattle.message_ends.specs.declared.Ending.{Ending}
+use Rattle.message_ends.specs.declared.Ending.the-variants.{Passes, Fails}
 use Rattle.fields.specs.Got.{bad, got, Natural, Inside, nat-natural, then-natural, held-natural, goes-on, goes-off, told-off, went-good, went-bad}
 use Rattle.field_rows.specs.Each.{list-natural}
-use Rattle.fields.specs.Ended.{ended, endingOf, whole-inside, whole-ended, whole-failed, ended-tells}
+use Rattle.message_ends.specs.Ended.{ended, endingOf, whole-inside, whole-ended, whole-failed, ended-tells}
 use Rattle.zone_reader.proofs.ZoneSteps.{zone-natural}
 use Rattle.device_reader.specs.Devices.{device-natural}
 use Rattle.front_reader.specs.Fronts.{largest, Within, front, frontIn, FrontDone}

@@ -20,10 +20,10 @@ use Rattle.row_places.specs.declared.Front.{Front}
 use Rattle.records.specs.Views.{mostDevices, mostIntervals, caseIn, CaseRows}
 use Rattle.fields.specs.declared.Went.{Went}
 use Rattle.fields.specs.declared.Went.the-variants.{On}
-use Rattle.fields.specs.declared.Ending.{Ending}
-use Rattle.fields.specs.declared.Ending.the-variants.{Passes, Fails}
+use Rattle.message_ends.specs.declared.Ending.{Ending}
+use Rattle.message_ends.specs.declared.Ending.the-variants.{Passes, Fails}
 use Rattle.fields.specs.Got.{Got, good, bad, got, told}
-use Rattle.fields.specs.Ended.{ended}
+use Rattle.message_ends.specs.Ended.{ended}
 use Rattle.front_reader.specs.Fronts.{largest, Within, Ahead, frontIn}
 use Rattle.zone_table.specs.Tables.{Fits, Manned}
 

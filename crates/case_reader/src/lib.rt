@@ -1,9 +1,9 @@
 // A case message of every edition, read once into the rows of lent tables. The largest counts that are taken are the caller's.
-use fields::Ending;
 use fields::Went;
 use front_reader::FrontRead;
 use kilowatts::Kw;
 use layouts::Place;
+use message_ends::Ending;
 use row_places::CellRow;
 use row_places::Counts;
 use row_places::DeviceRow;
@@ -111,7 +111,7 @@ fn read_fields(
 }
 
 // A case message, read by a reader that takes counts up to these: how its reading ends, its front and counts, and its figures in the first rows of the
-// tables.
+// tables. After a refusal what the tables hold, the front and the counts are left free; rows behind those of the case are left free too.
 pub fn read_case(
     s: &[u8],
     most_devices: u32,
@@ -146,7 +146,7 @@ pub fn read_case(
             counts,
         },
         Went::On(q) => {
-            let ending = fields::finish(s, q);
+            let ending = message_ends::finish(s, q);
             CaseRead {
                 ending,
                 front,

@@ -4,10 +4,10 @@ use answers::DEVICES;
 use answers::INTERVALS;
 use answers::MINIMA;
 use answers::TIMES;
+use case_inspection::ZONES;
 use frames::LIMIT;
 use libc::STDOUT_FILENO;
 use model::Listing;
-use plan_unit::ZONES;
 use row_places::CellRow;
 use row_places::DeviceRow;
 use row_places::Front;
@@ -18,7 +18,7 @@ ghost use mathlib.Core.Path.{_≡_};
 ghost use Prim.Native.Nat.{_^_, _≤_, _<_};
 ghost use lib.ListN.{length};
 ghost use Rattle.model.specs.Editions.{batch};
-ghost use Rattle.plan_unit.specs.Decoded.{Decoded, Work};
+ghost use Rattle.decoded_cases.specs.Decoded.{Decoded, Work};
 ghost use Rattle.frames.specs.Frames.{frameRoom};
 
 fn least(a: u64, b: u64) -> u64

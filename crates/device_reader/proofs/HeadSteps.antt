@@ -9,7 +9,7 @@ use Rattle.layouts.specs.declared.Fault.{Fault}
 use Rattle.layouts.specs.declared.Place.{Place}
 use Rattle.layouts.specs.Layout.{Layout, _then_, _▸_, held}
 use Rattle.model.specs.Case as M
-use Rattle.model.specs.Messages.{head, costs, ramps, zoneBits, apart, eight, kW}
+use Rattle.model.specs.Messages.{head, costs, ramps, apart}
 use Rattle.kilowatts.specs.declared.Kw.{Kw}
 use Rattle.grains.specs.declared.Grains.{Grains}
 use Rattle.row_places.specs.declared.State.{State}
@@ -19,37 +19,24 @@ use Rattle.row_places.specs.declared.Device.{Device}
 use Rattle.records.specs.Views.{less, costOffset, startIn, energyIn}
 use Rattle.fields.specs.declared.Went.{Went}
 use Rattle.fields.specs.declared.Went.the-variants as W
-use Rattle.fields.specs.Got.{good, bad, got, told, Natural, nat-natural, then-natural, such-natural, mapped, told-off, goes-off}
-use Rattle.field_rows.specs.Each.{each, eachRead, row, row-natural, counted-natural}
-use Rattle.field_rows.proofs.Steps.{eight-natural}
+use Rattle.fields.specs.Got.{good, bad, got, told, Natural, then-natural, mapped, told-off, goes-off}
+use Rattle.field_rows.specs.Each.{each, eachRead, counted-natural}
 use Rattle.item_reader.specs.declared.Item.{Item}
 use Rattle.item_reader.specs.declared.Listed.{Listed}
 use Rattle.item_reader.specs.declared.Listed.the-variants.{States, Starts, Energies}
-use Rattle.device_reader.specs.declared.SidesRead.{SidesRead}
-use Rattle.device_reader.specs.declared.FiguresRead.{FiguresRead}
-use Rattle.device_reader.specs.declared.LinkedRead.{LinkedRead}
+use Rattle.device_figures.specs.declared.SidesRead.{SidesRead}
+use Rattle.device_figures.specs.declared.FiguresRead.{FiguresRead}
+use Rattle.device_figures.specs.declared.LinkedRead.{LinkedRead}
 use Rattle.item_reader.specs.declared.ItemsRead.{ItemsRead}
 use Rattle.model.specs.Editions.{mostStates}
 use Rattle.item_reader.specs.Items.{itemIn, items, itemsIn, threes, fours, stateFrom, startFrom, energyFrom, ItemsDone, EnergiesMade}
-use Rattle.device_reader.specs.Parts.{Figures, sides, initialRow, rampRow, costRow, figures, figuresIn, linked, linkedIn, MoneyMade, limitsFrom, deviceWith, deviceFrom, DeviceMade}
+use Rattle.device_figures.specs.Parts.{Figures, sides, figures, figuresIn, linked, linkedIn}
+use Rattle.device_figures.specs.Naturals.{sides-natural, figures-natural, linked-natural}
+use Rattle.device_reader.specs.Parts.{MoneyMade, limitsFrom, deviceWith, deviceFrom, DeviceMade}
 use Rattle.device_reader.specs.Heads.{Ahead, ahead, aheadOf, HeadDone}
 use Rattle.item_reader.specs.Naturals.{item-natural}
-use Rattle.device_reader.specs.Devices.{linked-natural}
 
 -- ---- the parts
-
-pub sides-natural : (zones : ℕ) → Natural (sides zones)
-unfolding zoneBits
-sides-natural zones = then-natural (nat-natural _) (λ a. such-natural _ (nat-natural _))
-
-pub costs-natural : Natural (row costRow 3 ▸ eight kW)
-costs-natural = then-natural (row-natural costRow 3) (λ a. eight-natural (nat-natural _))
-
-pub ramps-natural : Natural (row rampRow 4 ▸ row costRow 3 ▸ eight kW)
-ramps-natural = then-natural (row-natural rampRow 4) (λ a. costs-natural)
-
-pub figures-natural : Natural figures
-figures-natural = then-natural (row-natural initialRow 5) (λ a. ramps-natural)
 
 abbrev Lists : Type 0
 Lists = List (ℕ × ℤ) × (List M.StartWindow × (List M.EnergyWindow × (M.Link × ℕ)))

@@ -6,7 +6,6 @@ use lib.ListN.{length}
 use Rattle.layouts.specs.declared.Fault.{Fault}
 use Rattle.layouts.specs.declared.Place.{Place}
 use Rattle.layouts.specs.Layout.{list, _then_, held}
-use Rattle.layouts.specs.Since.{has, since}
 use Rattle.model.specs.Case as M
 use Rattle.model.specs.Messages.{Head, apart, head, costs, ramps, zoneBits}
 use Rattle.model.specs.ByEdition as B
@@ -15,7 +14,6 @@ use Rattle.row_places.specs.declared.Device.{Device}
 use Rattle.records.specs.Views.{cellPair, deviceIn, devicePricesIn}
 use Rattle.fields.specs.declared.Went.{Went}
 use Rattle.fields.specs.Got.{good, bad, got, told, Natural, nat-natural, int-natural, then-natural, such-natural, held-natural, goes-on, goes-off, mapped}
-use Rattle.fields.specs.Since.{present-natural}
 use Rattle.field_rows.specs.Each.{list-natural, counted-natural}
 use Rattle.field_rows.proofs.Steps.{eight-natural}
 use Rattle.item_reader.specs.declared.Listed.the-variants.{States, Starts, Energies}
@@ -23,7 +21,7 @@ use Rattle.item_reader.specs.Naturals.{item-natural}
 use Rattle.floor_reader.proofs.Floors.{block-natural}
 use Rattle.reactive_cells.proofs.Reactive.{reactive-natural}
 use Rattle.link_reader.proofs.Links.{link-natural}
-use Rattle.device_reader.specs.Parts.{linked}
+use Rattle.device_figures.specs.Naturals.{bar-natural, linked-natural}
 use Rattle.device_reader.specs.Heads.{Ahead, ahead, aheadOf}
 
 -- ---- any reader goes on from its parts
@@ -45,12 +43,6 @@ head-natural zones = held-natural _ _
 costs-natural : Natural costs
 unfolding costs
 costs-natural = held-natural _ _ (then-natural (nat-natural _) (λ a. then-natural (nat-natural _) (λ b. nat-natural _)))
-
-pub bar-natural : (e : ℕ) → Natural (since e 5 0 B.bar)
-bar-natural e = present-natural (has 5 e) 0 (nat-natural _)
-
-pub linked-natural : (e : ℕ) → Natural (linked e)
-linked-natural e = then-natural (link-natural e) (λ a. bar-natural e)
 
 pub ahead-natural : (e zones last : ℕ) → Natural (ahead e zones last)
 unfolding apart

@@ -18,7 +18,7 @@ use Rattle.fields.specs.declared.Went.{Went}
 use Rattle.fields.specs.declared.Went.the-variants.{On}
 use Rattle.fields.specs.Got.{got, told}
 use Rattle.item_reader.specs.Items.{state}
-use Rattle.device_reader.specs.Parts.{linked}
+use Rattle.device_figures.specs.Parts.{linked}
 
 abbrev pub states : Layout (List ℕ × List ℤ)
 states = apart (counted (countOf 3 0 mostStates) state)

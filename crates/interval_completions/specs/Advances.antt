@@ -16,7 +16,7 @@ use Rattle.completion_size.specs.Size.{deviceWidth, zoneWidth, intervalWidth}
 use Rattle.completion_writer.specs.Whole.{deviceBits, zoneBits, intervalBits}
 use Rattle.grains.specs.declared.Ledger.{Ledger}
 use Rattle.mismatches.specs.declared.BarMismatches.{BarMismatches}
-use Rattle.reactive_slacks.specs.declared.ReactiveMismatches.{ReactiveMismatches}
+use Rattle.reactive_mismatches.specs.declared.ReactiveMismatches.{ReactiveMismatches}
 use Rattle.slack_money.specs.Charges.{MismatchEntered}
 use Rattle.reactive_money.specs.Charges.{ReactiveMismatchEntered}
 use Rattle.progress.specs.declared.Progress.{Progress}

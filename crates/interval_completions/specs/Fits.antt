@@ -20,8 +20,8 @@ use Rattle.choices.specs.declared.Choice.{Choice}
 use Rattle.choices.specs.Here.{OurChoice}
 use Rattle.money.specs.Unbroken.{Unbroken, plan-range, system-range, few-devices}
 use Rattle.kilovars.specs.Reactive.{var}
-use Rattle.reactive_slacks.specs.declared.ReactiveShortfalls.{ReactiveShortfalls}
-use Rattle.reactive_slacks.specs.Held.{shortBy}
+use Rattle.reactive_shortfalls.specs.declared.ReactiveShortfalls.{ReactiveShortfalls}
+use Rattle.reactive_shortfalls.specs.Held.{shortBy}
 use Rattle.field_groups.specs.Fields.{choiceIn, sixOf}
 use Rattle.reactive_writer.specs.Reactive.{twoOf}
 use Rattle.completion_writer.specs.Whole.{deviceAt, sixAt, twoAt, choice-at, six-at}

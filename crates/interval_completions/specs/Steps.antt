@@ -52,11 +52,11 @@ use Rattle.slack_money.specs.Here as Here
 use Rattle.reactive_money.specs.Charges.{HeldOf, HeldEntered, ReactiveZoneOf, ReactiveZoneEntered, ReactiveIntervalOf}
 use Rattle.reactive_money.specs.Day.{deviceBalance, zoneBalance}
 use Rattle.reactive_money.specs.Here as Reactive
-use Rattle.reactive_slacks.specs.declared.ReactiveShortfalls.{ReactiveShortfalls}
-use Rattle.reactive_slacks.specs.declared.ReactiveMismatches.{ReactiveMismatches}
-use Rattle.reactive_slacks.specs.Sides.{reactive-mismatches-are}
-use Rattle.reactive_slacks.specs.Sides.{barsTo as reactiveBarsTo, mismatchesBy as reactiveMismatchesBy, mismatchesOf as reactiveMismatchesOf}
-use Rattle.reactive_slacks.specs.Held.{shortBy, shortOf, heldTo, reactive-shortfalls-are}
+use Rattle.reactive_shortfalls.specs.declared.ReactiveShortfalls.{ReactiveShortfalls}
+use Rattle.reactive_mismatches.specs.declared.ReactiveMismatches.{ReactiveMismatches}
+use Rattle.reactive_mismatches.specs.Sides.{reactive-mismatches-are}
+use Rattle.reactive_mismatches.specs.Sides.{barsTo as reactiveBarsTo, mismatchesBy as reactiveMismatchesBy, mismatchesOf as reactiveMismatchesOf}
+use Rattle.reactive_shortfalls.specs.Held.{shortBy, shortOf, heldTo, reactive-shortfalls-are}
 use Rattle.reactive_writer.specs.Reactive.{twoOf}
 use Rattle.kilovars.specs.Reactive.{var, kvar}
 use Rattle.kilowatts.specs.Power.{kw}

@@ -9,9 +9,9 @@ use Rattle.layouts.specs.Numbers.{Tells}
 use Rattle.model.specs.Editions.{deviceBits, intervalBits}
 use Rattle.model.specs.ByEdition.{planKind, planLayout}
 use Rattle.records.specs.Views.{mostDevices, mostIntervals, planIn, PlanRows}
-use Rattle.fields.specs.Ended.{ended}
-use Rattle.fields.specs.declared.Ending.{Ending}
-use Rattle.fields.specs.declared.Ending.the-variants.{Passes, Fails}
+use Rattle.message_ends.specs.Ended.{ended}
+use Rattle.message_ends.specs.declared.Ending.{Ending}
+use Rattle.message_ends.specs.declared.Ending.the-variants.{Passes, Fails}
 
 -- "kind 4 (2); edition 4; devices 5; intervals 6, equal to the case's", of which the last is kept
 unfoldable pub header : ℕ → ℕ → ℕ → Layout ℕ

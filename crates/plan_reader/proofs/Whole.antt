@@ -26,8 +26,8 @@ use Rattle.records.specs.Views.{less, settingIn, planIn, PlanRows}
 use Rattle.fields.specs.declared.Figure.{Figure}
 use Rattle.fields.specs.declared.Figure.the-variants as G
 use Rattle.fields.specs.declared.Went.{Went}
-use Rattle.fields.specs.declared.Ending.{Ending}
-use Rattle.fields.specs.Ended.{ended, ended-tells}
+use Rattle.message_ends.specs.declared.Ending.{Ending}
+use Rattle.message_ends.specs.Ended.{ended, ended-tells}
 use Rattle.field_rows.specs.Each.{list-natural}
 use Rattle.numbers.specs.Rows.{rows-same}
 use Rattle.fields.specs.Got.{good, bad, got, figured, placed, placed-off, told, told-off, Natural, nat-natural, then-natural, held-natural, goes-on, goes-off, mapped}

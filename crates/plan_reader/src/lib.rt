@@ -9,11 +9,11 @@ ghost use Rattle.numbers.specs.Rows.{rows};
 ghost use Rattle.fields.specs.Got.{got, told};
 ghost use Rattle.plan_reader.specs.Rows.{intervalAt, SettingsDone, IntervalDone};
 ghost use Rattle.plan_header.specs.Plans.{PlanRoom, PlanDone};
-use fields::Ending;
 use fields::Figure;
 use fields::Went;
 use kilowatts::SignedKw;
 use layouts::Place;
+use message_ends::Ending;
 use plan_header::read_header;
 use row_places::SettingRow;
 use setting_reader::read_setting;
@@ -119,7 +119,7 @@ fn read_fields(
     read_intervals(s, p, edition, devices, intervals, settings)
 }
 
-// A plan message for a case of this edition with these counts, into rows device by device.
+// A plan message for a case of this edition with these counts, into rows device by device. After a refusal what the rows hold is left free.
 pub fn read_plan(
     s: &[u8],
     edition: u32,
@@ -132,6 +132,6 @@ pub fn read_plan(
 {
     match read_fields(s, edition, devices, intervals, settings) {
         Went::Off(x) => Ending::Fails(x),
-        Went::On(p) => fields::finish(s, p),
+        Went::On(p) => message_ends::finish(s, p),
     }
 }

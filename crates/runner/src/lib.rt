@@ -17,7 +17,7 @@ ghost use Prim.Native.Nat.{_≤_, _<_};
 ghost use lib.ListN.{length};
 ghost use Rattle.model.specs.Editions.{batch};
 ghost use Rattle.case_reader.specs.Whole.{CaseRoom};
-ghost use Rattle.plan_unit.specs.Decoded.{Decoded, DecodedFirst, Work};
+ghost use Rattle.decoded_cases.specs.Decoded.{Decoded, DecodedFirst, Work};
 ghost use Rattle.frames.specs.Frames.{frameRoom};
 ghost use Rattle.answers.specs.Room.{resultRoom};
 

@@ -12,8 +12,8 @@ use Rattle.model.specs.declared.Verdict.{Verdict}
 use Rattle.model.specs.declared.Verdict.the-variants.{Accepted, Refused}
 use Rattle.model.specs.declared.Listing.{Listing}
 use Rattle.model.specs.declared.Listing.the-variants as L
-use Rattle.plan_unit.specs.declared.Inspected.{Inspected}
-use Rattle.plan_unit.specs.declared.Inspected.the-variants as I
+use Rattle.model.specs.declared.Inspected.{Inspected}
+use Rattle.model.specs.declared.Inspected.the-variants as I
 use Rattle.tellings.specs.Told.{wordOf, toldOf, toldCase, toldList, toldFrame}
 
 -- the verdicts

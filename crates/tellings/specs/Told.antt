@@ -13,8 +13,8 @@ use Rattle.model.specs.declared.Verdict.the-variants.{Accepted, Broken, Refused
 use Rattle.model.specs.declared.Listing.{Listing}
 use Rattle.model.specs.declared.Listing.the-variants as L
 use Rattle.tellings.specs.declared.Told.{Told}
-use Rattle.plan_unit.specs.declared.Inspected.{Inspected}
-use Rattle.plan_unit.specs.declared.Inspected.the-variants as I
+use Rattle.model.specs.declared.Inspected.{Inspected}
+use Rattle.model.specs.declared.Inspected.the-variants as I
 
 -- 2 a refused case, 3 a refused plan, 4 a lent buffer too short
 abbrev pub wordOf : Subject → ℕ

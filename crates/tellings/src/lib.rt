@@ -1,13 +1,14 @@
 // What hosts in other languages are told: a word and four numbers.
 use layouts::Framed;
+use model::Inspected;
 use model::Listing;
 use model::Subject;
 use model::Verdict;
-use plan_unit::Inspected;
 ghost use mathlib.Core.Path.{_≡_};
 ghost use mathlib.Core.List.{_++_};
 ghost use Prim.Native.Nat.{_≤_};
 ghost use lib.ListN.{length, drop};
+ghost use Rattle.tellings.specs.Splitting.{HostSplits};
 ghost use Rattle.tellings.specs.Told.{wordOf, toldOf, toldCase, toldList, toldFrame, figuresOf};
 
 pub struct Told {
@@ -162,4 +163,22 @@ pub fn store(figures: &mut [u64], t: Told)
     figures[2] = t.third;
     figures[1] = t.second;
     figures[0] = t.first;
+}
+
+// The most bytes of a message that a host's splitter takes.
+const LONGEST: u64 = 1048576;
+
+// What stands behind the length at byte `at` of a host's batch: 0 and the message's bounds, 1 at the end, or 2 and the refusal; 5, with nothing done, where
+// `figures` has fewer than four places.
+pub fn split(batch: &[u8], at: usize, figures: &mut [u64]) -> u64
+    ensures { λ r. ⌜ HostSplits (now (batch .entry)) at (now (figures .entry)) (now (figures .exit)) r ⌝ }
+{
+    if figures.len() < 4 {
+        return 5;
+    }
+    let x = layouts::frame_at(batch, at, LONGEST);
+    let t = tell_frame(x);
+    let word = t.word;
+    store(figures, t);
+    word
 }

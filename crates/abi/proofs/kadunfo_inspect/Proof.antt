@@ -23,7 +23,7 @@ returns-2 : tie.Need-returns-2
 returns-2 c =
     let at-tell : _ = c .before .before .before .before in
     let at-inspect : _ = at-tell .before in
-    inspects-told _ _ (at-inspect .before .if1 .left) (at-inspect .inspect .ensures) (at-tell .tell-case .ensures) (c .before .before .store .ensures)
+    inspects-told _ _ _ (at-inspect .before .if1 .left) (at-inspect .inspect .ensures) (at-tell .tell-case .ensures) (c .before .before .store .ensures)
 
 pub kadunfo-inspect-spec : {M : Type 1} → statement M
 kadunfo-inspect-spec =

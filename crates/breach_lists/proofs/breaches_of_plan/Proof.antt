@@ -1,6 +1,6 @@
 -- A plan that fails reading is refused; else the breaches of its rows are listed.
 use borrow.Author.Needs.{needs}
-use Rattle.plan_unit.specs.Read.{plan-room, planned-of}
+use Rattle.decoded_cases.specs.Plans.{plan-room, planned-of}
 use Rattle.breach_lists.specs.Plans.{list-fails, list-passes}
 use Rattle.breach_lists.proofs.breaches_of_plan.Statement.{statement}
 use Rattle.breach_lists.proofs.breaches_of_plan.Tie as tie

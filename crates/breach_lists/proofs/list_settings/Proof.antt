@@ -1,6 +1,6 @@
 -- The forced figures are computed first; a plan that breaks no rule has an empty list.
 use borrow.Author.Needs.{needs}
-use Rattle.plan_unit.specs.Decided.{ready-of}
+use Rattle.decoded_cases.specs.Plans.{ready-of}
 use Rattle.breach_lists.specs.Lists.{lists-none}
 use Rattle.breach_lists.proofs.list_settings.Statement.{statement}
 use Rattle.breach_lists.proofs.list_settings.Tie as tie

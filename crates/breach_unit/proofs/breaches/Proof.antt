@@ -2,9 +2,9 @@
 use native.Mathlib.Omega.{arith}
 use Rattle.model.specs.Editions.{host}
 use mathlib.Core.Path.{sym}
-use Rattle.plan_unit.specs.Read.{decoded-first}
+use Rattle.decoded_cases.specs.Cases.{decoded-first}
 use Rattle.breach_unit.specs.Breaches.{list-case-fails, list-case-passes}
-use Rattle.plan_unit.specs.Owned.{taken, few-cells, few-minima, work}
+use Rattle.decoded_cases.specs.Owned.{taken, few-cells, few-minima, work}
 use borrow.Author.Needs.{needs}
 use Rattle.breach_unit.proofs.breaches.Statement.{statement}
 use Rattle.breach_unit.proofs.breaches.Tie as tie

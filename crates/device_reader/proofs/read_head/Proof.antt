@@ -1,10 +1,10 @@
 -- `device_reader::read_head`, part by part. Assumes nothing.
 use Rattle.fields.specs.Got.{went-good, went-bad}
 use Rattle.item_reader.specs.declared.Listed.the-variants.{States, Starts, Energies}
-use Rattle.device_reader.proofs.HeadSteps.{sides-natural, figures-natural, items-natural, energies-natural, windows-natural, lists-natural, rest-natural, partsIn, head-none, head-done}
+use Rattle.device_reader.proofs.HeadSteps.{items-natural, energies-natural, windows-natural, lists-natural, rest-natural, partsIn, head-none, head-done}
 use Rattle.fields.proofs.Chains.{then-off, then-late, then-told}
-use Rattle.device_reader.specs.Parts.{linkedIn}
-use Rattle.device_reader.specs.Devices.{linked-natural}
+use Rattle.device_figures.specs.Parts.{linkedIn}
+use Rattle.device_figures.specs.Naturals.{sides-natural, figures-natural, linked-natural}
 use borrow.Author.Needs.{needs}
 use Rattle.device_reader.proofs.read_head.Statement.{statement}
 use Rattle.device_reader.proofs.read_head.Tie as tie

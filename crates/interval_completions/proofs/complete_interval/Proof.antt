@@ -6,7 +6,7 @@ use lib.ListN.{length}
 use Rattle.records.specs.Ranged.{half-small}
 use Rattle.records.specs.Views.{mostDevices}
 use Rattle.mismatches.specs.Sides.{powered, linked}
-use Rattle.reactive_slacks.specs.Settled.{settled}
+use Rattle.reactive_mismatches.specs.Settled.{settled}
 use Rattle.model.specs.Editions.{mostZones}
 use Rattle.money.specs.Bounds.{deviceMost, kindsMost, mismatchesMost, intervalMost}
 use Rattle.money.specs.Entries.{spare-after, spare-less}

@@ -5,7 +5,7 @@ use native.Mathlib.Omega.{arith}
 use lib.ListN.{length}
 use Rattle.pen.specs.Runs.{room-at}
 use Rattle.zone_totals.specs.Sums.{zoned}
-use Rattle.reactive_slacks.specs.Settled.{settled}
+use Rattle.reactive_mismatches.specs.Settled.{settled}
 use Rattle.model.specs.Editions.{mostZones}
 use Rattle.money.specs.Bounds.{zoneMost, kindsMost}
 use Rattle.money.specs.Entries.{spare-after, spare-room}

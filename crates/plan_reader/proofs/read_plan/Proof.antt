@@ -1,5 +1,5 @@
 -- Every field, then the end; what passes is in its ranges.
-use Rattle.fields.specs.Ended.{whole-inside, whole-ended, whole-failed}
+use Rattle.message_ends.specs.Ended.{whole-inside, whole-ended, whole-failed}
 use Rattle.plan_reader.proofs.Whole.{plan-natural, plan-done}
 use borrow.Author.Needs.{needs}
 use Rattle.plan_reader.proofs.read_plan.Statement.{statement}

@@ -2,8 +2,9 @@
 use native.Mathlib.Omega.{arith}
 use Rattle.model.specs.Editions.{host}
 use mathlib.Core.Path.{sym}
-use Rattle.plan_unit.specs.Read.{decoded-first, case-fails, case-passes}
-use Rattle.plan_unit.specs.Owned.{taken, few-cells, few-minima, work}
+use Rattle.decoded_cases.specs.Cases.{decoded-first}
+use Rattle.plan_unit.specs.Read.{case-fails, case-passes}
+use Rattle.decoded_cases.specs.Owned.{taken, few-cells, few-minima, work}
 use borrow.Author.Needs.{needs}
 use Rattle.plan_unit.proofs.judge.Statement.{statement}
 use Rattle.plan_unit.proofs.judge.Tie as tie

@@ -1,0 +1,4 @@
+pub mod Decoded
+pub mod Cases
+pub mod Plans
+pub mod Owned

@@ -1,0 +1,1 @@
+// No code: a case and a plan decoded into rows, and the tables that hold them.

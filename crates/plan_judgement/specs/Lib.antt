@@ -1,0 +1,2 @@
+pub mod JudgesPlan
+pub mod Steps
