@@ -1,0 +1,329 @@
+-- The fields that a layout visits, with the laws of reading, each proved once: a refusal is of the last field visited, a value stands behind the last,
+-- and a message broken off is read as the whole one up to the first field that is not whole.
+use mathlib.Core.Path.{_≡_, refl, sym, _∙_, ap, subst}
+use mathlib.Core.Bool.{Bool, true, false}
+use mathlib.Core.Logic.{_⊎_, inl, inr}
+use mathlib.Core.List.{List, [], _∷_, _++_}
+use Prim.Native.Nat.{ℕ, zero, suc, _+_, _-_, _*_, _/_, _%_, _^_, _≤_, _<_, min}
+use native.Mathlib.Omega.{arith}
+use native.Mathlib.Decide.{decLe}
+use lib.Dec.{leb}
+use lib.ListN.{length, getD, length-append, List·getD-append}
+use lib.IntN.{ℤ, natAbs}
+use borrow.Author.Tests.{leb-true, leb-false, le-leb, lt-leb}
+use Rattle.bits.specs.Bits.{bitAt, fieldAt, reach, readField}
+use Rattle.bits.specs.Pick.{pick}
+use Rattle.bits.specs.Twos.{fromTwos}
+use Rattle.bits.specs.declared.Field.the-variants.{Value, Cut}
+use Rattle.layouts.specs.declared.Fault.{Fault}
+use Rattle.layouts.specs.declared.Fault.the-variants as F
+use Rattle.layouts.specs.declared.Clash.{Clash}
+use Rattle.layouts.specs.declared.Clash.the-variants.{Clear, At}
+use Rattle.layouts.specs.declared.Place.{Place}
+use Rattle.layouts.specs.Layout.{Layout, orElse, raw, advanced, nat, int, _then_, _▸_, repeated, list, such, noted, held, counted, countOf}
+use Rattle.layouts.specs.Since.{nothing, present}
+use Rattle.refusals.specs.Names.{Name}
+use Rattle.refusals.specs.Visited.{Sort, count, other, faultOf, between, sized, Within, Part, Good, Why, cut, outside, endOf, AllGood, firstBeyond, Stands, RefusedAt}
+use Rattle.refusals.specs.Visited.{end-append, good-append, stands-first, stands-later, refused-later, unless, unless-append}
+
+-- ---- what a reading tells
+
+-- it went on to the place q: every field visited is whole and in its range, q is behind the last, and a contradiction stood before or is noted at the first bit of one of them
+pub record Passed (s : List ℕ) (p : Place) (t : List Part) (q : Place) : Type 0 where
+  pub good : AllGood s (p .at) t
+  pub ends : q .at ≡ endOf (p .at) t
+  pub clash : (b : ℕ) → q .clash ≡ At b → (p .clash ≡ At b) ⊎ Stands (p .at) t b
+
+-- it stops at the last field visited, or goes on
+pub data Walk {A : Type 0} (s : List ℕ) (p : Place) (t : List Part) (run : (X : Type 0) → (Fault → X) → (A → Place → X) → X) : Type 1 where
+  stops : (x : Fault) → RefusedAt s (p .at) t x → ((X : Type 0) (bad : Fault → X) (next : A → Place → X) → run X bad next ≡ bad x) → Walk s p t run
+  goes : (a : A) (q : Place) → Passed s p t q → ((X : Type 0) (bad : Fault → X) (next : A → Place → X) → run X bad next ≡ next a q) → Walk s p t run
+
+pub record Traced {A : Type 0} (l : Layout A) : Type 1 where
+  -- the fields visited in a message from a place on
+  pub fields : List ℕ → Place → List Part
+  pub walk : (s : List ℕ) (p : Place) → Walk s p (fields s p) (λ X bad next. l .read {X = X} s p bad next)
+  -- c, which c ++ e begins with, is read as c ++ e, or cut at the first field that does not end within c
+  pub broken : {X : Type 0} (c e : List ℕ) (p : Place) (bad : Fault → X) (next : A → Place → X)
+      → l .read c p bad next ≡ unless (firstBeyond (8 * reach c) (p .at) (fields (c ++ e) p)) bad (l .read (c ++ e) p bad next)
+
+walk-as : {A : Type 0} {s : List ℕ} {p : Place} {t u : List Part} {run : (X : Type 0) → (Fault → X) → (A → Place → X) → X} → t ≡ u → Walk s p u run → Walk s p t run
+walk-as {s = s} {p = p} {run = run} e w = subst (λ (z : List Part). Walk s p z run) (sym e) w
+
+-- ---- fields
+
+pub bit-same : (c e : List ℕ) (i : ℕ) → i < 8 * length c → bitAt (c ++ e) i ≡ bitAt c i
+unfolding bitAt
+bit-same c e i h = let g = List·getD-append c e 0 (i / 8) (omega arith) in rw g refl
+
+field-same : (c e : List ℕ) (at w : ℕ) → at + w ≤ 8 * length c → fieldAt (c ++ e) at w ≡ fieldAt c at w
+unfolding fieldAt
+field-same c e at zero h = refl
+field-same c e at (suc w) h = rw (field-same c e at w (omega arith), bit-same c e (at + w) (omega arith)) refl
+
+reach-more : (c e : List ℕ) → reach c ≤ reach (c ++ e)
+unfolding reach
+reach-more c e = let n = length-append c e in omega arith
+
+pub reach-length : (c : List ℕ) → reach c ≤ length c
+unfolding reach
+reach-length c = omega arith
+
+-- whatever is done with what is read
+pub raw-broken : {X : Type 0} (c e : List ℕ) (p : Place) (f : Part) (bad : Fault → X) (next : ℕ → Place → X)
+    → raw (readField c (p .at) (f .width)) p bad next ≡ unless (firstBeyond (8 * reach c) (p .at) (f ∷ [])) bad (raw (readField (c ++ e) (p .at) (f .width)) p bad next)
+unfolding readField
+raw-broken c e p f bad next = elim (decLe (p .at + f .width) (8 * reach c)) [
+  | yes h ↦
+      let m = reach-more c e in
+      let n = reach-length c in
+      rw (le-leb (p .at + f .width) (8 * reach c) h, le-leb (p .at + f .width) (8 * reach (c ++ e)) (omega arith), field-same c e (p .at) (f .width) (omega arith)) refl
+  | no h ↦ rw (lt-leb (p .at + f .width) (8 * reach c) (omega arith)) refl
+]
+
+-- one field that is whole and in its range, cut, or whole and out of it
+module _ (s : List ℕ) (p : Place) (f : Part) where
+  one-good : p .at + f .width ≤ 8 * reach s → Within (f .range) (f .width) (fieldAt s (p .at) (f .width)) → Passed s p (f ∷ []) (advanced p (p .at + f .width))
+  one-good h k = record { good = (record { whole = h; within = k }, tt); ends = refl; clash = λ b e. inl e }
+
+  one-refused : (x : Fault) → Why s (p .at) f x → RefusedAt s (p .at) (f ∷ []) x
+  one-refused x y = record { before = []; field = f; visited = refl; good = tt; why = y }
+
+-- a field of whole numbers
+abbrev pub numberPart : Name → Sort → ℕ → ℕ → ℕ → Part
+numberPart n k w low high = record { name = n; sort = k; width = w; range = between low high }
+
+pub nat-walk : (n : Name) (k : Sort) (w low high : ℕ) (s : List ℕ) (p : Place)
+    → Walk s p (numberPart n k w low high ∷ []) (λ X bad next. nat (record { width = w; low = low; high = high; wrong = faultOf k }) .read {X = X} s p bad next)
+unfolding nat readField
+nat-walk n k w low high s p = go (leb (p .at + w) (8 * reach s)) refl
+  where
+    v : ℕ
+    v = fieldAt s (p .at) w
+
+    f : Part
+    f = numberPart n k w low high
+
+    refuses : p .at + w ≤ 8 * reach s → ¬ ((low ≤ v) × (v ≤ high)) → RefusedAt s (p .at) (f ∷ []) (faultOf k (p .at))
+    refuses h o = one-refused s p f (faultOf k (p .at)) (outside h o refl)
+
+    tests : p .at + w ≤ 8 * reach s → (x y : Bool) → leb low v ≡ x → leb v high ≡ y
+        → Walk s p (f ∷ []) (λ X bad next. pick x (pick y (next v (advanced p (p .at + w))) (bad (faultOf k (p .at)))) (bad (faultOf k (p .at))))
+    tests h true true d e = goes v _ (one-good s p f h (leb-true low v d, leb-true v high e)) (λ X bad next. refl)
+    tests h true false d e = stops (faultOf k (p .at)) (refuses h (λ o. let l = leb-false v high e in absurd (omega arith))) (λ X bad next. refl)
+    tests h false y d e = stops (faultOf k (p .at)) (refuses h (λ o. let l = leb-false low v d in absurd (omega arith))) (λ X bad next. refl)
+
+    go : (b : Bool) → leb (p .at + w) (8 * reach s) ≡ b
+        → Walk s p (f ∷ []) (λ X bad next. raw {X = X} (pick b (Value v (record { at = p .at + w })) (Cut (p .at))) p bad
+        (λ v after. pick (leb low v) (pick (leb v high) (next v after) (bad (faultOf k (p .at)))) (bad (faultOf k (p .at)))))
+    go true e = tests (leb-true (p .at + w) (8 * reach s) e) _ _ refl refl
+    go false e = stops (F.Cut (p .at)) (one-refused s p f (F.Cut (p .at)) (cut (leb-false (p .at + w) (8 * reach s) e) refl)) (λ X bad next. refl)
+
+unfoldable pub nat-traced : (n : Name) (k : Sort) (w low high : ℕ) → Traced (nat (record { width = w; low = low; high = high; wrong = faultOf k }))
+unfolding nat
+nat-traced n k w low high = record {
+  fields = λ s p. numberPart n k w low high ∷ [];
+  walk = nat-walk n k w low high;
+  broken = λ c e p bad next. raw-broken c e p (numberPart n k w low high) bad _;
+}
+
+-- one in two's complement
+abbrev pub signedPart : Name → ℕ → ℕ → Part
+signedPart n w most = record { name = n; sort = other; width = w; range = sized most }
+
+pub int-walk : (n : Name) (w most : ℕ) (s : List ℕ) (p : Place) → Walk s p (signedPart n w most ∷ []) (λ X bad next. int w most .read {X = X} s p bad next)
+unfolding int readField
+int-walk n w most s p = go (leb (p .at + w) (8 * reach s)) refl
+  where
+    z : ℤ
+    z = fromTwos w (fieldAt s (p .at) w)
+
+    f : Part
+    f = signedPart n w most
+
+    test : p .at + w ≤ 8 * reach s → (x : Bool) → leb (natAbs z) most ≡ x
+        → Walk s p (f ∷ []) (λ X bad next. pick {A = X} x (next z (advanced p (p .at + w))) (bad (F.OutOfRange (p .at))))
+    test h true e = goes z _ (one-good s p f h (leb-true (natAbs z) most e)) (λ X bad next. refl)
+    test h false e = stops (F.OutOfRange (p .at)) (one-refused s p f (F.OutOfRange (p .at)) (outside h (λ o. let l = leb-false (natAbs z) most e in absurd (omega arith)) refl)) (λ X bad next. refl)
+
+    go : (b : Bool) → leb (p .at + w) (8 * reach s) ≡ b
+        → Walk s p (f ∷ []) (λ X bad next. raw {X = X} (pick b (Value (fieldAt s (p .at) w) (record { at = p .at + w })) (Cut (p .at))) p bad
+        (λ v after. pick (leb (natAbs (fromTwos w v)) most) (next (fromTwos w v) after) (bad (F.OutOfRange (p .at)))))
+    go true e = test (leb-true (p .at + w) (8 * reach s) e) _ refl
+    go false e = stops (F.Cut (p .at)) (one-refused s p f (F.Cut (p .at)) (cut (leb-false (p .at + w) (8 * reach s) e) refl)) (λ X bad next. refl)
+
+unfoldable pub int-traced : (n : Name) (w most : ℕ) → Traced (int w most)
+unfolding int
+int-traced n w most = record {
+  fields = λ s p. signedPart n w most ∷ [];
+  walk = int-walk n w most;
+  broken = λ c e p bad next. raw-broken c e p (signedPart n w most) bad _;
+}
+
+-- ---- what an edition lacks
+
+passed-none : (s : List ℕ) (p : Place) → Passed s p [] p
+passed-none s p = record { good = tt; ends = refl; clash = λ b e. inl e }
+
+pub nothing-walk : {A : Type 0} (neutral : A) (s : List ℕ) (p : Place) → Walk s p [] (λ X bad next. nothing neutral .read {X = X} s p bad next)
+unfolding nothing
+nothing-walk neutral s p = goes neutral p (passed-none s p) (λ X bad next. refl)
+
+unfoldable pub nothing-traced : {A : Type 0} (neutral : A) → Traced (nothing neutral)
+unfolding nothing
+nothing-traced neutral = record { fields = λ s p. []; walk = nothing-walk neutral; broken = λ c e p bad next. refl }
+
+unfoldable pub present-traced : {A : Type 0} (b : Bool) (neutral : A) {l : Layout A} → Traced l → Traced (present b neutral l)
+unfolding present
+present-traced true neutral u = u
+present-traced false neutral u = nothing-traced neutral
+
+-- ---- held as another type
+
+pub map-walk : {A B : Type 0} (to : A → B) {s : List ℕ} {p : Place} {t : List Part} (run : (X : Type 0) → (Fault → X) → (A → Place → X) → X)
+    → Walk s p t run → Walk s p t (λ X bad next. run X bad (λ a q. next (to a) q))
+map-walk to run (stops x r e) = stops x r (λ X bad next. e X bad _)
+map-walk to run (goes a q g e) = goes (to a) q g (λ X bad next. e X bad _)
+
+unfoldable pub held-traced : {A B : Type 0} (to : A → B) (from : B → A) {l : Layout A} → Traced l → Traced (held to from l)
+unfolding held
+held-traced to from {l} u = record {
+  fields = u .fields;
+  walk = λ s p. map-walk to (λ X bad next. l .read {X = X} s p bad next) (u .walk s p);
+  broken = λ c e p bad next. u .broken c e p bad _;
+}
+
+-- ---- one behind the other
+
+passed-both : (s : List ℕ) (p q r : Place) (t u : List Part) → Passed s p t q → Passed s q u r → Passed s p (t ++ u) r
+passed-both s p q r t u g h = record {
+  good = good-append s (p .at) t u (g .good) (subst (λ (n : ℕ). AllGood s n u) (g .ends) (h .good));
+  ends = h .ends ∙ ap (λ (n : ℕ). endOf n u) (g .ends) ∙ sym (end-append (p .at) t u);
+  clash = λ b e. second b (h .clash b e);
+}
+  where
+    first : (b : ℕ) → (p .clash ≡ At b) ⊎ Stands (p .at) t b → (p .clash ≡ At b) ⊎ Stands (p .at) (t ++ u) b
+    first b (inl e) = inl e
+    first b (inr k) = inr (stands-first (p .at) t u b k)
+
+    second : (b : ℕ) → (q .clash ≡ At b) ⊎ Stands (q .at) u b → (p .clash ≡ At b) ⊎ Stands (p .at) (t ++ u) b
+    second b (inl e) = first b (g .clash b e)
+    second b (inr k) = inr (stands-later (p .at) t u b (subst (λ (n : ℕ). Stands n u b) (g .ends) k))
+
+module _ {A B : Type 0} {l : Layout A} (m : A → Layout B) (u : Traced l) (v : (a : A) → Traced (m a)) where
+  -- those of the first, and behind them, where it goes on, those of the second
+  abbrev pub thenFields : List ℕ → Place → List Part
+  thenFields s p = l .read s p (λ x. u .fields s p) (λ a q. u .fields s p ++ v a .fields s q)
+
+  pub then-walk : (s : List ℕ) (p : Place) → Walk s p (thenFields s p) (λ X bad next. l .read {X = X} s p bad (λ a q. m a .read s q bad (λ b r. next (a, b) r)))
+  then-walk s p = first (u .walk s p)
+    where
+      Both : Type 1
+      Both = Walk s p (thenFields s p) (λ X bad next. l .read {X = X} s p bad (λ a q. m a .read s q bad (λ b r. next (a, b) r)))
+
+      second : (a : A) (q : Place) → Passed s p (u .fields s p) q → ((X : Type 0) (bad : Fault → X) (next : A → Place → X) → l .read s p bad next ≡ next a q)
+          → Walk s q (v a .fields s q) (λ X bad next. m a .read {X = X} s q bad next) → Both
+      second a q g e (stops x r h) = walk-as (e (List Part) _ _)
+          (stops x (refused-later s (p .at) (u .fields s p) (v a .fields s q) x (g .good) (subst (λ (n : ℕ). RefusedAt s n (v a .fields s q) x) (g .ends) r)) (λ X bad next. e X bad _ ∙ h X bad _))
+      second a q g e (goes b r h k) = walk-as (e (List Part) _ _) (goes (a, b) r (passed-both s p q r (u .fields s p) (v a .fields s q) g h) (λ X bad next. e X bad _ ∙ k X bad _))
+
+      first : Walk s p (u .fields s p) (λ X bad next. l .read {X = X} s p bad next) → Both
+      first (stops x r e) = walk-as (e (List Part) _ _) (stops x r (λ X bad next. e X bad _))
+      first (goes a q g e) = second a q g e (v a .walk s q)
+
+  pub then-broken : {X : Type 0} (c e : List ℕ) (p : Place) (bad : Fault → X) (next : A × B → Place → X)
+      → l .read c p bad (λ a q. m a .read c q bad (λ b r. next (a, b) r))
+      ≡ unless (firstBeyond (8 * reach c) (p .at) (thenFields (c ++ e) p)) bad (l .read (c ++ e) p bad (λ a q. m a .read (c ++ e) q bad (λ b r. next (a, b) r)))
+  then-broken {X} c e p bad next = u .broken c e p bad _ ∙ go (u .walk s p)
+    where
+      s : List ℕ
+      s = c ++ e
+
+      n : ℕ
+      n = 8 * reach c
+
+      t : List Part
+      t = u .fields s p
+
+      -- the second in c, and in c ++ e; and the fields of both
+      short : A → Place → X
+      short a q = m a .read c q bad (λ b r. next (a, b) r)
+
+      long : A → Place → X
+      long a q = m a .read s q bad (λ b r. next (a, b) r)
+
+      parts : A → Place → List Part
+      parts a q = t ++ v a .fields s q
+
+      go : Walk s p t (λ X bad next. l .read {X = X} s p bad next)
+          → unless (firstBeyond n (p .at) t) bad (l .read s p bad short) ≡ unless (firstBeyond n (p .at) (thenFields s p)) bad (l .read s p bad long)
+      go (stops x r h) =
+          ap (λ (y : X). unless (firstBeyond n (p .at) t) bad y) (h X bad short ∙ sym (h X bad long))
+          ∙ sym (ap (λ (z : List Part). unless (firstBeyond n (p .at) z) bad (l .read s p bad long)) (h (List Part) (λ x. t) parts))
+      go (goes a q g h) =
+          let w : List Part = v a .fields s q in
+          let y : X = long a q in
+          ap (λ (y : X). unless (firstBeyond n (p .at) t) bad y) (h X bad short ∙ v a .broken c e q bad (λ b r. next (a, b) r))
+          ∙ ap (λ (k : ℕ). unless (firstBeyond n (p .at) t) bad (unless (firstBeyond n k w) bad y)) (g .ends)
+          ∙ unless-append n (p .at) t w bad y
+          ∙ ap (λ (y : X). unless (firstBeyond n (p .at) (t ++ w)) bad y) (sym (h X bad long))
+          ∙ sym (ap (λ (z : List Part). unless (firstBeyond n (p .at) z) bad (l .read s p bad long)) (h (List Part) (λ x. t) parts))
+
+  unfoldable pub then-traced : Traced (l then m)
+  unfolding _then_
+  then-traced = record { fields = thenFields; walk = then-walk; broken = λ c e p bad next. then-broken c e p bad next }
+
+unfoldable pub pair-traced : {A B : Type 0} {l : Layout A} {m : Layout B} → Traced l → Traced m → Traced (l ▸ m)
+pair-traced {m = m} u v = then-traced (λ a. m) u (λ a. v)
+
+-- ---- n of them, with the names of the i-th, the next and so on
+
+pub none-walk : {A : Type 0} (l : Layout A) (s : List ℕ) (p : Place) → Walk s p [] (λ X bad next. list zero l .read {X = X} s p bad next)
+unfolding list repeated
+none-walk l s p = goes [] p (passed-none s p) (λ X bad next. refl)
+
+unfoldable pub list-traced : {A : Type 0} (n i : ℕ) {l : Layout A} → (ℕ → Traced l) → Traced (list n l)
+unfolding list repeated
+list-traced zero i {l} u = record { fields = λ s p. []; walk = none-walk l; broken = λ c e p bad next. refl }
+list-traced {A} (suc n) i {l} u = record {
+  fields = thenFields (λ a. list n l) (u i) (λ a. list-traced n (suc i) u);
+  walk = λ s p. map-walk (λ (x : A × List A). x .0 ∷ x .1) (λ X bad next. l .read {X = X} s p bad (λ a q. list n l .read s q bad (λ b r. next (a, b) r)))
+      (then-walk (λ a. list n l) (u i) (λ a. list-traced n (suc i) u) s p);
+  broken = λ c e p bad next. then-broken (λ a. list n l) (u i) (λ a. list-traced n (suc i) u) c e p bad (λ x r. next (x .0 ∷ x .1) r);
+}
+
+-- a count and that many
+unfoldable pub counted-traced : {A : Type 0} (n : Name) (w low high : ℕ) {l : Layout A} → (ℕ → Traced l) → Traced (counted (countOf w low high) l)
+unfolding counted
+counted-traced n w low high {l} u = held-traced _ _ (then-traced (λ k. list k l) (nat-traced n count w low high) (λ k. list-traced k 0 u))
+
+-- ---- tested against what was read before: a contradiction is noted at the first bit
+
+-- at least one field
+abbrev pub Some : List Part → Type 0
+Some [] = ⊥
+Some (f ∷ t) = Unit {0}
+
+passed-noted : (s : List ℕ) (p q : Place) (t : List Part) (ok : Bool) → Some t → Passed s p t q → Passed s p t (noted ok (p .at) q)
+passed-noted s p q t true k g = g
+passed-noted s p q t false k g = record { good = g .good; ends = g .ends; clash = λ b e. go b (q .clash) refl e }
+  where
+    here : (u : List Part) (b : ℕ) → Some u → p .at ≡ b → Stands (p .at) u b
+    here [] b k e = absurd k
+    here (f ∷ u) b k e = record { before = []; field = f; after = u; visited = refl; first = e }
+
+    go : (b : ℕ) (c : Clash) → q .clash ≡ c → orElse c (At (p .at)) ≡ At b → (p .clash ≡ At b) ⊎ Stands (p .at) t b
+    go b (At n) d e = g .clash b (d ∙ e)
+    go b Clear d e = inr (here t b k (let z : p .at ≡ b = cc in z))
+
+pub such-walk : {A : Type 0} (ok : A → Bool) {l : Layout A} (u : Traced l) → ((s : List ℕ) (p : Place) → Some (u .fields s p))
+    → (s : List ℕ) (p : Place) → Walk s p (u .fields s p) (λ X bad next. l .read {X = X} s p bad (λ a q. next a (noted (ok a) (p .at) q)))
+such-walk {A} ok {l} u some s p = go (u .walk s p)
+  where
+    go : Walk s p (u .fields s p) (λ X bad next. l .read {X = X} s p bad next) → Walk s p (u .fields s p) (λ X bad next. l .read {X = X} s p bad (λ a q. next a (noted (ok a) (p .at) q)))
+    go (stops x r e) = stops x r (λ X bad next. e X bad _)
+    go (goes a q g e) = goes a (noted (ok a) (p .at) q) (passed-noted s p q (u .fields s p) (ok a) (some s p) g) (λ X bad next. e X bad _)
+
+unfoldable pub such-traced : {A : Type 0} (ok : A → Bool) {l : Layout A} (u : Traced l) → ((s : List ℕ) (p : Place) → Some (u .fields s p)) → Traced (such ok l)
+unfolding such
+such-traced ok u some = record { fields = u .fields; walk = such-walk ok u some; broken = λ c e p bad next. u .broken c e p bad _ }
