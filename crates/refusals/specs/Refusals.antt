@@ -6,7 +6,7 @@ use Prim.Native.Nat.{ℕ, _*_, _<_}
 use lib.ListN.{length, take}
 use Rattle.layouts.specs.declared.Fault.{Fault}
 use Rattle.layouts.specs.declared.Fault.the-variants as F
-use Rattle.layouts.specs.Layout.{passes, fails, begin}
+use Rattle.layouts.specs.Layout.{Layout, passes, fails, begin}
 use Rattle.model.specs.declared.Subject.the-variants as S
 use Rattle.model.specs.declared.Verdict.the-variants.{Refused}
 use Rattle.model.specs.Case.{Plan}
@@ -15,13 +15,16 @@ use Rattle.model.specs.Editions.{Largest}
 use Rattle.model.specs.ByEdition as B
 use Rattle.model.specs.ByEdition.{Stated, statedIn, plannedIn}
 use Rattle.model.specs.Judgement.{readPlan, judgement, refusedAs, withPlan, withCase}
-use Rattle.refusals.specs.Visited.{Part}
+use Rattle.refusals.specs.Visited.{Part, AllGood}
 use Rattle.refusals.specs.Traced.{Traced}
-use Rattle.refusals.specs.Whole.{BrokenOff, Refusal, broken-off, run-on, refusal}
+use Rattle.refusals.specs.Whole.{BrokenOff, Refusal, Wrong, broken-off, run-on, refusal, field-wrong}
 use Rattle.refusals.specs.Messages.{case-traced, plan-traced}
 
--- the fields of a plan, behind the case that it is read with
-abbrev pub plan-of : (x : Stated) → Traced (B.planLayout (x .edition) (devices (x .case .system)) (intervals (x .case .system)))
+-- how the plans of a case are laid out, and their fields
+abbrev pub planOf : Stated → Layout Plan
+planOf x = B.planLayout (x .edition) (devices (x .case .system)) (intervals (x .case .system))
+
+abbrev pub plan-of : (x : Stated) → Traced (planOf x)
 plan-of x = plan-traced (x .edition) (devices (x .case .system)) (intervals (x .case .system))
 
 -- the fields of a message in order: all of them where it passes reading, else up to the one that is refused
@@ -37,17 +40,25 @@ abbrev pub CaseBrokenOff : Largest → List ℕ → ℕ → Type 0
 CaseBrokenOff l s k = BrokenOff (B.caseLayout l) (case-traced l) s k
 
 abbrev pub PlanBrokenOff : Stated → List ℕ → ℕ → Type 0
-PlanBrokenOff x s k = BrokenOff (B.planLayout (x .edition) (devices (x .case .system)) (intervals (x .case .system))) (plan-of x) s k
+PlanBrokenOff x s k = BrokenOff (planOf x) (plan-of x) s k
 
 -- every proper beginning of a case that passes reading is refused by 1, at the first bit of the first field that is not whole
 pub case-broken-off : (l : Largest) (s : List ℕ) (x : Stated) → statedIn l s ≡ passes x → (k : ℕ) → k < length s → CaseBrokenOff l s k
 unfolding statedIn
 case-broken-off l s x h k n = broken-off (B.caseLayout l) (case-traced l) s x h k n
 
+pub case-cut : (l : Largest) (s : List ℕ) (x : Stated) (h : statedIn l s ≡ passes x) (k : ℕ) (n : k < length s) → statedIn l (take k s) ≡ fails (F.Cut (case-broken-off l s x h k n .bit))
+unfolding statedIn
+case-cut l s x h k n = case-broken-off l s x h k n .refused
+
 -- and of a plan
 pub plan-broken-off : (x : Stated) (s : List ℕ) (p : Plan) → readPlan x s ≡ passes p → (k : ℕ) → k < length s → PlanBrokenOff x s k
 unfolding plannedIn
-plan-broken-off x s p h k n = broken-off _ (plan-of x) s p h k n
+plan-broken-off x s p h k n = broken-off (planOf x) (plan-of x) s p h k n
+
+pub plan-cut : (x : Stated) (s : List ℕ) (p : Plan) (h : readPlan x s ≡ passes p) (k : ℕ) (n : k < length s) → readPlan x (take k s) ≡ fails (F.Cut (plan-broken-off x s p h k n .bit))
+unfolding plannedIn
+plan-cut x s p h k n = plan-broken-off x s p h k n .refused
 
 -- ---- run on
 
@@ -59,7 +70,7 @@ case-run-on l s x h e n = run-on (B.caseLayout l) (case-traced l) s x h e n
 -- and a plan
 pub plan-run-on : (x : Stated) (s : List ℕ) (p : Plan) → readPlan x s ≡ passes p → (e : List ℕ) → 0 < length e → readPlan x (s ++ e) ≡ fails (F.Tail (8 * length s))
 unfolding plannedIn
-plan-run-on x s p h e n = run-on _ (plan-of x) s p h e n
+plan-run-on x s p h e n = run-on (planOf x) (plan-of x) s p h e n
 
 -- ---- the field of a refusal
 
@@ -67,7 +78,7 @@ abbrev pub CaseRefusal : Largest → List ℕ → Fault → Type 0
 CaseRefusal l s f = Refusal (B.caseLayout l) (case-traced l) s f
 
 abbrev pub PlanRefusal : Stated → List ℕ → Fault → Type 0
-PlanRefusal x s f = Refusal (B.planLayout (x .edition) (devices (x .case .system)) (intervals (x .case .system))) (plan-of x) s f
+PlanRefusal x s f = Refusal (planOf x) (plan-of x) s f
 
 pub case-refusal : (l : Largest) (s : List ℕ) (f : Fault) → statedIn l s ≡ fails f → CaseRefusal l s f
 unfolding statedIn
@@ -75,7 +86,14 @@ case-refusal l s f h = refusal (B.caseLayout l) (case-traced l) s f h
 
 pub plan-refusal : (x : Stated) (s : List ℕ) (f : Fault) → readPlan x s ≡ fails f → PlanRefusal x s f
 unfolding plannedIn
-plan-refusal x s f h = refusal _ (plan-of x) s f h
+plan-refusal x s f h = refusal (planOf x) (plan-of x) s f h
+
+-- where one of the fields visited is cut or out of its range, the message is refused for it
+pub case-field-wrong : (l : Largest) (s : List ℕ) → ¬ AllGood s 0 (caseFields l s) → Wrong (B.caseLayout l) (case-traced l) s
+case-field-wrong l s h = field-wrong (B.caseLayout l) (case-traced l) s h
+
+pub plan-field-wrong : (x : Stated) (s : List ℕ) → ¬ AllGood s 0 (planFields x s) → Wrong (planOf x) (plan-of x) s
+plan-field-wrong x s h = field-wrong (planOf x) (plan-of x) s h
 
 -- ---- as judged: the case first, then the plan; the result buffer stays as it was
 
@@ -83,7 +101,7 @@ module _ (l : Largest) (cs : List ℕ) (x : Stated) (h : statedIn l cs ≡ passe
   pub judged-case-broken-off : (k : ℕ) (n : k < length cs) (ps buffer : List ℕ)
       → judgement l (take k cs) ps buffer ≡ refusedAs (Refused S.Case (F.Cut (case-broken-off l cs x h k n .bit))) buffer
   unfolding judgement
-  judged-case-broken-off k n ps buffer = ap (withCase ps buffer) (case-broken-off l cs x h k n .refused)
+  judged-case-broken-off k n ps buffer = ap (withCase ps buffer) (case-cut l cs x h k n)
 
   pub judged-case-run-on : (e : List ℕ) → 0 < length e → (ps buffer : List ℕ) → judgement l (cs ++ e) ps buffer ≡ refusedAs (Refused S.Case (F.Tail (8 * length cs))) buffer
   unfolding judgement
@@ -93,7 +111,7 @@ module _ (l : Largest) (cs : List ℕ) (x : Stated) (h : statedIn l cs ≡ passe
     pub judged-plan-broken-off : (k : ℕ) (n : k < length ps) (buffer : List ℕ)
         → judgement l cs (take k ps) buffer ≡ refusedAs (Refused S.Plan (F.Cut (plan-broken-off x ps p g k n .bit))) buffer
     unfolding judgement
-    judged-plan-broken-off k n buffer = ap (withCase (take k ps) buffer) h ∙ ap (withPlan x buffer) (plan-broken-off x ps p g k n .refused)
+    judged-plan-broken-off k n buffer = ap (withCase (take k ps) buffer) h ∙ ap (withPlan x buffer) (plan-cut x ps p g k n)
 
     pub judged-plan-run-on : (e : List ℕ) → 0 < length e → (buffer : List ℕ) → judgement l cs (ps ++ e) buffer ≡ refusedAs (Refused S.Plan (F.Tail (8 * length ps))) buffer
     unfolding judgement

@@ -184,3 +184,21 @@ module _ {A : Type 0} (l : Layout A) (u : Traced l) where
           let t : f ≡ x = same (sym (e (Whole A) fails (λ a p. settle a (tailFault s (p .at)) (p .clash))) ∙ h) in
           by-field (field-told s (fieldsOf s) x (subst (λ (y : Fault). RefusedAt s 0 (fieldsOf s) y) t r))
       go (goes a q g e) = settled a q g (tailFault s (q .at)) (q .clash) refl refl (sym (e (Whole A) fails (λ a p. settle a (tailFault s (p .at)) (p .clash))) ∙ h)
+
+  -- and where one of the fields visited is cut or out of its range, the message is refused for it
+  pub record Wrong (s : List ℕ) : Type 0 where
+    pub fault : Fault
+    pub refused : readWhole l s ≡ fails fault
+    pub told : FieldTold s (u .fields s begin) fault
+
+  pub field-wrong : (s : List ℕ) → ¬ AllGood s 0 (u .fields s begin) → Wrong s
+  unfolding readWhole
+  field-wrong s h = go (u .walk s begin)
+    where
+      go : Walk s begin (fieldsOf s) (λ X bad next. l .read {X = X} s begin bad next) → Wrong s
+      go (stops x r e) = record { fault = x; refused = e (Whole A) fails _; told = field-told s (fieldsOf s) x r }
+      go (goes a q g e) = absurd (h (g .good))
+
+  -- every field of a message that passes is whole and in its range
+  pub passes-good : (s : List ℕ) (a : A) → readWhole l s ≡ passes a → AllGood s 0 (u .fields s begin)
+  passes-good s a h = whole-passes s a h .passed .good
