@@ -23,16 +23,17 @@ use Rattle.layouts.specs.declared.Place.{Place}
 use Rattle.layouts.specs.Layout.{Layout, orElse, raw, advanced, nat, int, _then_, _▸_, repeated, list, such, noted, held, counted, countOf}
 use Rattle.layouts.specs.Since.{nothing, present}
 use Rattle.refusals.specs.Names.{Name}
-use Rattle.refusals.specs.Visited.{Sort, count, other, faultOf, between, sized, Within, Part, Good, Why, cut, outside, endOf, AllGood, firstBeyond, Stands, RefusedAt}
-use Rattle.refusals.specs.Visited.{end-append, good-append, stands-first, stands-later, refused-later, unless, unless-append}
+use Rattle.refusals.specs.Visited.{Sort, count, other, faultOf, between, sized, Within, Part, Good, Why, cut, outside, endOf, AllGood, firstBeyond, Later, RefusedAt}
+use Rattle.refusals.specs.Visited.{end-append, good-append, later-first, later-later, refused-later, unless, unless-append}
 
 -- ---- what a reading tells
 
--- it went on to the place q: every field visited is whole and in its range, q is behind the last, and a contradiction stood before or is noted at the first bit of one of them
+-- it went on to the place q: every field visited is whole and in its range, q is behind the last, and a contradiction stood before or is noted at the first bit of one
+-- of them that is tested
 pub record Passed (s : List ℕ) (p : Place) (t : List Part) (q : Place) : Type 0 where
   pub good : AllGood s (p .at) t
   pub ends : q .at ≡ endOf (p .at) t
-  pub clash : (b : ℕ) → q .clash ≡ At b → (p .clash ≡ At b) ⊎ Stands (p .at) t b
+  pub clash : (b : ℕ) → q .clash ≡ At b → (p .clash ≡ At b) ⊎ Later (p .at) t b
 
 -- it stops at the last field visited, or goes on
 pub data Walk {A : Type 0} (s : List ℕ) (p : Place) (t : List Part) (run : (X : Type 0) → (Fault → X) → (A → Place → X) → X) : Type 1 where
@@ -90,19 +91,19 @@ module _ (s : List ℕ) (p : Place) (f : Part) where
   one-refused x y = record { before = []; field = f; visited = refl; good = tt; why = y }
 
 -- a field of whole numbers
-abbrev pub numberPart : Name → Sort → ℕ → ℕ → ℕ → Part
-numberPart n k w low high = record { name = n; sort = k; width = w; range = between low high }
+abbrev pub numberPart : Name → Sort → Bool → ℕ → ℕ → ℕ → Part
+numberPart n k c w low high = record { name = n; sort = k; tested = c; width = w; range = between low high }
 
-pub nat-walk : (n : Name) (k : Sort) (w low high : ℕ) (s : List ℕ) (p : Place)
-    → Walk s p (numberPart n k w low high ∷ []) (λ X bad next. nat (record { width = w; low = low; high = high; wrong = faultOf k }) .read {X = X} s p bad next)
+pub nat-walk : (n : Name) (k : Sort) (c : Bool) (w low high : ℕ) (s : List ℕ) (p : Place)
+    → Walk s p (numberPart n k c w low high ∷ []) (λ X bad next. nat (record { width = w; low = low; high = high; wrong = faultOf k }) .read {X = X} s p bad next)
 unfolding nat readField
-nat-walk n k w low high s p = go (leb (p .at + w) (8 * reach s)) refl
+nat-walk n k c w low high s p = go (leb (p .at + w) (8 * reach s)) refl
   where
     v : ℕ
     v = fieldAt s (p .at) w
 
     f : Part
-    f = numberPart n k w low high
+    f = numberPart n k c w low high
 
     refuses : p .at + w ≤ 8 * reach s → ¬ ((low ≤ v) × (v ≤ high)) → RefusedAt s (p .at) (f ∷ []) (faultOf k (p .at))
     refuses h o = one-refused s p f (faultOf k (p .at)) (outside h o refl)
@@ -119,27 +120,27 @@ nat-walk n k w low high s p = go (leb (p .at + w) (8 * reach s)) refl
     go true e = tests (leb-true (p .at + w) (8 * reach s) e) _ _ refl refl
     go false e = stops (F.Cut (p .at)) (one-refused s p f (F.Cut (p .at)) (cut (leb-false (p .at + w) (8 * reach s) e) refl)) (λ X bad next. refl)
 
-unfoldable pub nat-traced : (n : Name) (k : Sort) (w low high : ℕ) → Traced (nat (record { width = w; low = low; high = high; wrong = faultOf k }))
+unfoldable pub nat-traced : (n : Name) (k : Sort) (c : Bool) (w low high : ℕ) → Traced (nat (record { width = w; low = low; high = high; wrong = faultOf k }))
 unfolding nat
-nat-traced n k w low high = record {
-  fields = λ s p. numberPart n k w low high ∷ [];
-  walk = nat-walk n k w low high;
-  broken = λ c e p bad next. raw-broken c e p (numberPart n k w low high) bad _;
+nat-traced n k c w low high = record {
+  fields = λ s p. numberPart n k c w low high ∷ [];
+  walk = nat-walk n k c w low high;
+  broken = λ b e p bad next. raw-broken b e p (numberPart n k c w low high) bad _;
 }
 
 -- one in two's complement
-abbrev pub signedPart : Name → ℕ → ℕ → Part
-signedPart n w most = record { name = n; sort = other; width = w; range = sized most }
+abbrev pub signedPart : Name → Bool → ℕ → ℕ → Part
+signedPart n c w most = record { name = n; sort = other; tested = c; width = w; range = sized most }
 
-pub int-walk : (n : Name) (w most : ℕ) (s : List ℕ) (p : Place) → Walk s p (signedPart n w most ∷ []) (λ X bad next. int w most .read {X = X} s p bad next)
+pub int-walk : (n : Name) (c : Bool) (w most : ℕ) (s : List ℕ) (p : Place) → Walk s p (signedPart n c w most ∷ []) (λ X bad next. int w most .read {X = X} s p bad next)
 unfolding int readField
-int-walk n w most s p = go (leb (p .at + w) (8 * reach s)) refl
+int-walk n c w most s p = go (leb (p .at + w) (8 * reach s)) refl
   where
     z : ℤ
     z = fromTwos w (fieldAt s (p .at) w)
 
     f : Part
-    f = signedPart n w most
+    f = signedPart n c w most
 
     test : p .at + w ≤ 8 * reach s → (x : Bool) → leb (natAbs z) most ≡ x
         → Walk s p (f ∷ []) (λ X bad next. pick {A = X} x (next z (advanced p (p .at + w))) (bad (F.OutOfRange (p .at))))
@@ -152,12 +153,12 @@ int-walk n w most s p = go (leb (p .at + w) (8 * reach s)) refl
     go true e = test (leb-true (p .at + w) (8 * reach s) e) _ refl
     go false e = stops (F.Cut (p .at)) (one-refused s p f (F.Cut (p .at)) (cut (leb-false (p .at + w) (8 * reach s) e) refl)) (λ X bad next. refl)
 
-unfoldable pub int-traced : (n : Name) (w most : ℕ) → Traced (int w most)
+unfoldable pub int-traced : (n : Name) (c : Bool) (w most : ℕ) → Traced (int w most)
 unfolding int
-int-traced n w most = record {
-  fields = λ s p. signedPart n w most ∷ [];
-  walk = int-walk n w most;
-  broken = λ c e p bad next. raw-broken c e p (signedPart n w most) bad _;
+int-traced n c w most = record {
+  fields = λ s p. signedPart n c w most ∷ [];
+  walk = int-walk n c w most;
+  broken = λ b e p bad next. raw-broken b e p (signedPart n c w most) bad _;
 }
 
 -- ---- what an edition lacks
@@ -202,13 +203,13 @@ passed-both s p q r t u g h = record {
   clash = λ b e. second b (h .clash b e);
 }
   where
-    first : (b : ℕ) → (p .clash ≡ At b) ⊎ Stands (p .at) t b → (p .clash ≡ At b) ⊎ Stands (p .at) (t ++ u) b
+    first : (b : ℕ) → (p .clash ≡ At b) ⊎ Later (p .at) t b → (p .clash ≡ At b) ⊎ Later (p .at) (t ++ u) b
     first b (inl e) = inl e
-    first b (inr k) = inr (stands-first (p .at) t u b k)
+    first b (inr k) = inr (later-first (p .at) t u b k)
 
-    second : (b : ℕ) → (q .clash ≡ At b) ⊎ Stands (q .at) u b → (p .clash ≡ At b) ⊎ Stands (p .at) (t ++ u) b
+    second : (b : ℕ) → (q .clash ≡ At b) ⊎ Later (q .at) u b → (p .clash ≡ At b) ⊎ Later (p .at) (t ++ u) b
     second b (inl e) = first b (g .clash b e)
-    second b (inr k) = inr (stands-later (p .at) t u b (subst (λ (n : ℕ). Stands n u b) (g .ends) k))
+    second b (inr k) = inr (later-later (p .at) t u b (subst (λ (n : ℕ). Later n u b) (g .ends) k))
 
 module _ {A B : Type 0} {l : Layout A} (m : A → Layout B) (u : Traced l) (v : (a : A) → Traced (m a)) where
   -- those of the first, and behind them, where it goes on, those of the second
@@ -295,28 +296,28 @@ list-traced {A} (suc n) i {l} u = record {
 -- a count and that many
 unfoldable pub counted-traced : {A : Type 0} (n : Name) (w low high : ℕ) {l : Layout A} → (ℕ → Traced l) → Traced (counted (countOf w low high) l)
 unfolding counted
-counted-traced n w low high {l} u = held-traced _ _ (then-traced (λ k. list k l) (nat-traced n count w low high) (λ k. list-traced k 0 u))
+counted-traced n w low high {l} u = held-traced _ _ (then-traced (λ k. list k l) (nat-traced n count false w low high) (λ k. list-traced k 0 u))
 
 -- ---- tested against what was read before: a contradiction is noted at the first bit
 
--- at least one field
-abbrev pub Some : List Part → Type 0
-Some [] = ⊥
-Some (f ∷ t) = Unit {0}
+-- the first field is one that is tested
+abbrev pub Tested : List Part → Type 0
+Tested [] = ⊥
+Tested (f ∷ t) = f .tested ≡ true
 
-passed-noted : (s : List ℕ) (p q : Place) (t : List Part) (ok : Bool) → Some t → Passed s p t q → Passed s p t (noted ok (p .at) q)
+passed-noted : (s : List ℕ) (p q : Place) (t : List Part) (ok : Bool) → Tested t → Passed s p t q → Passed s p t (noted ok (p .at) q)
 passed-noted s p q t true k g = g
 passed-noted s p q t false k g = record { good = g .good; ends = g .ends; clash = λ b e. go b (q .clash) refl e }
   where
-    here : (u : List Part) (b : ℕ) → Some u → p .at ≡ b → Stands (p .at) u b
+    here : (u : List Part) (b : ℕ) → Tested u → p .at ≡ b → Later (p .at) u b
     here [] b k e = absurd k
-    here (f ∷ u) b k e = record { before = []; field = f; after = u; visited = refl; first = e }
+    here (f ∷ u) b k e = record { stands = record { before = []; field = f; after = u; visited = refl; first = e }; tested = k }
 
-    go : (b : ℕ) (c : Clash) → q .clash ≡ c → orElse c (At (p .at)) ≡ At b → (p .clash ≡ At b) ⊎ Stands (p .at) t b
+    go : (b : ℕ) (c : Clash) → q .clash ≡ c → orElse c (At (p .at)) ≡ At b → (p .clash ≡ At b) ⊎ Later (p .at) t b
     go b (At n) d e = g .clash b (d ∙ e)
     go b Clear d e = inr (here t b k (let z : p .at ≡ b = cc in z))
 
-pub such-walk : {A : Type 0} (ok : A → Bool) {l : Layout A} (u : Traced l) → ((s : List ℕ) (p : Place) → Some (u .fields s p))
+pub such-walk : {A : Type 0} (ok : A → Bool) {l : Layout A} (u : Traced l) → ((s : List ℕ) (p : Place) → Tested (u .fields s p))
     → (s : List ℕ) (p : Place) → Walk s p (u .fields s p) (λ X bad next. l .read {X = X} s p bad (λ a q. next a (noted (ok a) (p .at) q)))
 such-walk {A} ok {l} u some s p = go (u .walk s p)
   where
@@ -324,6 +325,6 @@ such-walk {A} ok {l} u some s p = go (u .walk s p)
     go (stops x r e) = stops x r (λ X bad next. e X bad _)
     go (goes a q g e) = goes a (noted (ok a) (p .at) q) (passed-noted s p q (u .fields s p) (ok a) (some s p) g) (λ X bad next. e X bad _)
 
-unfoldable pub such-traced : {A : Type 0} (ok : A → Bool) {l : Layout A} (u : Traced l) → ((s : List ℕ) (p : Place) → Some (u .fields s p)) → Traced (such ok l)
+unfoldable pub such-traced : {A : Type 0} (ok : A → Bool) {l : Layout A} (u : Traced l) → ((s : List ℕ) (p : Place) → Tested (u .fields s p)) → Traced (such ok l)
 unfolding such
 such-traced ok u some = record { fields = u .fields; walk = such-walk ok u some; broken = λ c e p bad next. u .broken c e p bad _ }

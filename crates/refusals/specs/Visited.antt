@@ -44,6 +44,8 @@ Within (sized most) w v = natAbs (fromTwos w v) ≤ most
 pub record Part : Type 0 where
   pub name : Name
   pub sort : Sort
+  -- whether it is tested against earlier fields: number 5 where it contradicts one
+  pub tested : Bool
   pub width : ℕ
   pub range : Range
 
@@ -83,6 +85,11 @@ pub record Stands (at : ℕ) (t : List Part) (b : ℕ) : Type 0 where
   pub after : List Part
   pub visited : t ≡ before ++ (field ∷ after)
   pub first : endOf at before ≡ b
+
+-- and is one that is tested against earlier ones
+pub record Later (at : ℕ) (t : List Part) (b : ℕ) : Type 0 where
+  pub stands : Stands at t b
+  pub tested : stands .field .tested ≡ true
 
 -- the field that begins at bit b is the first that is not whole in n bits: those before it are
 pub record NotWhole (n at : ℕ) (t : List Part) (b : ℕ) : Type 0 where
@@ -204,7 +211,7 @@ pub good-ends : (s : List ℕ) (at : ℕ) (t : List Part) → at ≤ 8 * reach s
 good-ends s at [] h g = h
 good-ends s at (f ∷ t) h g = good-ends s (at + f .width) t (g .0 .whole) (g .1)
 
-pub stands-first : (at : ℕ) (t u : List Part) (b : ℕ) → Stands at t b → Stands at (t ++ u) b
+abbrev stands-first : (at : ℕ) (t u : List Part) (b : ℕ) → Stands at t b → Stands at (t ++ u) b
 stands-first at t u b h = record {
   before = h .before;
   field = h .field;
@@ -213,7 +220,7 @@ stands-first at t u b h = record {
   first = h .first;
 }
 
-pub stands-later : (at : ℕ) (t u : List Part) (b : ℕ) → Stands (endOf at t) u b → Stands at (t ++ u) b
+abbrev stands-later : (at : ℕ) (t u : List Part) (b : ℕ) → Stands (endOf at t) u b → Stands at (t ++ u) b
 stands-later at t u b h = record {
   before = t ++ h .before;
   field = h .field;
@@ -221,6 +228,12 @@ stands-later at t u b h = record {
   visited = ap (λ (r : List Part). t ++ r) (h .visited) ∙ sym (append-assoc t (h .before) (h .field ∷ h .after));
   first = end-append at t (h .before) ∙ h .first;
 }
+
+pub later-first : (at : ℕ) (t u : List Part) (b : ℕ) → Later at t b → Later at (t ++ u) b
+later-first at t u b h = record { stands = stands-first at t u b (h .stands); tested = h .tested }
+
+pub later-later : (at : ℕ) (t u : List Part) (b : ℕ) → Later (endOf at t) u b → Later at (t ++ u) b
+later-later at t u b h = record { stands = stands-later at t u b (h .stands); tested = h .tested }
 
 pub refused-later : (s : List ℕ) (at : ℕ) (t u : List Part) (x : Fault) → AllGood s at t → RefusedAt s (endOf at t) u x → RefusedAt s at (t ++ u) x
 refused-later s at t u x g r = record {

@@ -18,7 +18,7 @@ use Rattle.layouts.specs.declared.Clash.the-variants.{Clear, At}
 use Rattle.layouts.specs.declared.Place.{Place}
 use Rattle.layouts.specs.Faults.{numberOf, returnedBy}
 use Rattle.layouts.specs.Layout.{Layout, Whole, passes, fails, settle, begin, readWhole, firstOne, tailFault, bytesFor, orElse}
-use Rattle.refusals.specs.Visited.{Part, endOf, AllGood, firstBeyond, Stands, NotWhole, RefusedAt, FieldTold, field-told, good-ends, within-end, beyond-first, unless}
+use Rattle.refusals.specs.Visited.{Part, endOf, AllGood, firstBeyond, Later, NotWhole, RefusedAt, FieldTold, field-told, good-ends, within-end, beyond-first, unless}
 use Rattle.refusals.specs.Traced.{Traced, Walk, stops, goes, Passed, bit-same, reach-length}
 
 -- ---- behind the last field
@@ -156,8 +156,8 @@ module _ {A : Type 0} (l : Layout A) (u : Traced l) where
     by-field : FieldTold s (u .fields s begin) x → Refusal s x
     -- 6 "first wrong bit: fill bit not 0, or first bit of a surplus byte", behind the last, where every field is whole and in its range
     by-tail : AllGood s 0 (u .fields s begin) → tailFault s (endOf 0 (u .fields s begin)) ≡ At (returnedBy x) → numberOf x ≡ 6 → Refusal s x
-    -- 5 "first bit of the later field": the first bit of one of them, where every field is in its range and nothing is wrong behind the last
-    by-clash : AllGood s 0 (u .fields s begin) → tailFault s (endOf 0 (u .fields s begin)) ≡ Clear → Stands 0 (u .fields s begin) (returnedBy x) → numberOf x ≡ 5 → Refusal s x
+    -- 5 "first bit of the later field": the first bit of one of them that is tested against earlier ones, where every field is in its range and nothing is wrong behind the last
+    by-clash : AllGood s 0 (u .fields s begin) → tailFault s (endOf 0 (u .fields s begin)) ≡ Clear → Later 0 (u .fields s begin) (returnedBy x) → numberOf x ≡ 5 → Refusal s x
 
   pub refusal : (s : List ℕ) (x : Fault) → readWhole l s ≡ fails x → Refusal s x
   unfolding readWhole settle
@@ -166,7 +166,7 @@ module _ {A : Type 0} (l : Layout A) (u : Traced l) where
       same : {g : Fault} → _≡_ {A = Whole A} (fails g) (fails x) → g ≡ x
       same e = cc
 
-      stands : (b : ℕ) → (_≡_ {A = Clash} Clear (At b)) ⊎ Stands 0 (fieldsOf s) b → Stands 0 (fieldsOf s) b
+      stands : (b : ℕ) → (_≡_ {A = Clash} Clear (At b)) ⊎ Later 0 (fieldsOf s) b → Later 0 (fieldsOf s) b
       stands b (inl e) = absurd (let z : _≡_ {A = ℕ} 0 1 = cc in omega arith)
       stands b (inr k) = k
 
@@ -176,7 +176,7 @@ module _ {A : Type 0} (l : Layout A) (u : Traced l) where
           by-tail (g .good) (ap (tailFault s) (sym (g .ends)) ∙ d ∙ ap (λ (y : Fault). At (returnedBy y)) z) (sym (ap numberOf z))
       settled a q g Clear (At b) d k e =
           let z : F.Contradiction b ≡ x = same e in
-          by-clash (g .good) (ap (tailFault s) (sym (g .ends)) ∙ d) (subst (λ (n : ℕ). Stands 0 (fieldsOf s) n) (ap returnedBy z) (stands b (g .clash b k))) (sym (ap numberOf z))
+          by-clash (g .good) (ap (tailFault s) (sym (g .ends)) ∙ d) (subst (λ (n : ℕ). Later 0 (fieldsOf s) n) (ap returnedBy z) (stands b (g .clash b k))) (sym (ap numberOf z))
       settled a q g Clear Clear d k e = absurd (let z : _≡_ {A = ℕ} 0 1 = cc in omega arith)
 
       go : Walk s begin (fieldsOf s) (λ X bad next. l .read {X = X} s begin bad next) → Refusal s x
