@@ -216,11 +216,11 @@ module _ {A B : Type 0} {l : Layout A} (m : A → Layout B) (u : Traced l) (v : 
   abbrev pub thenFields : List ℕ → Place → List Part
   thenFields s p = l .read s p (λ x. u .fields s p) (λ a q. u .fields s p ++ v a .fields s q)
 
-  pub then-walk : (s : List ℕ) (p : Place) → Walk s p (thenFields s p) (λ X bad next. l .read {X = X} s p bad (λ a q. m a .read s q bad (λ b r. next (a, b) r)))
+  pub then-walk : (s : List ℕ) (p : Place) → Walk {A = A × B} s p (thenFields s p) (λ X bad next. l .read {X = X} s p bad (λ a q. m a .read s q bad (λ b r. next (a, b) r)))
   then-walk s p = first (u .walk s p)
     where
       Both : Type 1
-      Both = Walk s p (thenFields s p) (λ X bad next. l .read {X = X} s p bad (λ a q. m a .read s q bad (λ b r. next (a, b) r)))
+      Both = Walk {A = A × B} s p (thenFields s p) (λ X bad next. l .read {X = X} s p bad (λ a q. m a .read s q bad (λ b r. next (a, b) r)))
 
       second : (a : A) (q : Place) → Passed s p (u .fields s p) q → ((X : Type 0) (bad : Fault → X) (next : A → Place → X) → l .read s p bad next ≡ next a q)
           → Walk s q (v a .fields s q) (λ X bad next. m a .read {X = X} s q bad next) → Both
