@@ -1,6 +1,5 @@
 -- The fields of a case and a plan, by name and in message order, in every edition and for every reader: each layout of `Messages` and `ByEdition` with its names.
 use mathlib.Core.Path.{refl}
-use mathlib.Core.Bool.{true, false}
 use mathlib.Core.List.{List}
 use Prim.Native.Nat.{ℕ, _-_, _^_}
 use lib.Dec.{leb}
@@ -18,19 +17,16 @@ use Rattle.refusals.specs.Traced.{Traced, nat-traced, int-traced, presen
 -- ---- fields and groups of fields
 
 abbrev pub figure-traced : (n : Name) (w low high : ℕ) → Traced (figure w low high)
-figure-traced n w low high = nat-traced n other false w low high
-
-abbrev pub signed-traced : (n : Name) (w most : ℕ) → Traced (int w most)
-signed-traced n w most = int-traced n false w most
+figure-traced n w low high = nat-traced n other w low high
 
 abbrev pub any-traced : (n : Name) (w : ℕ) → Traced (any w)
 any-traced n w = figure-traced n w 0 (2 ^ w - 1)
 
 abbrev pub count-traced : (n : Name) (w low high : ℕ) → Traced (nat (countOf w low high))
-count-traced n w low high = nat-traced n count false w low high
+count-traced n w low high = nat-traced n count w low high
 
 abbrev pub fixed-traced : (n : Name) (v : ℕ) → Traced (fixed v)
-fixed-traced n v = nat-traced n kindOrEdition false 4 v v
+fixed-traced n v = nat-traced n kindOrEdition 4 v v
 
 abbrev pub since-traced : {A : Type 0} (e k : ℕ) (neutral : A) {l : Layout A} → Traced l → Traced (since e k neutral l)
 since-traced e k neutral u = present-traced (has k e) neutral u
@@ -90,7 +86,7 @@ zone-traced e intervals z = held-traced _ _
 
 unfoldable pub reactive-limits-traced : (n : N.CellField → Name) → Traced B.reactiveLimits
 unfolding B.reactiveLimits int-traced
-reactive-limits-traced n = held-traced _ _ (then-traced _ (signed-traced (n N.qmin) 18 100000) (λ low. such-traced _ (int-traced (n N.qmax) true 18 100000) (λ s p. refl)))
+reactive-limits-traced n = held-traced _ _ (then-traced _ (int-traced (n N.qmin) 18 100000) (λ low. such-traced _ (int-traced (n N.qmax) 18 100000) (λ s p. refl)))
 
 unfoldable pub reserve-prices-traced : (n : N.CellField → Name) → Traced B.reactivePrices
 unfolding B.reactivePrices
@@ -99,18 +95,18 @@ reserve-prices-traced n = held-traced _ _ (pair-traced (figure-traced (n (N.reac
 -- block j: its cap and, since edition 3, its floor
 unfoldable pub block-traced : (n : N.CellField → Name) (e j : ℕ) → Traced (B.block e)
 unfolding B.block nat-traced
-block-traced n e j = held-traced _ _ (then-traced _ (kW-traced (n (N.cap j))) (λ cap. since-traced e 3 0 (such-traced _ (nat-traced (n (N.floor j)) other true 17 0 100000) (λ s p. refl))))
+block-traced n e j = held-traced _ _ (then-traced _ (kW-traced (n (N.cap j))) (λ cap. since-traced e 3 0 (such-traced _ (kW-traced (n (N.floor j))) (λ s p. refl))))
 
 unfoldable pub limits-traced : (n : N.CellField → Name) → Traced (M.kW then (λ low. such (λ high. leb low high) M.kW))
 unfolding nat-traced
-limits-traced n = then-traced _ (kW-traced (n N.pmin)) (λ low. such-traced _ (nat-traced (n N.pmax) other true 17 0 100000) (λ s p. refl))
+limits-traced n = then-traced _ (kW-traced (n N.pmin)) (λ low. such-traced _ (kW-traced (n N.pmax)) (λ s p. refl))
 
 unfoldable pub cell-traced : (n : N.CellField → Name) (e : ℕ) → Traced (B.cell e)
 unfolding B.cell B.cellWith
 cell-traced n e = held-traced _ _
     (pair-traced (figure-traced (n N.status) 2 0 2)
     (pair-traced (limits-traced n)
-    (pair-traced (apart-traced (counted-traced (n N.blockCount) 3 0 4 (λ j. pair-traced (block-traced n e j) (signed-traced (n (N.blockPrice j)) 15 10000))))
+    (pair-traced (apart-traced (counted-traced (n N.blockCount) 3 0 4 (λ j. pair-traced (block-traced n e j) (int-traced (n (N.blockPrice j)) 15 10000))))
     (pair-traced (eight-traced (λ r. figure-traced (n (N.reservePrice r)) 14 0 10000))
     (since-traced e 2 B.noReactiveCell (pair-traced (reactive-limits-traced n) (reserve-prices-traced n)))))))
 
@@ -124,7 +120,7 @@ ramps-traced n = held-traced _ _
 
 unfoldable pub zone-bits-traced : (n : Name) (zones : ℕ) → Traced (M.zoneBits zones)
 unfolding M.zoneBits nat-traced
-zone-bits-traced n zones = such-traced _ (nat-traced n other true 4 0 (2 ^ 4 - 1)) (λ s p. refl)
+zone-bits-traced n zones = such-traced _ (any-traced n 4) (λ s p. refl)
 
 unfoldable pub head-traced : (n : N.DeviceField → Name) (zones : ℕ) → Traced (M.head zones)
 unfolding M.head
@@ -139,7 +135,7 @@ costs-traced n = held-traced _ _
 
 unfoldable pub ends-traced : (n : N.WindowField → Name) (last : ℕ) → Traced (M.windowEnds last)
 unfolding M.windowEnds nat-traced
-ends-traced n last = then-traced _ (any-traced (n N.windowStart) 16) (λ from. such-traced _ (nat-traced (n N.windowEnd) other true 16 0 (2 ^ 16 - 1)) (λ s p. refl))
+ends-traced n last = then-traced _ (any-traced (n N.windowStart) 16) (λ from. such-traced _ (any-traced (n N.windowEnd) 16) (λ s p. refl))
 
 unfoldable pub start-traced : (n : N.WindowField → Name) (w : Widths) (last : ℕ) → Traced (B.startWindowBy w last)
 unfolding B.startWindowBy
@@ -151,7 +147,7 @@ energy-traced n last = held-traced _ _ (pair-traced (any-traced (n N.windowKind)
 
 unfoldable pub line-traced : (n : N.LineField → Name) → Traced B.line
 unfolding B.line
-line-traced n = held-traced _ _ (pair-traced (signed-traced (n N.offset) 18 100000) (signed-traced (n N.slope) 15 10000))
+line-traced n = held-traced _ _ (pair-traced (int-traced (n N.offset) 18 100000) (int-traced (n N.slope) 15 10000))
 
 unfoldable pub link-traced : (n : N.DeviceField → Name) → Traced B.link
 unfolding B.link
@@ -166,7 +162,7 @@ device-traced w e intervals zones last i = held-traced _ _
     (pair-traced (costs-traced (N.ofDevice i))
     (pair-traced (eight-traced (λ r. kW-traced (N.ofDevice i (N.limit r))))
     (pair-traced (apart-traced (counted-traced (N.ofDevice i N.stateCount) 3 0 mostStates
-    (λ j. pair-traced (minutes-traced (N.ofDevice i (N.longest j))) (signed-traced (N.ofDevice i (N.stateCost j)) 31 1000000000))))
+    (λ j. pair-traced (minutes-traced (N.ofDevice i (N.longest j))) (int-traced (N.ofDevice i (N.stateCost j)) 31 1000000000))))
     (pair-traced (counted-traced (N.ofDevice i N.startWindowCount) 3 0 mostWindows (λ j. start-traced (λ f. N.ofDevice i (N.startWindow j f)) w last))
     (pair-traced (counted-traced (N.ofDevice i N.energyWindowCount) 3 0 mostWindows (λ j. energy-traced (λ f. N.ofDevice i (N.energyWindow j f)) last))
     (pair-traced (since-traced e 2 noLink (link-traced (N.ofDevice i)))
@@ -190,14 +186,14 @@ content-traced w e l = held-traced _ _
 
 unfoldable pub case-traced : (l : Largest) → Traced (B.caseLayout l)
 unfolding B.caseLayout
-case-traced l = held-traced _ _ (pair-traced (fixed-traced N.kind B.caseKind) (then-traced _ (nat-traced N.edition kindOrEdition false 4 1 newest) (λ e. content-traced (widthsOf e) e l)))
+case-traced l = held-traced _ _ (pair-traced (fixed-traced N.kind B.caseKind) (then-traced _ (nat-traced N.edition kindOrEdition 4 1 newest) (λ e. content-traced (widthsOf e) e l)))
 
 -- ---- a plan
 
 unfoldable pub reactive-traced : (n : N.SettingField → Name) → Traced B.reactive
 unfolding B.reactive
 reactive-traced n = held-traced _ _
-    (pair-traced (signed-traced (n N.q) 18 100000) (pair-traced (figure-traced (n (N.reactiveReserve N.up)) 17 0 100000) (figure-traced (n (N.reactiveReserve N.down)) 17 0 100000)))
+    (pair-traced (int-traced (n N.q) 18 100000) (pair-traced (figure-traced (n (N.reactiveReserve N.up)) 17 0 100000) (figure-traced (n (N.reactiveReserve N.down)) 17 0 100000)))
 
 unfoldable pub setting-traced : (n : N.SettingField → Name) (e : ℕ) → Traced (B.setting e)
 unfolding M.active B.setting
@@ -207,7 +203,7 @@ setting-traced n e = held-traced _ _
 
 -- interval t: "per device"; behind them, since edition 5, the flow
 unfoldable pub planned-traced : (e devices t : ℕ) → Traced (B.planned e devices)
-planned-traced e devices t = pair-traced (list-traced devices 0 (λ i. setting-traced (N.ofSetting t i) e)) (since-traced e 5 noFlow (signed-traced (N.flow t) 18 100000))
+planned-traced e devices t = pair-traced (list-traced devices 0 (λ i. setting-traced (N.ofSetting t i) e)) (since-traced e 5 noFlow (int-traced (N.flow t) 18 100000))
 
 unfoldable pub plan-traced : (e devices intervals : ℕ) → Traced (B.planLayout e devices intervals)
 unfolding B.planBy

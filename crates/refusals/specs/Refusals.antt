@@ -6,6 +6,7 @@ use Prim.Native.Nat.{ℕ, _*_, _<_}
 use lib.ListN.{length, take}
 use Rattle.layouts.specs.declared.Fault.{Fault}
 use Rattle.layouts.specs.declared.Fault.the-variants as F
+use Rattle.layouts.specs.Faults.{numberOf}
 use Rattle.layouts.specs.Layout.{Layout, passes, fails, begin}
 use Rattle.model.specs.declared.Subject.the-variants as S
 use Rattle.model.specs.declared.Verdict.the-variants.{Refused}
@@ -15,9 +16,9 @@ use Rattle.model.specs.Editions.{Largest}
 use Rattle.model.specs.ByEdition as B
 use Rattle.model.specs.ByEdition.{Stated, statedIn, plannedIn}
 use Rattle.model.specs.Judgement.{readPlan, judgement, refusedAs, withPlan, withCase}
-use Rattle.refusals.specs.Visited.{Part, AllGood}
+use Rattle.refusals.specs.Visited.{Part, AllGood, FieldTold}
 use Rattle.refusals.specs.Traced.{Traced}
-use Rattle.refusals.specs.Whole.{BrokenOff, Refusal, Wrong, broken-off, run-on, refusal, field-wrong}
+use Rattle.refusals.specs.Whole.{BrokenOff, Refusal, Wrong, Sound, broken-off, run-on, refusal, field-of, field-wrong, passes-sound, sound-passes}
 use Rattle.refusals.specs.Messages.{case-traced, plan-traced}
 
 -- how the plans of a case are laid out, and their fields
@@ -88,12 +89,44 @@ pub plan-refusal : (x : Stated) (s : List ℕ) (f : Fault) → readPlan x s ≡ 
 unfolding plannedIn
 plan-refusal x s f h = refusal (planOf x) (plan-of x) s f h
 
+-- 1 to 4 are of the last field visited
+pub case-field : (l : Largest) (s : List ℕ) (f : Fault) → statedIn l s ≡ fails f → numberOf f < 5 → FieldTold s (caseFields l s) f
+unfolding statedIn
+case-field l s f h n = field-of (B.caseLayout l) (case-traced l) s f h n
+
+pub plan-field : (x : Stated) (s : List ℕ) (f : Fault) → readPlan x s ≡ fails f → numberOf f < 5 → FieldTold s (planFields x s) f
+unfolding plannedIn
+plan-field x s f h n = field-of (planOf x) (plan-of x) s f h n
+
 -- where one of the fields visited is cut or out of its range, the message is refused for it
 pub case-field-wrong : (l : Largest) (s : List ℕ) → ¬ AllGood s 0 (caseFields l s) → Wrong (B.caseLayout l) (case-traced l) s
 case-field-wrong l s h = field-wrong (B.caseLayout l) (case-traced l) s h
 
 pub plan-field-wrong : (x : Stated) (s : List ℕ) → ¬ AllGood s 0 (planFields x s) → Wrong (planOf x) (plan-of x) s
 plan-field-wrong x s h = field-wrong (planOf x) (plan-of x) s h
+
+-- what passes reading: every field is whole and in its range, no bit behind the last is wrong, and none contradicts an earlier one; and whatever is so passes
+abbrev pub CaseSound : Largest → List ℕ → Type 0
+CaseSound l s = Sound (B.caseLayout l) (case-traced l) s
+
+abbrev pub PlanSound : Stated → List ℕ → Type 0
+PlanSound x s = Sound (planOf x) (plan-of x) s
+
+pub case-sound : (l : Largest) (s : List ℕ) (x : Stated) → statedIn l s ≡ passes x → CaseSound l s
+unfolding statedIn
+case-sound l s x h = passes-sound (B.caseLayout l) (case-traced l) s x h
+
+pub case-passes : (l : Largest) (s : List ℕ) → CaseSound l s → (x : Stated) × (statedIn l s ≡ passes x)
+unfolding statedIn
+case-passes l s h = sound-passes (B.caseLayout l) (case-traced l) s h
+
+pub plan-sound : (x : Stated) (s : List ℕ) (p : Plan) → readPlan x s ≡ passes p → PlanSound x s
+unfolding plannedIn
+plan-sound x s p h = passes-sound (planOf x) (plan-of x) s p h
+
+pub plan-passes : (x : Stated) (s : List ℕ) → PlanSound x s → (p : Plan) × (readPlan x s ≡ passes p)
+unfolding plannedIn
+plan-passes x s h = sound-passes (planOf x) (plan-of x) s h
 
 -- ---- as judged: the case first, then the plan; the result buffer stays as it was
 

@@ -2,7 +2,6 @@
 -- and a message broken off is read as the whole one up to the first field that is not whole.
 use mathlib.Core.Path.{_≡_, refl, sym, _∙_, ap, subst}
 use mathlib.Core.Bool.{Bool, true, false}
-use mathlib.Core.Logic.{_⊎_, inl, inr}
 use mathlib.Core.List.{List, [], _∷_, _++_}
 use Prim.Native.Nat.{ℕ, zero, suc, _+_, _-_, _*_, _/_, _%_, _^_, _≤_, _<_, min}
 use native.Mathlib.Omega.{arith}
@@ -23,17 +22,16 @@ use Rattle.layouts.specs.declared.Place.{Place}
 use Rattle.layouts.specs.Layout.{Layout, orElse, raw, advanced, nat, int, _then_, _▸_, repeated, list, such, noted, held, counted, countOf}
 use Rattle.layouts.specs.Since.{nothing, present}
 use Rattle.refusals.specs.Names.{Name}
-use Rattle.refusals.specs.Visited.{Sort, count, other, faultOf, between, sized, Within, Part, Good, Why, cut, outside, endOf, AllGood, firstBeyond, Later, RefusedAt}
-use Rattle.refusals.specs.Visited.{end-append, good-append, later-first, later-later, refused-later, unless, unless-append}
+use Rattle.refusals.specs.Visited.{Sort, count, other, faultOf, between, sized, Within, Part, Good, Why, cut, outside, endOf, AllGood, firstBeyond, firstClash, RefusedAt}
+use Rattle.refusals.specs.Visited.{end-append, good-append, clash-append, first-of-three, first-of-none, refused-later, unless, unless-append}
 
 -- ---- what a reading tells
 
--- it went on to the place q: every field visited is whole and in its range, q is behind the last, and a contradiction stood before or is noted at the first bit of one
--- of them that is tested
+-- it went on to the place q: every field visited is whole and in its range, q is behind the last, and its contradiction is the one that stood before, else the first of theirs
 pub record Passed (s : List ℕ) (p : Place) (t : List Part) (q : Place) : Type 0 where
   pub good : AllGood s (p .at) t
   pub ends : q .at ≡ endOf (p .at) t
-  pub clash : (b : ℕ) → q .clash ≡ At b → (p .clash ≡ At b) ⊎ Later (p .at) t b
+  pub clash : q .clash ≡ orElse (p .clash) (firstClash (p .at) t)
 
 -- it stops at the last field visited, or goes on
 pub data Walk {A : Type 0} (s : List ℕ) (p : Place) (t : List Part) (run : (X : Type 0) → (Fault → X) → (A → Place → X) → X) : Type 1 where
@@ -84,33 +82,33 @@ raw-broken c e p f bad next = elim (decLe (p .at + f .width) (8 * reach c)) [
 
 -- one field that is whole and in its range, cut, or whole and out of it
 module _ (s : List ℕ) (p : Place) (f : Part) where
-  one-good : p .at + f .width ≤ 8 * reach s → Within (f .range) (f .width) (fieldAt s (p .at) (f .width)) → Passed s p (f ∷ []) (advanced p (p .at + f .width))
-  one-good h k = record { good = (record { whole = h; within = k }, tt); ends = refl; clash = λ b e. inl e }
+  one-good : f .contradicts ≡ false → p .at + f .width ≤ 8 * reach s → Within (f .range) (f .width) (fieldAt s (p .at) (f .width)) → Passed s p (f ∷ []) (advanced p (p .at + f .width))
+  one-good c h k = record { good = (record { whole = h; within = k }, tt); ends = refl; clash = rw c (sym (first-of-none (p .clash))) }
 
   one-refused : (x : Fault) → Why s (p .at) f x → RefusedAt s (p .at) (f ∷ []) x
   one-refused x y = record { before = []; field = f; visited = refl; good = tt; why = y }
 
 -- a field of whole numbers
-abbrev pub numberPart : Name → Sort → Bool → ℕ → ℕ → ℕ → Part
-numberPart n k c w low high = record { name = n; sort = k; tested = c; width = w; range = between low high }
+abbrev pub numberPart : Name → Sort → ℕ → ℕ → ℕ → Part
+numberPart n k w low high = record { name = n; sort = k; contradicts = false; width = w; range = between low high }
 
-pub nat-walk : (n : Name) (k : Sort) (c : Bool) (w low high : ℕ) (s : List ℕ) (p : Place)
-    → Walk s p (numberPart n k c w low high ∷ []) (λ X bad next. nat (record { width = w; low = low; high = high; wrong = faultOf k }) .read {X = X} s p bad next)
+pub nat-walk : (n : Name) (k : Sort) (w low high : ℕ) (s : List ℕ) (p : Place)
+    → Walk s p (numberPart n k w low high ∷ []) (λ X bad next. nat (record { width = w; low = low; high = high; wrong = faultOf k }) .read {X = X} s p bad next)
 unfolding nat readField
-nat-walk n k c w low high s p = go (leb (p .at + w) (8 * reach s)) refl
+nat-walk n k w low high s p = go (leb (p .at + w) (8 * reach s)) refl
   where
     v : ℕ
     v = fieldAt s (p .at) w
 
     f : Part
-    f = numberPart n k c w low high
+    f = numberPart n k w low high
 
-    refuses : p .at + w ≤ 8 * reach s → ¬ ((low ≤ v) × (v ≤ high)) → RefusedAt s (p .at) (f ∷ []) (faultOf k (p .at))
+    refuses : p .at + w ≤ 8 * reach s → ¬ Within (between low high) w v → RefusedAt s (p .at) (f ∷ []) (faultOf k (p .at))
     refuses h o = one-refused s p f (faultOf k (p .at)) (outside h o refl)
 
     tests : p .at + w ≤ 8 * reach s → (x y : Bool) → leb low v ≡ x → leb v high ≡ y
         → Walk s p (f ∷ []) (λ X bad next. pick x (pick y (next v (advanced p (p .at + w))) (bad (faultOf k (p .at)))) (bad (faultOf k (p .at))))
-    tests h true true d e = goes v _ (one-good s p f h (leb-true low v d, leb-true v high e)) (λ X bad next. refl)
+    tests h true true d e = goes v _ (one-good s p f refl h (leb-true low v d, leb-true v high e)) (λ X bad next. refl)
     tests h true false d e = stops (faultOf k (p .at)) (refuses h (λ o. let l = leb-false v high e in absurd (omega arith))) (λ X bad next. refl)
     tests h false y d e = stops (faultOf k (p .at)) (refuses h (λ o. let l = leb-false low v d in absurd (omega arith))) (λ X bad next. refl)
 
@@ -120,31 +118,31 @@ nat-walk n k c w low high s p = go (leb (p .at + w) (8 * reach s)) refl
     go true e = tests (leb-true (p .at + w) (8 * reach s) e) _ _ refl refl
     go false e = stops (F.Cut (p .at)) (one-refused s p f (F.Cut (p .at)) (cut (leb-false (p .at + w) (8 * reach s) e) refl)) (λ X bad next. refl)
 
-unfoldable pub nat-traced : (n : Name) (k : Sort) (c : Bool) (w low high : ℕ) → Traced (nat (record { width = w; low = low; high = high; wrong = faultOf k }))
+unfoldable pub nat-traced : (n : Name) (k : Sort) (w low high : ℕ) → Traced (nat (record { width = w; low = low; high = high; wrong = faultOf k }))
 unfolding nat
-nat-traced n k c w low high = record {
-  fields = λ s p. numberPart n k c w low high ∷ [];
-  walk = nat-walk n k c w low high;
-  broken = λ b e p bad next. raw-broken b e p (numberPart n k c w low high) bad _;
+nat-traced n k w low high = record {
+  fields = λ s p. numberPart n k w low high ∷ [];
+  walk = nat-walk n k w low high;
+  broken = λ c e p bad next. raw-broken c e p (numberPart n k w low high) bad _;
 }
 
 -- one in two's complement
-abbrev pub signedPart : Name → Bool → ℕ → ℕ → Part
-signedPart n c w most = record { name = n; sort = other; tested = c; width = w; range = sized most }
+abbrev pub signedPart : Name → ℕ → ℕ → Part
+signedPart n w most = record { name = n; sort = other; contradicts = false; width = w; range = sized most }
 
-pub int-walk : (n : Name) (c : Bool) (w most : ℕ) (s : List ℕ) (p : Place) → Walk s p (signedPart n c w most ∷ []) (λ X bad next. int w most .read {X = X} s p bad next)
+pub int-walk : (n : Name) (w most : ℕ) (s : List ℕ) (p : Place) → Walk s p (signedPart n w most ∷ []) (λ X bad next. int w most .read {X = X} s p bad next)
 unfolding int readField
-int-walk n c w most s p = go (leb (p .at + w) (8 * reach s)) refl
+int-walk n w most s p = go (leb (p .at + w) (8 * reach s)) refl
   where
     z : ℤ
     z = fromTwos w (fieldAt s (p .at) w)
 
     f : Part
-    f = signedPart n c w most
+    f = signedPart n w most
 
     test : p .at + w ≤ 8 * reach s → (x : Bool) → leb (natAbs z) most ≡ x
         → Walk s p (f ∷ []) (λ X bad next. pick {A = X} x (next z (advanced p (p .at + w))) (bad (F.OutOfRange (p .at))))
-    test h true e = goes z _ (one-good s p f h (leb-true (natAbs z) most e)) (λ X bad next. refl)
+    test h true e = goes z _ (one-good s p f refl h (leb-true (natAbs z) most e)) (λ X bad next. refl)
     test h false e = stops (F.OutOfRange (p .at)) (one-refused s p f (F.OutOfRange (p .at)) (outside h (λ o. let l = leb-false (natAbs z) most e in absurd (omega arith)) refl)) (λ X bad next. refl)
 
     go : (b : Bool) → leb (p .at + w) (8 * reach s) ≡ b
@@ -153,18 +151,18 @@ int-walk n c w most s p = go (leb (p .at + w) (8 * reach s)) refl
     go true e = test (leb-true (p .at + w) (8 * reach s) e) _ refl
     go false e = stops (F.Cut (p .at)) (one-refused s p f (F.Cut (p .at)) (cut (leb-false (p .at + w) (8 * reach s) e) refl)) (λ X bad next. refl)
 
-unfoldable pub int-traced : (n : Name) (c : Bool) (w most : ℕ) → Traced (int w most)
+unfoldable pub int-traced : (n : Name) (w most : ℕ) → Traced (int w most)
 unfolding int
-int-traced n c w most = record {
-  fields = λ s p. signedPart n c w most ∷ [];
-  walk = int-walk n c w most;
-  broken = λ b e p bad next. raw-broken b e p (signedPart n c w most) bad _;
+int-traced n w most = record {
+  fields = λ s p. signedPart n w most ∷ [];
+  walk = int-walk n w most;
+  broken = λ c e p bad next. raw-broken c e p (signedPart n w most) bad _;
 }
 
 -- ---- what an edition lacks
 
 passed-none : (s : List ℕ) (p : Place) → Passed s p [] p
-passed-none s p = record { good = tt; ends = refl; clash = λ b e. inl e }
+passed-none s p = record { good = tt; ends = refl; clash = sym (first-of-none (p .clash)) }
 
 pub nothing-walk : {A : Type 0} (neutral : A) (s : List ℕ) (p : Place) → Walk s p [] (λ X bad next. nothing neutral .read {X = X} s p bad next)
 unfolding nothing
@@ -200,16 +198,13 @@ passed-both : (s : List ℕ) (p q r : Place) (t u : List Part) → Passed s p t 
 passed-both s p q r t u g h = record {
   good = good-append s (p .at) t u (g .good) (subst (λ (n : ℕ). AllGood s n u) (g .ends) (h .good));
   ends = h .ends ∙ ap (λ (n : ℕ). endOf n u) (g .ends) ∙ sym (end-append (p .at) t u);
-  clash = λ b e. second b (h .clash b e);
+  clash =
+      h .clash
+      ∙ ap (λ (c : Clash). orElse c (firstClash (q .at) u)) (g .clash)
+      ∙ ap (λ (n : ℕ). orElse (orElse (p .clash) (firstClash (p .at) t)) (firstClash n u)) (g .ends)
+      ∙ first-of-three (p .clash) (firstClash (p .at) t) (firstClash (endOf (p .at) t) u)
+      ∙ ap (orElse (p .clash)) (sym (clash-append (p .at) t u));
 }
-  where
-    first : (b : ℕ) → (p .clash ≡ At b) ⊎ Later (p .at) t b → (p .clash ≡ At b) ⊎ Later (p .at) (t ++ u) b
-    first b (inl e) = inl e
-    first b (inr k) = inr (later-first (p .at) t u b k)
-
-    second : (b : ℕ) → (q .clash ≡ At b) ⊎ Later (q .at) u b → (p .clash ≡ At b) ⊎ Later (p .at) (t ++ u) b
-    second b (inl e) = first b (g .clash b e)
-    second b (inr k) = inr (later-later (p .at) t u b (subst (λ (n : ℕ). Later n u b) (g .ends) k))
 
 module _ {A B : Type 0} {l : Layout A} (m : A → Layout B) (u : Traced l) (v : (a : A) → Traced (m a)) where
   -- those of the first, and behind them, where it goes on, those of the second
@@ -296,35 +291,61 @@ list-traced {A} (suc n) i {l} u = record {
 -- a count and that many
 unfoldable pub counted-traced : {A : Type 0} (n : Name) (w low high : ℕ) {l : Layout A} → (ℕ → Traced l) → Traced (counted (countOf w low high) l)
 unfolding counted
-counted-traced n w low high {l} u = held-traced _ _ (then-traced (λ k. list k l) (nat-traced n count false w low high) (λ k. list-traced k 0 u))
+counted-traced n w low high {l} u = held-traced _ _ (then-traced (λ k. list k l) (nat-traced n count w low high) (λ k. list-traced k 0 u))
 
--- ---- tested against what was read before: a contradiction is noted at the first bit
+-- ---- one field tested against what was read before: where it contradicts that, it is noted at its first bit
 
--- the first field is one that is tested
-abbrev pub Tested : List Part → Type 0
-Tested [] = ⊥
-Tested (f ∷ t) = f .tested ≡ true
+-- the first of the fields contradicts, or not
+abbrev pub marked : Bool → List Part → List Part
+marked true t = t
+marked false [] = []
+marked false (f ∷ t) = record { name = f .name; sort = f .sort; contradicts = true; width = f .width; range = f .range } ∷ t
 
-passed-noted : (s : List ℕ) (p q : Place) (t : List Part) (ok : Bool) → Tested t → Passed s p t q → Passed s p t (noted ok (p .at) q)
+-- one field, which contradicts nothing by itself
+abbrev pub Single : List Part → Type 0
+Single [] = ⊥
+Single (f ∷ []) = f .contradicts ≡ false
+Single (f ∷ g ∷ t) = ⊥
+
+beyond-marked : (ok : Bool) (n at : ℕ) (t : List Part) → firstBeyond n at (marked ok t) ≡ firstBeyond n at t
+beyond-marked true n at t = refl
+beyond-marked false n at [] = refl
+beyond-marked false n at (f ∷ t) = refl
+
+passed-noted : (s : List ℕ) (p q : Place) (t : List Part) (ok : Bool) → Single t → Passed s p t q → Passed s p (marked ok t) (noted ok (p .at) q)
 passed-noted s p q t true k g = g
-passed-noted s p q t false k g = record { good = g .good; ends = g .ends; clash = λ b e. go b (q .clash) refl e }
-  where
-    here : (u : List Part) (b : ℕ) → Tested u → p .at ≡ b → Later (p .at) u b
-    here [] b k e = absurd k
-    here (f ∷ u) b k e = record { stands = record { before = []; field = f; after = u; visited = refl; first = e }; tested = k }
+passed-noted s p q [] false k g = absurd k
+passed-noted s p q (f ∷ []) false k g = record {
+  good = (record { whole = g .good .0 .whole; within = g .good .0 .within }, tt);
+  ends = g .ends;
+  clash = ap (λ (c : Clash). orElse c (At (p .at))) (rw k at (g .clash) ∙ first-of-none (p .clash));
+}
+passed-noted s p q (f ∷ h ∷ t) false k g = absurd k
 
-    go : (b : ℕ) (c : Clash) → q .clash ≡ c → orElse c (At (p .at)) ≡ At b → (p .clash ≡ At b) ⊎ Later (p .at) t b
-    go b (At n) d e = g .clash b (d ∙ e)
-    go b Clear d e = inr (here t b k (let z : p .at ≡ b = cc in z))
+module _ {A : Type 0} (ok : A → Bool) {l : Layout A} (u : Traced l) where
+  abbrev pub suchFields : List ℕ → Place → List Part
+  suchFields s p = l .read s p (λ x. u .fields s p) (λ a q. marked (ok a) (u .fields s p))
 
-pub such-walk : {A : Type 0} (ok : A → Bool) {l : Layout A} (u : Traced l) → ((s : List ℕ) (p : Place) → Tested (u .fields s p))
-    → (s : List ℕ) (p : Place) → Walk s p (u .fields s p) (λ X bad next. l .read {X = X} s p bad (λ a q. next a (noted (ok a) (p .at) q)))
-such-walk {A} ok {l} u some s p = go (u .walk s p)
-  where
-    go : Walk s p (u .fields s p) (λ X bad next. l .read {X = X} s p bad next) → Walk s p (u .fields s p) (λ X bad next. l .read {X = X} s p bad (λ a q. next a (noted (ok a) (p .at) q)))
-    go (stops x r e) = stops x r (λ X bad next. e X bad _)
-    go (goes a q g e) = goes a (noted (ok a) (p .at) q) (passed-noted s p q (u .fields s p) (ok a) (some s p) g) (λ X bad next. e X bad _)
+  pub such-walk : ((s : List ℕ) (p : Place) → Single (u .fields s p))
+      → (s : List ℕ) (p : Place) → Walk s p (suchFields s p) (λ X bad next. l .read {X = X} s p bad (λ a q. next a (noted (ok a) (p .at) q)))
+  such-walk single s p = go (u .walk s p)
+    where
+      go : Walk s p (u .fields s p) (λ X bad next. l .read {X = X} s p bad next) → Walk s p (suchFields s p) (λ X bad next. l .read {X = X} s p bad (λ a q. next a (noted (ok a) (p .at) q)))
+      go (stops x r e) = walk-as (e (List Part) _ _) (stops x r (λ X bad next. e X bad _))
+      go (goes a q g e) = walk-as (e (List Part) _ _) (goes a (noted (ok a) (p .at) q) (passed-noted s p q (u .fields s p) (ok a) (single s p) g) (λ X bad next. e X bad _))
 
-unfoldable pub such-traced : {A : Type 0} (ok : A → Bool) {l : Layout A} (u : Traced l) → ((s : List ℕ) (p : Place) → Tested (u .fields s p)) → Traced (such ok l)
-unfolding such
-such-traced ok u some = record { fields = u .fields; walk = such-walk ok u some; broken = λ c e p bad next. u .broken c e p bad _ }
+  -- a mark moves no field
+  such-beyond : (n : ℕ) (s : List ℕ) (p : Place) → firstBeyond n (p .at) (suchFields s p) ≡ firstBeyond n (p .at) (u .fields s p)
+  such-beyond n s p = go (u .walk s p)
+    where
+      go : Walk s p (u .fields s p) (λ X bad next. l .read {X = X} s p bad next) → firstBeyond n (p .at) (suchFields s p) ≡ firstBeyond n (p .at) (u .fields s p)
+      go (stops x r e) = ap (λ (t : List Part). firstBeyond n (p .at) t) (e (List Part) _ _)
+      go (goes a q g e) = ap (λ (t : List Part). firstBeyond n (p .at) t) (e (List Part) _ _) ∙ beyond-marked (ok a) n (p .at) (u .fields s p)
+
+  pub such-broken : {X : Type 0} (c e : List ℕ) (p : Place) (bad : Fault → X) (next : A → Place → X)
+      → l .read c p bad next ≡ unless (firstBeyond (8 * reach c) (p .at) (suchFields (c ++ e) p)) bad (l .read (c ++ e) p bad next)
+  such-broken c e p bad next = u .broken c e p bad next ∙ ap (λ (b : Clash). unless b bad (l .read (c ++ e) p bad next)) (sym (such-beyond (8 * reach c) (c ++ e) p))
+
+  unfoldable pub such-traced : ((s : List ℕ) (p : Place) → Single (u .fields s p)) → Traced (such ok l)
+  unfolding such
+  such-traced single = record { fields = suchFields; walk = such-walk single; broken = λ c e p bad next. such-broken c e p bad (λ a q. next a (noted (ok a) (p .at) q)) }

@@ -18,6 +18,7 @@ use Rattle.layouts.specs.declared.Clash.{Clash}
 use Rattle.layouts.specs.declared.Clash.the-variants.{Clear, At}
 use Rattle.layouts.specs.declared.Place.{Place}
 use Rattle.layouts.specs.Faults.{numberOf, returnedBy}
+use Rattle.layouts.specs.Layout.{orElse}
 use Rattle.refusals.specs.Names.{Name}
 
 -- ---- a field
@@ -44,8 +45,8 @@ Within (sized most) w v = natAbs (fromTwos w v) ≤ most
 pub record Part : Type 0 where
   pub name : Name
   pub sort : Sort
-  -- whether it is tested against earlier fields: number 5 where it contradicts one
-  pub tested : Bool
+  -- whether what it holds contradicts an earlier field: number 5
+  pub contradicts : Bool
   pub width : ℕ
   pub range : Range
 
@@ -78,6 +79,11 @@ abbrev pub firstBeyond : ℕ → ℕ → List Part → Clash
 firstBeyond n at [] = Clear
 firstBeyond n at (f ∷ fs) = let r = firstBeyond n (at + f .width) fs in pick (leb (at + f .width) n) r (At at)
 
+-- the first bit of the first that contradicts an earlier one
+abbrev pub firstClash : ℕ → List Part → Clash
+firstClash at [] = Clear
+firstClash at (f ∷ fs) = let r = firstClash (at + f .width) fs in pick (f .contradicts) (At at) r
+
 -- a field of them begins at bit b
 pub record Stands (at : ℕ) (t : List Part) (b : ℕ) : Type 0 where
   pub before : List Part
@@ -86,10 +92,11 @@ pub record Stands (at : ℕ) (t : List Part) (b : ℕ) : Type 0 where
   pub visited : t ≡ before ++ (field ∷ after)
   pub first : endOf at before ≡ b
 
--- and is one that is tested against earlier ones
-pub record Later (at : ℕ) (t : List Part) (b : ℕ) : Type 0 where
+-- the field that begins at bit b is the first that contradicts an earlier one
+pub record Contradiction (at : ℕ) (t : List Part) (b : ℕ) : Type 0 where
   pub stands : Stands at t b
-  pub tested : stands .field .tested ≡ true
+  pub contradicts : stands .field .contradicts ≡ true
+  pub first : firstClash at (stands .before) ≡ Clear
 
 -- the field that begins at bit b is the first that is not whole in n bits: those before it are
 pub record NotWhole (n at : ℕ) (t : List Part) (b : ℕ) : Type 0 where
@@ -211,30 +218,6 @@ pub good-ends : (s : List ℕ) (at : ℕ) (t : List Part) → at ≤ 8 * reach s
 good-ends s at [] h g = h
 good-ends s at (f ∷ t) h g = good-ends s (at + f .width) t (g .0 .whole) (g .1)
 
-abbrev stands-first : (at : ℕ) (t u : List Part) (b : ℕ) → Stands at t b → Stands at (t ++ u) b
-stands-first at t u b h = record {
-  before = h .before;
-  field = h .field;
-  after = h .after ++ u;
-  visited = ap (λ (r : List Part). r ++ u) (h .visited) ∙ append-assoc (h .before) (h .field ∷ h .after) u;
-  first = h .first;
-}
-
-abbrev stands-later : (at : ℕ) (t u : List Part) (b : ℕ) → Stands (endOf at t) u b → Stands at (t ++ u) b
-stands-later at t u b h = record {
-  before = t ++ h .before;
-  field = h .field;
-  after = h .after;
-  visited = ap (λ (r : List Part). t ++ r) (h .visited) ∙ sym (append-assoc t (h .before) (h .field ∷ h .after));
-  first = end-append at t (h .before) ∙ h .first;
-}
-
-pub later-first : (at : ℕ) (t u : List Part) (b : ℕ) → Later at t b → Later at (t ++ u) b
-later-first at t u b h = record { stands = stands-first at t u b (h .stands); tested = h .tested }
-
-pub later-later : (at : ℕ) (t u : List Part) (b : ℕ) → Later (endOf at t) u b → Later at (t ++ u) b
-later-later at t u b h = record { stands = stands-later at t u b (h .stands); tested = h .tested }
-
 pub refused-later : (s : List ℕ) (at : ℕ) (t u : List Part) (x : Fault) → AllGood s at t → RefusedAt s (endOf at t) u x → RefusedAt s at (t ++ u) x
 refused-later s at t u x g r = record {
   before = t ++ r .before;
@@ -279,6 +262,60 @@ beyond-first n at (f ∷ t) b h e = go (leb (at + f .width) n) refl e (λ m e. b
         let z : at ≡ b = cc in
         let l = leb-false (at + f .width) n d in
         record { stands = record { before = []; field = f; after = t; visited = refl; first = z }; before = omega arith; beyond = omega arith }
+
+-- what `firstClash` finds is the first that contradicts an earlier one
+pub clash-first : (at : ℕ) (t : List Part) (b : ℕ) → firstClash at t ≡ At b → Contradiction at t b
+clash-first at [] b e = absurd (let z : _≡_ {A = ℕ} 0 1 = cc in omega arith)
+clash-first at (f ∷ t) b e = go (f .contradicts) refl e (λ e. clash-first (at + f .width) t b e)
+  where
+    later : f .contradicts ≡ false → Contradiction (at + f .width) t b → Contradiction at (f ∷ t) b
+    later d r = record {
+      stands = record {
+        before = f ∷ r .stands .before;
+        field = r .stands .field;
+        after = r .stands .after;
+        visited = ap (λ (z : List Part). f ∷ z) (r .stands .visited);
+        first = r .stands .first;
+      };
+      contradicts = r .contradicts;
+      first = rw d (r .first);
+    }
+
+    go : (d : Bool) → f .contradicts ≡ d → pick d (At at) (firstClash (at + f .width) t) ≡ At b → (firstClash (at + f .width) t ≡ At b → Contradiction (at + f .width) t b) → Contradiction at (f ∷ t) b
+    go true d e ih =
+        let z : at ≡ b = cc in
+        record { stands = record { before = []; field = f; after = t; visited = refl; first = z }; contradicts = d; first = refl }
+    go false d e ih = later d (ih e)
+
+-- the first of three
+pub first-of-three : (a b c : Clash) → orElse (orElse a b) c ≡ orElse a (orElse b c)
+first-of-three Clear b c = refl
+first-of-three (At n) b c = refl
+
+pub first-of-none : (a : Clash) → orElse a Clear ≡ a
+first-of-none Clear = refl
+first-of-none (At n) = refl
+
+pub clash-append : (at : ℕ) (t u : List Part) → firstClash at (t ++ u) ≡ orElse (firstClash at t) (firstClash (endOf at t) u)
+clash-append at [] u = refl
+clash-append at (f ∷ t) u = go (f .contradicts) (clash-append (at + f .width) t u)
+  where
+    go : (d : Bool) → firstClash (at + f .width) (t ++ u) ≡ orElse (firstClash (at + f .width) t) (firstClash (endOf (at + f .width) t) u)
+        → pick d (At at) (firstClash (at + f .width) (t ++ u)) ≡ orElse (pick d (At at) (firstClash (at + f .width) t)) (firstClash (endOf (at + f .width) t) u)
+    go true ih = refl
+    go false ih = ih
+
+-- a field that is refused is not whole and in its range
+pub refused-not-good : (s : List ℕ) (at : ℕ) (t : List Part) (x : Fault) → RefusedAt s at t x → ¬ AllGood s at t
+refused-not-good s at t x r g = wrong (r .why) (last at (r .before) (subst (AllGood s at) (r .visited) g))
+  where
+    last : (at : ℕ) (b : List Part) → AllGood s at (b ++ (r .field ∷ [])) → Good s (endOf at b) (r .field)
+    last at [] g = g .0
+    last at (f ∷ b) g = last (at + f .width) b (g .1)
+
+    wrong : Why s (endOf at (r .before)) (r .field) x → Good s (endOf at (r .before)) (r .field) → ⊥
+    wrong (cut h e) k = let w = k .whole in omega arith
+    wrong (outside h o e) k = o (k .within)
 
 -- a cut ahead of what is read, where there is one
 abbrev pub unless : {X : Type 0} → Clash → (Fault → X) → X → X

@@ -1,7 +1,6 @@
 -- A whole message: broken off it is refused by 1 at the first field that is not whole, run on by 6 at the first surplus byte; and which field a refusal is of.
 use mathlib.Core.Path.{_≡_, refl, sym, _∙_, ap, subst}
 use mathlib.Core.Bool.{Bool, true, false}
-use mathlib.Core.Logic.{_⊎_, inl, inr}
 use mathlib.Core.List.{List, [], _∷_, _++_}
 use Prim.Native.Nat.{ℕ, zero, suc, _+_, _-_, _*_, _/_, _^_, _≤_, _<_, min}
 use native.Mathlib.Omega.{arith}
@@ -18,7 +17,7 @@ use Rattle.layouts.specs.declared.Clash.the-variants.{Clear, At}
 use Rattle.layouts.specs.declared.Place.{Place}
 use Rattle.layouts.specs.Faults.{numberOf, returnedBy}
 use Rattle.layouts.specs.Layout.{Layout, Whole, passes, fails, settle, begin, readWhole, firstOne, tailFault, bytesFor, orElse}
-use Rattle.refusals.specs.Visited.{Part, endOf, AllGood, firstBeyond, Later, NotWhole, RefusedAt, FieldTold, field-told, good-ends, within-end, beyond-first, unless}
+use Rattle.refusals.specs.Visited.{Part, endOf, AllGood, firstBeyond, firstClash, NotWhole, Contradiction, RefusedAt, FieldTold, field-told, good-ends, within-end, beyond-first, clash-first, refused-not-good, unless}
 use Rattle.refusals.specs.Traced.{Traced, Walk, stops, goes, Passed, bit-same, reach-length}
 
 -- ---- behind the last field
@@ -65,6 +64,7 @@ module _ {A : Type 0} (l : Layout A) (u : Traced l) where
   record Passes (s : List ℕ) (a : A) : Type 1 where
     behind : Place
     passed : Passed s begin (fieldsOf s) behind
+    none : tailFault s (behind .at) ≡ Clear
     tail : Full s (behind .at)
     clear : behind .clash ≡ Clear
     run : (X : Type 0) (bad : Fault → X) (next : A → Place → X) → l .read s begin bad next ≡ next a behind
@@ -79,7 +79,7 @@ module _ {A : Type 0} (l : Layout A) (u : Traced l) where
       settled x q g r Clear (At b) d k e = absurd (let z : _≡_ {A = ℕ} 0 1 = cc in omega arith)
       settled x q g r Clear Clear d k e =
           let t : x ≡ a = cc in
-          record { behind = q; passed = g; tail = full s (q .at) d; clear = k; run = λ X bad next. r X bad next ∙ ap (λ (y : A). next y q) t }
+          record { behind = q; passed = g; none = d; tail = full s (q .at) d; clear = k; run = λ X bad next. r X bad next ∙ ap (λ (y : A). next y q) t }
 
       go : Walk s begin (fieldsOf s) (λ X bad next. l .read {X = X} s begin bad next) → Passes s a
       go (stops f y e) = absurd (let t = sym (e (Whole A) fails (λ a p. settle a (tailFault s (p .at)) (p .clash))) ∙ h in let z : _≡_ {A = ℕ} 0 1 = cc in omega arith)
@@ -156,8 +156,8 @@ module _ {A : Type 0} (l : Layout A) (u : Traced l) where
     by-field : FieldTold s (u .fields s begin) x → Refusal s x
     -- 6 "first wrong bit: fill bit not 0, or first bit of a surplus byte", behind the last, where every field is whole and in its range
     by-tail : AllGood s 0 (u .fields s begin) → tailFault s (endOf 0 (u .fields s begin)) ≡ At (returnedBy x) → numberOf x ≡ 6 → Refusal s x
-    -- 5 "first bit of the later field": the first bit of one of them that is tested against earlier ones, where every field is in its range and nothing is wrong behind the last
-    by-clash : AllGood s 0 (u .fields s begin) → tailFault s (endOf 0 (u .fields s begin)) ≡ Clear → Later 0 (u .fields s begin) (returnedBy x) → numberOf x ≡ 5 → Refusal s x
+    -- 5 "first bit of the later field": the first bit of the first of them that contradicts an earlier one, where every field is in its range and nothing is wrong behind the last
+    by-clash : AllGood s 0 (u .fields s begin) → tailFault s (endOf 0 (u .fields s begin)) ≡ Clear → Contradiction 0 (u .fields s begin) (returnedBy x) → numberOf x ≡ 5 → Refusal s x
 
   pub refusal : (s : List ℕ) (x : Fault) → readWhole l s ≡ fails x → Refusal s x
   unfolding readWhole settle
@@ -166,17 +166,13 @@ module _ {A : Type 0} (l : Layout A) (u : Traced l) where
       same : {g : Fault} → _≡_ {A = Whole A} (fails g) (fails x) → g ≡ x
       same e = cc
 
-      stands : (b : ℕ) → (_≡_ {A = Clash} Clear (At b)) ⊎ Later 0 (fieldsOf s) b → Later 0 (fieldsOf s) b
-      stands b (inl e) = absurd (let z : _≡_ {A = ℕ} 0 1 = cc in omega arith)
-      stands b (inr k) = k
-
       settled : (a : A) (q : Place) → Passed s begin (fieldsOf s) q → (f c : Clash) → tailFault s (q .at) ≡ f → q .clash ≡ c → settle a f c ≡ fails x → Refusal s x
       settled a q g (At b) c d k e =
           let z : F.Tail b ≡ x = same e in
           by-tail (g .good) (ap (tailFault s) (sym (g .ends)) ∙ d ∙ ap (λ (y : Fault). At (returnedBy y)) z) (sym (ap numberOf z))
       settled a q g Clear (At b) d k e =
           let z : F.Contradiction b ≡ x = same e in
-          by-clash (g .good) (ap (tailFault s) (sym (g .ends)) ∙ d) (subst (λ (n : ℕ). Later 0 (fieldsOf s) n) (ap returnedBy z) (stands b (g .clash b k))) (sym (ap numberOf z))
+          by-clash (g .good) (ap (tailFault s) (sym (g .ends)) ∙ d) (subst (λ (n : ℕ). Contradiction 0 (fieldsOf s) n) (ap returnedBy z) (clash-first 0 (fieldsOf s) b (sym (g .clash) ∙ k))) (sym (ap numberOf z))
       settled a q g Clear Clear d k e = absurd (let z : _≡_ {A = ℕ} 0 1 = cc in omega arith)
 
       go : Walk s begin (fieldsOf s) (λ X bad next. l .read {X = X} s begin bad next) → Refusal s x
@@ -199,6 +195,36 @@ module _ {A : Type 0} (l : Layout A) (u : Traced l) where
       go (stops x r e) = record { fault = x; refused = e (Whole A) fails _; told = field-told s (fieldsOf s) x r }
       go (goes a q g e) = absurd (h (g .good))
 
-  -- every field of a message that passes is whole and in its range
-  pub passes-good : (s : List ℕ) (a : A) → readWhole l s ≡ passes a → AllGood s 0 (u .fields s begin)
-  passes-good s a h = whole-passes s a h .passed .good
+  -- 1 to 4 are of a field
+  pub field-of : (s : List ℕ) (x : Fault) → readWhole l s ≡ fails x → numberOf x < 5 → FieldTold s (u .fields s begin) x
+  field-of s x h n = go (refusal s x h)
+    where
+      go : Refusal s x → FieldTold s (u .fields s begin) x
+      go (by-field t) = t
+      go (by-tail g t e) = absurd (omega arith)
+      go (by-clash g t c e) = absurd (omega arith)
+
+  -- ---- what passes reading
+
+  -- every field is whole and in its range, no bit behind the last is wrong, and none contradicts an earlier one
+  pub record Sound (s : List ℕ) : Type 0 where
+    pub good : AllGood s 0 (u .fields s begin)
+    pub tail : tailFault s (endOf 0 (u .fields s begin)) ≡ Clear
+    pub clash : firstClash 0 (u .fields s begin) ≡ Clear
+
+  -- such a message passes, and no other
+  pub passes-sound : (s : List ℕ) (a : A) → readWhole l s ≡ passes a → Sound s
+  passes-sound s a h =
+      let w = whole-passes s a h in
+      record { good = w .passed .good; tail = ap (tailFault s) (sym (w .passed .ends)) ∙ w .none; clash = sym (w .passed .clash) ∙ w .clear }
+
+  pub sound-passes : (s : List ℕ) → Sound s → (a : A) × (readWhole l s ≡ passes a)
+  unfolding readWhole settle
+  sound-passes s h = go (u .walk s begin)
+    where
+      go : Walk s begin (fieldsOf s) (λ X bad next. l .read {X = X} s begin bad next) → (a : A) × (l .read s begin fails (λ a p. settle a (tailFault s (p .at)) (p .clash)) ≡ passes a)
+      go (stops x r e) = absurd (refused-not-good s 0 (fieldsOf s) x r (h .good))
+      go (goes a q g e) =
+          let t : tailFault s (q .at) ≡ Clear = ap (tailFault s) (g .ends) ∙ h .tail in
+          let c : q .clash ≡ Clear = g .clash ∙ h .clash in
+          (a, e (Whole A) fails (λ a p. settle a (tailFault s (p .at)) (p .clash)) ∙ rw (t, c) refl)
