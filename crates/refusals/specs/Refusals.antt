@@ -18,7 +18,7 @@ use Rattle.model.specs.ByEdition.{Stated, statedIn, plannedIn}
 use Rattle.model.specs.Judgement.{readPlan, judgement, refusedAs, withPlan, withCase}
 use Rattle.refusals.specs.Visited.{Part, AllGood, FieldTold}
 use Rattle.refusals.specs.Traced.{Traced}
-use Rattle.refusals.specs.Whole.{BrokenOff, Refusal, Wrong, Sound, broken-off, run-on, refusal, field-of, field-wrong, passes-sound, sound-passes}
+use Rattle.refusals.specs.Whole.{BrokenOff, Refusal, Wrong, Faultless, broken-off, run-on, refusal, field-of, field-wrong, passes-faultless, faultless-passes}
 use Rattle.refusals.specs.Messages.{case-traced, plan-traced}
 
 -- how the plans of a case are laid out, and their fields
@@ -105,28 +105,29 @@ case-field-wrong l s h = field-wrong (B.caseLayout l) (case-traced l) s h
 pub plan-field-wrong : (x : Stated) (s : List ℕ) → ¬ AllGood s 0 (planFields x s) → Wrong (planOf x) (plan-of x) s
 plan-field-wrong x s h = field-wrong (planOf x) (plan-of x) s h
 
--- what passes reading: every field is whole and in its range, no bit behind the last is wrong, and none contradicts an earlier one; and whatever is so passes
-abbrev pub CaseSound : Largest → List ℕ → Type 0
-CaseSound l s = Sound (B.caseLayout l) (case-traced l) s
+-- "A message passes reading when none of numbers 1 to 6 is found in it": just where every field is whole and in its range, no bit behind the last is wrong, and none
+-- contradicts an earlier one
+abbrev pub CaseFaultless : Largest → List ℕ → Type 0
+CaseFaultless l s = Faultless (B.caseLayout l) (case-traced l) s
 
-abbrev pub PlanSound : Stated → List ℕ → Type 0
-PlanSound x s = Sound (planOf x) (plan-of x) s
+abbrev pub PlanFaultless : Stated → List ℕ → Type 0
+PlanFaultless x s = Faultless (planOf x) (plan-of x) s
 
-pub case-sound : (l : Largest) (s : List ℕ) (x : Stated) → statedIn l s ≡ passes x → CaseSound l s
+pub case-faultless : (l : Largest) (s : List ℕ) (x : Stated) → statedIn l s ≡ passes x → CaseFaultless l s
 unfolding statedIn
-case-sound l s x h = passes-sound (B.caseLayout l) (case-traced l) s x h
+case-faultless l s x h = passes-faultless (B.caseLayout l) (case-traced l) s x h
 
-pub case-passes : (l : Largest) (s : List ℕ) → CaseSound l s → (x : Stated) × (statedIn l s ≡ passes x)
+pub case-passes : (l : Largest) (s : List ℕ) → CaseFaultless l s → (x : Stated) × (statedIn l s ≡ passes x)
 unfolding statedIn
-case-passes l s h = sound-passes (B.caseLayout l) (case-traced l) s h
+case-passes l s h = faultless-passes (B.caseLayout l) (case-traced l) s h
 
-pub plan-sound : (x : Stated) (s : List ℕ) (p : Plan) → readPlan x s ≡ passes p → PlanSound x s
+pub plan-faultless : (x : Stated) (s : List ℕ) (p : Plan) → readPlan x s ≡ passes p → PlanFaultless x s
 unfolding plannedIn
-plan-sound x s p h = passes-sound (planOf x) (plan-of x) s p h
+plan-faultless x s p h = passes-faultless (planOf x) (plan-of x) s p h
 
-pub plan-passes : (x : Stated) (s : List ℕ) → PlanSound x s → (p : Plan) × (readPlan x s ≡ passes p)
+pub plan-passes : (x : Stated) (s : List ℕ) → PlanFaultless x s → (p : Plan) × (readPlan x s ≡ passes p)
 unfolding plannedIn
-plan-passes x s h = sound-passes (planOf x) (plan-of x) s h
+plan-passes x s h = faultless-passes (planOf x) (plan-of x) s h
 
 -- ---- as judged: the case first, then the plan; the result buffer stays as it was
 

@@ -69,7 +69,10 @@ unfolding open-fields digits caseNumber placed
 case-fields = refl
 
 -- edition 1: two devices, two intervals, one zone; no state, window or block
-older-case-fields : placed 0 (T.case-traced host .fields (digits 196 690021002269705184942458194230170845445972912580116903349140847861137135868759861991794802934446822873483850052674697944308397893589858541974689078944106704751066355242122636512343430185664503275419735918865669001175695886880765225061532681716379524111345918184459016875188672319082323098238192047405247598356810895123025628200418892384531028874506074456503149422794430538799058458541822701377760749082431886677502749111364351346255153984298843895615654371102956430819328 []) begin) ≡
+olderCaseBytes : List ℕ
+olderCaseBytes = digits 196 690021002269705184942458194230170845445972912580116903349140847861137135868759861991794802934446822873483850052674697944308397893589858541974689078944106704751066355242122636512343430185664503275419735918865669001175695886880765225061532681716379524111345918184459016875188672319082323098238192047405247598356810895123025628200418892384531028874506074456503149422794430538799058458541822701377760749082431886677502749111364351346255153984298843895615654371102956430819328 []
+
+older-case-fields : placed 0 (T.case-traced host .fields olderCaseBytes begin) ≡
     (N.kind, 0, 4) ∷ (N.edition, 4, 4) ∷ (N.deviceCount, 8, 5) ∷ (N.intervalCount, 13, 6) ∷ (N.zoneCount, 19, 3) ∷ (N.mismatchPrice, 22, 14) ∷
     (N.overrunPrice, 36, 14) ∷ (N.half 0, 50, 8) ∷ (N.half 1, 58, 8) ∷ (N.ofZone 0 N.rguShare, 66, 10) ∷ (N.ofZone 0 N.rgdShare, 76, 10) ∷
     (N.ofZone 0 N.scrShare, 86, 10) ∷ (N.ofZone 0 N.nscShare, 96, 10) ∷ (N.ofZone 0 N.rguPrice, 106, 7) ∷ (N.ofZone 0 N.rgdPrice, 113, 7) ∷
@@ -109,7 +112,7 @@ older-case-fields : placed 0 (T.case-traced host .fields (digits 196 69002100226
     (N.ofCell 1 1 (N.reservePrice N.nsc), 1496, 14) ∷ (N.ofCell 1 1 (N.reservePrice N.rruOn), 1510, 14) ∷
     (N.ofCell 1 1 (N.reservePrice N.rruOff), 1524, 14) ∷ (N.ofCell 1 1 (N.reservePrice N.rrdOn), 1538, 14) ∷
     (N.ofCell 1 1 (N.reservePrice N.rrdOff), 1552, 14) ∷ []
-unfolding open-fields digits placed
+unfolding open-fields digits olderCaseBytes placed
 older-case-fields = refl
 
 -- edition 5: one device, two intervals
@@ -131,7 +134,10 @@ unfolding open-fields digits planBytes placed
 plan-fields = refl
 
 -- edition 1: two devices, two intervals
-older-plan-fields : placed 0 (T.plan-traced 1 2 2 .fields (digits 80 589258392299021390981804455010203412578239584235818838385084995569289243073212395763132820330704664162847490979130500214836072829252655808665620248038616202437010893592130624446700559718678528 []) begin) ≡
+olderPlanBytes : List ℕ
+olderPlanBytes = digits 80 589258392299021390981804455010203412578239584235818838385084995569289243073212395763132820330704664162847490979130500214836072829252655808665620248038616202437010893592130624446700559718678528 []
+
+older-plan-fields : placed 0 (T.plan-traced 1 2 2 .fields olderPlanBytes begin) ≡
     (N.kind, 0, 4) ∷ (N.edition, 4, 4) ∷ (N.deviceCount, 8, 5) ∷ (N.intervalCount, 13, 6) ∷ (N.ofSetting 0 0 N.on, 19, 1) ∷
     (N.ofSetting 0 0 N.online, 20, 17) ∷ (N.ofSetting 0 0 (N.reserve N.rgu), 37, 17) ∷ (N.ofSetting 0 0 (N.reserve N.rgd), 54, 17) ∷
     (N.ofSetting 0 0 (N.reserve N.scr), 71, 17) ∷ (N.ofSetting 0 0 (N.reserve N.nsc), 88, 17) ∷ (N.ofSetting 0 0 (N.reserve N.rruOn), 105, 17) ∷
@@ -146,7 +152,7 @@ older-plan-fields : placed 0 (T.plan-traced 1 2 2 .fields (digits 80 58925839229
     (N.ofSetting 1 1 N.online, 482, 17) ∷ (N.ofSetting 1 1 (N.reserve N.rgu), 499, 17) ∷ (N.ofSetting 1 1 (N.reserve N.rgd), 516, 17) ∷
     (N.ofSetting 1 1 (N.reserve N.scr), 533, 17) ∷ (N.ofSetting 1 1 (N.reserve N.nsc), 550, 17) ∷ (N.ofSetting 1 1 (N.reserve N.rruOn), 567, 17) ∷
     (N.ofSetting 1 1 (N.reserve N.rruOff), 584, 17) ∷ (N.ofSetting 1 1 (N.reserve N.rrdOn), 601, 17) ∷ (N.ofSetting 1 1 (N.reserve N.rrdOff), 618, 17) ∷ []
-unfolding open-fields digits placed
+unfolding open-fields digits olderPlanBytes placed
 older-plan-fields = refl
 
 -- ---- broken off and run on

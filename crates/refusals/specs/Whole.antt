@@ -17,7 +17,8 @@ use Rattle.layouts.specs.declared.Clash.the-variants.{Clear, At}
 use Rattle.layouts.specs.declared.Place.{Place}
 use Rattle.layouts.specs.Faults.{numberOf, returnedBy}
 use Rattle.layouts.specs.Layout.{Layout, Whole, passes, fails, settle, begin, readWhole, firstOne, tailFault, bytesFor, orElse}
-use Rattle.refusals.specs.Visited.{Part, endOf, AllGood, firstBeyond, firstClash, NotWhole, Contradiction, RefusedAt, FieldTold, field-told, good-ends, within-end, beyond-first, clash-first, refused-not-good, unless}
+use Rattle.refusals.specs.Visited.{Part, endOf, AllGood, firstBeyond, firstClash, NotWhole, Contradiction, RefusedAt, FieldTold}
+use Rattle.refusals.specs.Visited.{field-told, good-ends, within-end, beyond-first, clash-first, refused-not-good, unless}
 use Rattle.refusals.specs.Traced.{Traced, Walk, stops, goes, Passed, bit-same, reach-length}
 
 -- ---- behind the last field
@@ -61,6 +62,10 @@ module _ {A : Type 0} (l : Layout A) (u : Traced l) where
   abbrev fieldsOf : List ℕ → List Part
   fieldsOf s = u .fields s begin
 
+  -- how a reading that goes on is settled
+  abbrev onward : List ℕ → A → Place → Whole A
+  onward s a p = settle a (tailFault s (p .at)) (p .clash)
+
   record Passes (s : List ℕ) (a : A) : Type 1 where
     behind : Place
     passed : Passed s begin (fieldsOf s) behind
@@ -82,8 +87,8 @@ module _ {A : Type 0} (l : Layout A) (u : Traced l) where
           record { behind = q; passed = g; none = d; tail = full s (q .at) d; clear = k; run = λ X bad next. r X bad next ∙ ap (λ (y : A). next y q) t }
 
       go : Walk s begin (fieldsOf s) (λ X bad next. l .read {X = X} s begin bad next) → Passes s a
-      go (stops f y e) = absurd (let t = sym (e (Whole A) fails (λ a p. settle a (tailFault s (p .at)) (p .clash))) ∙ h in let z : _≡_ {A = ℕ} 0 1 = cc in omega arith)
-      go (goes x q g e) = settled x q g e (tailFault s (q .at)) (q .clash) refl refl (sym (e (Whole A) fails (λ a p. settle a (tailFault s (p .at)) (p .clash))) ∙ h)
+      go (stops f y e) = absurd (let t = sym (e (Whole A) fails (onward s)) ∙ h in let z : _≡_ {A = ℕ} 0 1 = cc in omega arith)
+      go (goes x q g e) = settled x q g e (tailFault s (q .at)) (q .clash) refl refl (sym (e (Whole A) fails (onward s)) ∙ h)
 
   -- it ends within what can be read, and its last byte holds a bit of its last field
   room : (s : List ℕ) (a : A) (h : Passes s a) → h .behind .at ≤ 8 * reach s
@@ -100,7 +105,7 @@ module _ {A : Type 0} (l : Layout A) (u : Traced l) where
 
   cut-at : (c e : List ℕ) (b : ℕ) → firstBeyond (8 * reach c) 0 (fieldsOf (c ++ e)) ≡ At b → readWhole l c ≡ fails (F.Cut b)
   unfolding readWhole
-  cut-at c e b h = u .broken c e begin fails _ ∙ ap (λ (x : Clash). unless x fails (l .read (c ++ e) begin fails (λ a p. settle a (tailFault c (p .at)) (p .clash)))) h
+  cut-at c e b h = u .broken c e begin fails _ ∙ ap (λ (x : Clash). unless x fails (l .read (c ++ e) begin fails (onward c))) h
 
   -- all that there is can be read
   all-read : (s : List ℕ) (a : A) → Passes s a → (k : ℕ) → k < length s → reach (take k s) ≡ k
@@ -132,10 +137,7 @@ module _ {A : Type 0} (l : Layout A) (u : Traced l) where
       tail : (w : Passes s a) → tailFault (s ++ e) (w .behind .at) ≡ At (8 * length s)
       tail w = tail-behind s e (w .behind .at) some (let t = room s a w in let r = reach-length s in omega arith) (w .tail)
 
-      onward : A → Place → Whole A
-      onward a p = settle a (tailFault (s ++ e) (p .at)) (p .clash)
-
-      go : Passes s a → (c : Clash) → firstBeyond (8 * reach s) 0 (fieldsOf (s ++ e)) ≡ c → l .read (s ++ e) begin fails onward ≡ fails (F.Tail (8 * length s))
+      go : Passes s a → (c : Clash) → firstBeyond (8 * reach s) 0 (fieldsOf (s ++ e)) ≡ c → l .read (s ++ e) begin fails (onward (s ++ e)) ≡ fails (F.Tail (8 * length s))
       go w (At b) d = absurd (
           let x : _≡_ {A = ℕ} 1 0 =
           sym (w .run ℕ (λ f. 0) (λ a p. 1))
@@ -144,8 +146,8 @@ module _ {A : Type 0} (l : Layout A) (u : Traced l) where
           omega arith
           )
       go w Clear d =
-          sym (u .broken s e begin fails onward ∙ ap (λ (c : Clash). unless c fails (l .read (s ++ e) begin fails onward)) d)
-          ∙ w .run (Whole A) fails onward
+          sym (u .broken s e begin fails (onward (s ++ e)) ∙ ap (λ (c : Clash). unless c fails (l .read (s ++ e) begin fails (onward (s ++ e)))) d)
+          ∙ w .run (Whole A) fails (onward (s ++ e))
           ∙ ap (λ (c : Clash). settle a c (w .behind .clash)) (tail w)
 
   -- ---- the field of a refusal
@@ -172,14 +174,15 @@ module _ {A : Type 0} (l : Layout A) (u : Traced l) where
           by-tail (g .good) (ap (tailFault s) (sym (g .ends)) ∙ d ∙ ap (λ (y : Fault). At (returnedBy y)) z) (sym (ap numberOf z))
       settled a q g Clear (At b) d k e =
           let z : F.Contradiction b ≡ x = same e in
-          by-clash (g .good) (ap (tailFault s) (sym (g .ends)) ∙ d) (subst (λ (n : ℕ). Contradiction 0 (fieldsOf s) n) (ap returnedBy z) (clash-first 0 (fieldsOf s) b (sym (g .clash) ∙ k))) (sym (ap numberOf z))
+          let c : Contradiction 0 (fieldsOf s) b = clash-first 0 (fieldsOf s) b (sym (g .clash) ∙ k) in
+          by-clash (g .good) (ap (tailFault s) (sym (g .ends)) ∙ d) (subst (λ (n : ℕ). Contradiction 0 (fieldsOf s) n) (ap returnedBy z) c) (sym (ap numberOf z))
       settled a q g Clear Clear d k e = absurd (let z : _≡_ {A = ℕ} 0 1 = cc in omega arith)
 
       go : Walk s begin (fieldsOf s) (λ X bad next. l .read {X = X} s begin bad next) → Refusal s x
       go (stops f r e) =
-          let t : f ≡ x = same (sym (e (Whole A) fails (λ a p. settle a (tailFault s (p .at)) (p .clash))) ∙ h) in
+          let t : f ≡ x = same (sym (e (Whole A) fails (onward s)) ∙ h) in
           by-field (field-told s (fieldsOf s) x (subst (λ (y : Fault). RefusedAt s 0 (fieldsOf s) y) t r))
-      go (goes a q g e) = settled a q g (tailFault s (q .at)) (q .clash) refl refl (sym (e (Whole A) fails (λ a p. settle a (tailFault s (p .at)) (p .clash))) ∙ h)
+      go (goes a q g e) = settled a q g (tailFault s (q .at)) (q .clash) refl refl (sym (e (Whole A) fails (onward s)) ∙ h)
 
   -- and where one of the fields visited is cut or out of its range, the message is refused for it
   pub record Wrong (s : List ℕ) : Type 0 where
@@ -206,25 +209,25 @@ module _ {A : Type 0} (l : Layout A) (u : Traced l) where
 
   -- ---- what passes reading
 
-  -- every field is whole and in its range, no bit behind the last is wrong, and none contradicts an earlier one
-  pub record Sound (s : List ℕ) : Type 0 where
+  -- "none of numbers 1 to 6 is found in it": every field is whole and in its range, no bit behind the last is wrong, and none contradicts an earlier one
+  pub record Faultless (s : List ℕ) : Type 0 where
     pub good : AllGood s 0 (u .fields s begin)
     pub tail : tailFault s (endOf 0 (u .fields s begin)) ≡ Clear
     pub clash : firstClash 0 (u .fields s begin) ≡ Clear
 
   -- such a message passes, and no other
-  pub passes-sound : (s : List ℕ) (a : A) → readWhole l s ≡ passes a → Sound s
-  passes-sound s a h =
+  pub passes-faultless : (s : List ℕ) (a : A) → readWhole l s ≡ passes a → Faultless s
+  passes-faultless s a h =
       let w = whole-passes s a h in
       record { good = w .passed .good; tail = ap (tailFault s) (sym (w .passed .ends)) ∙ w .none; clash = sym (w .passed .clash) ∙ w .clear }
 
-  pub sound-passes : (s : List ℕ) → Sound s → (a : A) × (readWhole l s ≡ passes a)
+  pub faultless-passes : (s : List ℕ) → Faultless s → (a : A) × (readWhole l s ≡ passes a)
   unfolding readWhole settle
-  sound-passes s h = go (u .walk s begin)
+  faultless-passes s h = go (u .walk s begin)
     where
-      go : Walk s begin (fieldsOf s) (λ X bad next. l .read {X = X} s begin bad next) → (a : A) × (l .read s begin fails (λ a p. settle a (tailFault s (p .at)) (p .clash)) ≡ passes a)
+      go : Walk s begin (fieldsOf s) (λ X bad next. l .read {X = X} s begin bad next) → (a : A) × (l .read s begin fails (onward s) ≡ passes a)
       go (stops x r e) = absurd (refused-not-good s 0 (fieldsOf s) x r (h .good))
       go (goes a q g e) =
           let t : tailFault s (q .at) ≡ Clear = ap (tailFault s) (g .ends) ∙ h .tail in
           let c : q .clash ≡ Clear = g .clash ∙ h .clash in
-          (a, e (Whole A) fails (λ a p. settle a (tailFault s (p .at)) (p .clash)) ∙ rw (t, c) refl)
+          (a, e (Whole A) fails (onward s) ∙ rw (t, c) refl)
