@@ -3,10 +3,10 @@ use mathlib.Core.Path.{refl}
 use mathlib.Core.List.{List}
 use Prim.Native.Nat.{ℕ, _-_, _^_}
 use lib.Dec.{leb}
-use Rattle.layouts.specs.Layout.{Layout, Field, nat, int, _then_, list, figure, any, countOf, fixed, such}
-use Rattle.layouts.specs.Since.{has, since, present}
+use Rattle.layouts.specs.Layout.{Layout, nat, _then_, figure, any, countOf, fixed, such}
+use Rattle.layouts.specs.Since.{has, since}
 use Rattle.model.specs.Case.{noLine, noLink, noFlow, noReactive, noReactiveReserves, unitPrices}
-use Rattle.model.specs.Editions.{newest, Largest, Widths, widthsOf, mostZones, mostStates, mostWindows}
+use Rattle.model.specs.Editions.{newest, Largest, Widths, widthsOf, mostStates, mostWindows}
 use Rattle.model.specs.Messages as M
 use Rattle.model.specs.ByEdition as B
 use Rattle.refusals.specs.Names as N

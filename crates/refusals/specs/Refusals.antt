@@ -1,6 +1,6 @@
 -- "What the unit gives back", on the messages of a case and a plan, in every edition and for every reader: a message that passes and is broken off, one that passes
 -- and runs on, and the field of every refusal.
-use mathlib.Core.Path.{_≡_, refl, ap, _∙_}
+use mathlib.Core.Path.{_≡_, ap, _∙_}
 use mathlib.Core.List.{List, _++_}
 use Prim.Native.Nat.{ℕ, _*_, _<_}
 use lib.ListN.{length, take}

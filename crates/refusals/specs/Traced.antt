@@ -3,11 +3,11 @@
 use mathlib.Core.Path.{_≡_, refl, sym, _∙_, ap, subst}
 use mathlib.Core.Bool.{Bool, true, false}
 use mathlib.Core.List.{List, [], _∷_, _++_}
-use Prim.Native.Nat.{ℕ, zero, suc, _+_, _-_, _*_, _/_, _%_, _^_, _≤_, _<_, min}
+use Prim.Native.Nat.{ℕ, zero, suc, _+_, _*_, _/_, _≤_, _<_}
 use native.Mathlib.Omega.{arith}
 use native.Mathlib.Decide.{decLe}
 use lib.Dec.{leb}
-use lib.ListN.{length, getD, length-append, List·getD-append}
+use lib.ListN.{length, length-append, List·getD-append}
 use lib.IntN.{ℤ, natAbs}
 use borrow.Author.Tests.{leb-true, leb-false, le-leb, lt-leb}
 use Rattle.bits.specs.Bits.{bitAt, fieldAt, reach, readField}
@@ -17,12 +17,12 @@ use Rattle.bits.specs.declared.Field.the-variants.{Value, Cut}
 use Rattle.layouts.specs.declared.Fault.{Fault}
 use Rattle.layouts.specs.declared.Fault.the-variants as F
 use Rattle.layouts.specs.declared.Clash.{Clash}
-use Rattle.layouts.specs.declared.Clash.the-variants.{Clear, At}
+use Rattle.layouts.specs.declared.Clash.the-variants.{At}
 use Rattle.layouts.specs.declared.Place.{Place}
 use Rattle.layouts.specs.Layout.{Layout, orElse, raw, advanced, nat, int, _then_, _▸_, repeated, list, such, noted, held, counted, countOf}
 use Rattle.layouts.specs.Since.{nothing, present}
 use Rattle.refusals.specs.Names.{Name}
-use Rattle.refusals.specs.Visited.{Sort, count, other, faultOf, between, sized, Within, Part, Good, Why, cut, outside, endOf, AllGood, firstBeyond, firstClash, RefusedAt}
+use Rattle.refusals.specs.Visited.{Sort, count, other, faultOf, between, sized, Within, Part, Why, cut, outside, endOf, AllGood, firstBeyond, firstClash, RefusedAt}
 use Rattle.refusals.specs.Visited.{end-append, good-append, clash-append, first-of-three, first-of-none, refused-later, unless, unless-append}
 
 -- ---- what a reading tells
@@ -104,7 +104,7 @@ nat-walk n k w low high s p = go (leb (p .at + w) (8 * reach s)) refl
     f = numberPart n k w low high
 
     refuses : p .at + w ≤ 8 * reach s → ¬ Within (between low high) w v → RefusedAt s (p .at) (f ∷ []) (faultOf k (p .at))
-    refuses h o = one-refused s p f (faultOf k (p .at)) (outside h o refl)
+    refuses h o = one-refused s p f (faultOf k (p .at)) (outside (h, o) refl)
 
     tests : p .at + w ≤ 8 * reach s → (x y : Bool) → leb low v ≡ x → leb v high ≡ y
         → Walk s p (f ∷ []) (λ X bad next. pick x (pick y (next v (advanced p (p .at + w))) (bad (faultOf k (p .at)))) (bad (faultOf k (p .at))))
@@ -143,7 +143,7 @@ int-walk n w most s p = go (leb (p .at + w) (8 * reach s)) refl
     test : p .at + w ≤ 8 * reach s → (x : Bool) → leb (natAbs z) most ≡ x
         → Walk s p (f ∷ []) (λ X bad next. pick {A = X} x (next z (advanced p (p .at + w))) (bad (F.OutOfRange (p .at))))
     test h true e = goes z _ (one-good s p f refl h (leb-true (natAbs z) most e)) (λ X bad next. refl)
-    test h false e = stops (F.OutOfRange (p .at)) (one-refused s p f (F.OutOfRange (p .at)) (outside h (λ o. let l = leb-false (natAbs z) most e in absurd (omega arith)) refl)) (λ X bad next. refl)
+    test h false e = stops (F.OutOfRange (p .at)) (one-refused s p f (F.OutOfRange (p .at)) (outside (h, λ o. let l = leb-false (natAbs z) most e in absurd (omega arith)) refl)) (λ X bad next. refl)
 
     go : (b : Bool) → leb (p .at + w) (8 * reach s) ≡ b
         → Walk s p (f ∷ []) (λ X bad next. raw {X = X} (pick b (Value (fieldAt s (p .at) w) (record { at = p .at + w })) (Cut (p .at))) p bad

@@ -2,9 +2,8 @@
 -- One stands behind the other, so the widths give every field's first bit.
 use mathlib.Core.Path.{_≡_, refl, sym, _∙_, ap, subst}
 use mathlib.Core.Bool.{Bool, true, false}
-use mathlib.Core.Logic.{_⊎_, inl, inr}
 use mathlib.Core.List.{List, [], _∷_, _++_, append-assoc}
-use Prim.Native.Nat.{ℕ, zero, suc, _+_, _-_, _*_, _^_, _≤_, _<_}
+use Prim.Native.Nat.{ℕ, _+_, _*_, _≤_, _<_}
 use native.Mathlib.Omega.{arith}
 use lib.Dec.{leb}
 use lib.IntN.{natAbs}
@@ -16,7 +15,6 @@ use Rattle.layouts.specs.declared.Fault.{Fault}
 use Rattle.layouts.specs.declared.Fault.the-variants as F
 use Rattle.layouts.specs.declared.Clash.{Clash}
 use Rattle.layouts.specs.declared.Clash.the-variants.{Clear, At}
-use Rattle.layouts.specs.declared.Place.{Place}
 use Rattle.layouts.specs.Faults.{numberOf, returnedBy}
 use Rattle.layouts.specs.Layout.{orElse}
 use Rattle.refusals.specs.Names.{Name}
@@ -55,12 +53,16 @@ pub record Good (s : List ℕ) (at : ℕ) (f : Part) : Type 0 where
   pub whole : at + f .width ≤ 8 * reach s
   pub within : Within (f .range) (f .width) (fieldAt s at (f .width))
 
+-- it is whole, and what it holds is out of its range
+abbrev pub Outside : List ℕ → ℕ → Part → Type 0
+Outside s at f = (at + f .width ≤ 8 * reach s) × (¬ Within (f .range) (f .width) (fieldAt s at (f .width)))
+
 -- why the field from bit `at` on is refused with fault x
 pub data Why (s : List ℕ) (at : ℕ) (f : Part) (x : Fault) : Type 0 where
   -- 1 "message ends before or inside the field"
   cut : 8 * reach s < at + f .width → x ≡ F.Cut at → Why s at f x
   -- 2, 3 or 4, by what field it is
-  outside : at + f .width ≤ 8 * reach s → ¬ Within (f .range) (f .width) (fieldAt s at (f .width)) → x ≡ faultOf (f .sort) at → Why s at f x
+  outside : Outside s at f → x ≡ faultOf (f .sort) at → Why s at f x
 
 -- ---- fields one behind the other, the first of which begins at `at`
 
@@ -133,7 +135,7 @@ module _ {s : List ℕ} {at : ℕ} {f : Part} {x : Fault} where
   -- the bit is the field's first
   bit-is-first : Why s at f x → returnedBy x ≡ at
   bit-is-first (cut h e) = ap returnedBy e
-  bit-is-first (outside h o e) = ap returnedBy e ∙ go (f .sort)
+  bit-is-first (outside o e) = ap returnedBy e ∙ go (f .sort)
     where
       go : (k : Sort) → returnedBy (faultOf k at) ≡ at
       go kindOrEdition = refl
@@ -143,16 +145,16 @@ module _ {s : List ℕ} {at : ℕ} {f : Part} {x : Fault} where
   -- 1: the message ends before or inside the field
   cut-by-1 : Why s at f x → numberOf x ≡ 1 → 8 * reach s < at + f .width
   cut-by-1 (cut h e) n = h
-  cut-by-1 (outside h o e) n = absurd (let g = sort-by (f .sort) (sym (number-by (f .sort) at) ∙ sym (ap numberOf e) ∙ n) in omega arith)
+  cut-by-1 (outside o e) n = absurd (let g = sort-by (f .sort) (sym (number-by (f .sort) at) ∙ sym (ap numberOf e) ∙ n) in omega arith)
 
   -- any other: the field is whole and holds what is out of its range
-  whole-but-1 : Why s at f x → 1 < numberOf x → (at + f .width ≤ 8 * reach s) × (¬ Within (f .range) (f .width) (fieldAt s at (f .width)))
+  whole-but-1 : Why s at f x → 1 < numberOf x → Outside s at f
   whole-but-1 (cut h e) n = absurd (let g = ap numberOf e in omega arith)
-  whole-but-1 (outside h o e) n = (h, o)
+  whole-but-1 (outside o e) n = o
 
   sort-of : (k : Sort) → Why s at f x → numberOf x ≡ numberBy k → f .sort ≡ k
   sort-of k (cut h e) n = absurd (let g = sort-by k (sym n ∙ ap numberOf e) in omega arith)
-  sort-of k (outside h o e) n = go (f .sort) k (sym (number-by (f .sort) at) ∙ sym (ap numberOf e) ∙ n)
+  sort-of k (outside o e) n = go (f .sort) k (sym (number-by (f .sort) at) ∙ sym (ap numberOf e) ∙ n)
     where
       go : (j k : Sort) → numberBy j ≡ numberBy k → j ≡ k
       go kindOrEdition kindOrEdition e = refl
@@ -174,10 +176,6 @@ module _ {s : List ℕ} {at : ℕ} {f : Part} {x : Fault} where
 
   other-by-4 : Why s at f x → numberOf x ≡ 4 → f .sort ≡ other
   other-by-4 y n = sort-of other y n
-
--- the field's value is out of its range, though it is whole
-abbrev pub Outside : List ℕ → ℕ → Part → Type 0
-Outside s at f = (at + f .width ≤ 8 * reach s) × (¬ Within (f .range) (f .width) (fieldAt s at (f .width)))
 
 -- what a refusal of a message by 1 to 4 tells: the last field visited is the one refused, those before it are whole and in their ranges, the bit is its first,
 -- and the number says what is wrong with it
@@ -315,7 +313,7 @@ refused-not-good s at t x r g = wrong (r .why) (last at (r .before) (subst (AllG
 
     wrong : Why s (endOf at (r .before)) (r .field) x → Good s (endOf at (r .before)) (r .field) → ⊥
     wrong (cut h e) k = let w = k .whole in omega arith
-    wrong (outside h o e) k = o (k .within)
+    wrong (outside o e) k = o .1 (k .within)
 
 -- a cut ahead of what is read, where there is one
 abbrev pub unless : {X : Type 0} → Clash → (Fault → X) → X → X
