@@ -66,6 +66,7 @@ module _ {A : Type 0} (l : Layout A) (u : Traced l) where
   abbrev onward : List ℕ → A → Place → Whole A
   onward s a p = settle a (tailFault s (p .at)) (p .clash)
 
+  -- what is known of one that passes: the place behind its last field, that nothing is wrong behind it, and that nothing contradicts
   record Passes (s : List ℕ) (a : A) : Type 1 where
     behind : Place
     passed : Passed s begin (fieldsOf s) behind
@@ -90,7 +91,7 @@ module _ {A : Type 0} (l : Layout A) (u : Traced l) where
       go (stops f y e) = absurd (let t = sym (e (Whole A) fails (onward s)) ∙ h in let z : _≡_ {A = ℕ} 0 1 = cc in omega arith)
       go (goes x q g e) = settled x q g e (tailFault s (q .at)) (q .clash) refl refl (sym (e (Whole A) fails (onward s)) ∙ h)
 
-  -- it ends within what can be read, and its last byte holds a bit of its last field
+  -- its last field ends within what can be read
   room : (s : List ℕ) (a : A) (h : Passes s a) → h .behind .at ≤ 8 * reach s
   room s a h = rw (h .passed .ends) (good-ends s 0 (fieldsOf s) (omega arith) (h .passed .good))
 
