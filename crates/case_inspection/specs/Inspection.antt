@@ -10,6 +10,7 @@ use Rattle.model.specs.declared.Inspected.the-variants as I
 use Rattle.model.specs.Forced.{intervals, devices, zones}
 use Rattle.model.specs.Editions.{Largest}
 use Rattle.model.specs.ByEdition.{Stated, statedIn, caseLayout}
+use Rattle.refusals.specs.Refusals.{CaseRefusal}
 
 -- the counts of a case that passes reading, or its fault: what the batch program prints for message 0
 abbrev pub inspectedOf : Whole Stated → Inspected
@@ -21,3 +22,4 @@ pub record Inspects (l : Largest) (cs : List ℕ) (r : Inspected) : Type 0 where
   pub is : r ≡ inspectedOf (statedIn l cs)
   -- a refusal has the number and the place that a judgement's has, which `Tells` gives their meaning
   pub refused : (f : Fault) → r ≡ I.Refused f → Tells (caseLayout l) cs f
+  pub field : (f : Fault) → r ≡ I.Refused f → CaseRefusal l cs f

@@ -10,6 +10,7 @@ use Rattle.model.specs.declared.Inspected.the-variants as I
 use Rattle.model.specs.Editions.{Largest, mostDevices, mostIntervals}
 use Rattle.model.specs.ByEdition.{Stated, statedIn}
 use Rattle.theorems.specs.Promise.{case-tells}
+use Rattle.refusals.specs.Refusals.{case-refusal}
 use Rattle.message_ends.specs.declared.Ending.{Ending}
 use Rattle.message_ends.specs.declared.Ending.the-variants.{Passes, Fails}
 use Rattle.row_places.specs.declared.Front.{Front}
@@ -24,7 +25,11 @@ refused-fails (passes x) f e = absurd (let z : _≡_ {A = ℕ} 0 1 = cc in omega
 refused-fails (fails g) f e = let h : g ≡ f = cc in ap fails h
 
 pub inspects : (l : Largest) → l .devices ≤ mostDevices → l .intervals ≤ mostIntervals → (cs : List ℕ) {r : Inspected} → r ≡ inspectedOf (statedIn l cs) → Inspects l cs r
-inspects l most long cs e = record { is = e; refused = λ f h. case-tells l most long cs f (refused-fails (statedIn l cs) f (sym h ∙ e)) }
+inspects l most long cs e = record {
+  is = e;
+  refused = λ f h. case-tells l most long cs f (refused-fails (statedIn l cs) f (sym h ∙ e));
+  field = λ f h. case-refusal l cs f (refused-fails (statedIn l cs) f (sym h ∙ e));
+}
 
 module _ (l : Largest) (most : l .devices ≤ mostDevices) (long : l .intervals ≤ mostIntervals)
     (cs halves : List ℕ) (zones minima devices cells : List (List ℕ)) (e : Ending) (front : Front) (n : Counts)

@@ -42,6 +42,7 @@ use Rattle.theorems.specs.Barless.{Lacks}
 use Rattle.ranges.specs.Ranges.{PricesRange, KindsRange, DevicePriceRange, CellPriceRange, CaseRange, Taken, StatedRange, PlanRange, stated-sure, stated-range, planned-sure, planned-range}
 use Rattle.theorems.specs.Sizes.{PriceRange, mostPrice, mostShortfallPrice, mostChange, mostBlocks, surplusLimit, fits, surplus-size, device-at, floored}
 use Rattle.numbers.specs.Every.{all-or}
+use Rattle.refusals.specs.Refusals.{CaseRefusal, PlanRefusal, case-refusal, plan-refusal}
 use Rattle.theorems.specs.Theorem.{Right, right-verdict, apart}
 use Rattle.theorems.specs.OfEdition.{RightOf, right-of}
 use Rattle.theorems.specs.Chosen.{Holds, holds-ours}
@@ -262,6 +263,8 @@ pub record RefusedBy {A : Type 0} (l : Layout A) (s : List ℕ) (which : Subject
 -- The same, and "Everything else, of any content, is judged", with items 2 and 3, for a plan's bytes against a case that passed reading; only acceptance writes.
 pub record PlanPromise (x : Stated) (ps before : List ℕ) (j : Judged) : Type 0 where
   pub plan-refused : (f : Fault) → readPlan x ps ≡ fails f → RefusedBy (planOf x) ps S.Plan f before j
+  -- which field it is: 1 to 4 at the first that is cut or out of its range, 5 at the first that contradicts an earlier one
+  pub plan-field : (f : Fault) → readPlan x ps ≡ fails f → PlanRefusal x ps f
   pub judges : (p : Plan) → readPlan x ps ≡ passes p → j .verdict ≡ verdict x p (length before)
   pub right : (p : Plan) → readPlan x ps ≡ passes p → Right x p (length before) (j .verdict)
   pub right-of : (p : Plan) → readPlan x ps ≡ passes p → RightOf x p (j .verdict)
@@ -272,6 +275,7 @@ pub record PlanPromise (x : Stated) (ps before : List ℕ) (j : Judged) : Type 0
 -- and for the bytes of a case and a plan, by a reader that takes counts up to these: "case, then plan"
 pub record Promise (l : Largest) (cs ps before : List ℕ) (j : Judged) : Type 0 where
   pub case-refused : (f : Fault) → statedIn l cs ≡ fails f → RefusedBy (B.caseLayout l) cs S.Case f before j
+  pub case-field : (f : Fault) → statedIn l cs ≡ fails f → CaseRefusal l cs f
   pub case-passed : (x : Stated) → statedIn l cs ≡ passes x → PlanPromise x ps before j
 
 untouched : (v : Verdict) (out before : List ℕ) → ((z : ℤ) → v ≡ Accepted z → ⊥) → bufferAfter v out before ≡ before
@@ -365,6 +369,7 @@ plan-tells x ps f e = fails-tells (planOf x) Any (sure-checked _ _ (planned-sure
 pub plan-promised : (x : Stated) → Sound x → (ps before : List ℕ) → PlanPromise x ps before (withPlan x before (readPlan x ps))
 plan-promised x g ps before = record {
   plan-refused = λ f e. record { verdict = rw e refl; number = plan-tells x ps f e; untouched = rw e refl };
+  plan-field = λ f e. plan-refusal x ps f e;
   judges = λ p e. rw e (judged-verdict x p before);
   right = λ p e. rw (e, judged-verdict x p before) (right x ps p g e (length before));
   right-of = λ p e. rw (e, judged-verdict x p before) (right-by x ps p g e (length before));
@@ -386,5 +391,6 @@ module _ (l : Largest) (most : l .devices ≤ mostDevices) (long : l .intervals 
   unfolding judgement
   promised cs ps before = record {
     case-refused = λ f e. record { verdict = rw e refl; number = case-tells cs f e; untouched = rw e refl };
+    case-field = λ f e. case-refusal l cs f e;
     case-passed = λ x e. subst (PlanPromise x ps before) (sym (ap (withCase ps before) e)) (plan-promised x (stated-sound l most long cs x e) ps before);
   }
