@@ -142,3 +142,16 @@ pub fn with_a_number_changed(text: &str) -> Vec<String> {
         })
         .collect()
 }
+
+/// Whether a line begins with a number.
+pub fn is_numbered(row: &str) -> bool {
+    row.starts_with(|c: char| c.is_ascii_digit())
+}
+
+#[test]
+fn numbers_are_read_as_they_are_printed() {
+    for value in [0, 7, 999, 1_000, -1_452_140, 1_048_576] {
+        assert_eq!(number(&printed(value)), Ok(value));
+    }
+    assert!(number("10,00").is_err());
+}
