@@ -14,12 +14,13 @@ use Rattle.model.specs.declared.Breach.{Breach}
 use Rattle.model.specs.declared.Subject.{Subject}
 use Rattle.model.specs.declared.Subject.the-variants as S
 use Rattle.model.specs.declared.Verdict.the-variants.{Accepted, Broken, Refused}
-use Rattle.model.specs.declared.Listing.the-variants.{Listed}
+use Rattle.model.specs.declared.Listing.the-variants as L
 use Rattle.model.specs.Case.{Plan}
 use Rattle.model.specs.Editions.{Largest}
 use Rattle.model.specs.ByEdition.{Stated, statedIn, caseLayout, planLayout}
 use Rattle.model.specs.Forced.{intervals, devices}
 use Rattle.model.specs.Rules.{EveryRule, Before}
+use Rattle.model.specs.Breaches.{breaches}
 use Rattle.model.specs.Named.{First, Failed}
 use Rattle.model.specs.Completion.{Completion, Meets, surplusOf}
 use Rattle.model.specs.Judgement.{Judged, readPlan, completionBytes}
@@ -92,5 +93,11 @@ pub record EveryBreach (x : Stated) (p : Plan) (before : List ℕ) (r : Listings
   pub all : (b : Breach) → Failed (x .case .system) p b → List·Memᴰ b entries
   pub order : Ordered Before entries
 
-abbrev pub ListAudited : Largest → List ℕ → List ℕ → List ℕ → Listings → Type 0
-ListAudited l cs ps before r = (x : Stated) (p : Plan) → CaseIs l cs x → PlanIs x ps p → (n : ℕ) → r .answer ≡ Listed n → EveryBreach x p before r n
+pub record ListAudited (l : Largest) (cs ps before : List ℕ) (r : Listings) : Type 0 where
+  -- what does not pass reading is refused as by judging, and no byte of the list is touched
+  pub case-refused : (f : Fault) → statedIn l cs ≡ fails f → (r .answer ≡ L.Refused S.Case f) × (r .list ≡ before)
+  pub plan-refused : (x : Stated) (f : Fault) → CaseIs l cs x → readPlan x ps ≡ fails f → (r .answer ≡ L.Refused S.Plan f) × (r .list ≡ before)
+  -- else every breach is listed, or the buffer is truly too short for them and stays as it was
+  pub listed : (x : Stated) (p : Plan) → CaseIs l cs x → PlanIs x ps p → (n : ℕ) → r .answer ≡ L.Listed n → EveryBreach x p before r n
+  pub short : (x : Stated) (p : Plan) → CaseIs l cs x → PlanIs x ps p → (s : Subject) (f : Fault) → r .answer ≡ L.Refused s f
+      → Short (length (listBytes (breaches (x .case .system) p))) (length before) s f × (r .list ≡ before)

@@ -1,5 +1,5 @@
 -- That `Audit` holds of the judgement and of the list of breaches, for any bytes, at the sizes of the host library and of the batch program.
-use mathlib.Core.Path.{_≡_, refl, sym, ap, ap₂, _∙_, subst}
+use mathlib.Core.Path.{_≡_, refl, sym, ap, _∙_}
 use mathlib.Core.Bool.{Bool, true, false}
 use mathlib.Core.List.{List}
 use Prim.Native.Nat.{ℕ, _≤_, _<_}
@@ -7,14 +7,13 @@ use native.Mathlib.Omega.{arith}
 use borrow.Author.Tests.{leb-true, leb-false}
 use lib.Dec.{leb}
 use lib.ListN.{length}
-use lib.IntN.{ℤ}
 use Rattle.layouts.specs.declared.Fault.{Fault}
+use Rattle.layouts.specs.declared.Fault.the-variants.{TooShort}
 use Rattle.layouts.specs.Layout.{Whole, passes, fails}
-use Rattle.model.specs.declared.Breach.{Breach}
 use Rattle.model.specs.declared.Subject.{Subject}
 use Rattle.model.specs.declared.Subject.the-variants as S
 use Rattle.model.specs.declared.Verdict.{Verdict}
-use Rattle.model.specs.declared.Verdict.the-variants.{Accepted, Broken, Refused}
+use Rattle.model.specs.declared.Verdict.the-variants.{Refused}
 use Rattle.model.specs.declared.Listing.{Listing}
 use Rattle.model.specs.declared.Listing.the-variants as L
 use Rattle.model.specs.Case.{Plan}
@@ -23,10 +22,10 @@ use Rattle.model.specs.ByEdition.{Stated, statedIn}
 use Rattle.model.specs.Breaches.{breaches}
 use Rattle.model.specs.Judgement.{Judged, readPlan, judgement, completionBytes}
 use Rattle.model.specs.Lists.{Listings, listBytes, listings}
-use Rattle.theorems.specs.Theorem.{apart}
+use Rattle.theorems.specs.Theorem.{Short, apart}
 use Rattle.theorems.specs.Promise.{Promise, PlanPromise, promised}
 use Rattle.listings.specs.Promise.{Lists, case-listed}
-use Rattle.audit.specs.Audit.{CaseIs, PlanIs, Reason, of-case, of-plan, of-result, Item1, Item2, Allowed, Item3, Audited, EveryBreach, ListAudited}
+use Rattle.audit.specs.Audit.{CaseIs, PlanIs, Reason, of-case, of-plan, of-result, Item2, Item3, Audited, EveryBreach, ListAudited}
 
 same-fault : {v : Verdict} {s t : Subject} {f g : Fault} → v ≡ Refused s f → v ≡ Refused t g → f ≡ g
 same-fault a b = cc
@@ -101,21 +100,40 @@ listed-count a b = cc
 not-listed : {P : Type 0} {r : Listing} {s : Subject} {f : Fault} {n : ℕ} → r ≡ L.Refused s f → r ≡ L.Listed n → P
 not-listed a b = apart (cc)
 
-as-every : (x : Stated) (p : Plan) (before : List ℕ) (r : Listings) → Lists x p before r → (n : ℕ) → r .answer ≡ L.Listed n → EveryBreach x p before r n
-as-every x p before r m n e = go (leb (length (listBytes (breaches (x .case .system) p))) (length before)) refl
-  where
-    go : (b : Bool) → leb (length (listBytes (breaches (x .case .system) p))) (length before) ≡ b → EveryBreach x p before r n
-    go true h =
-        let f = m .fits (leb-true _ _ h) in
-        record { entries = breaches (x .case .system) p; count = listed-count (f .0) e; bytes = f .1; fail = m .entry; all = m .every; order = m .order }
-    go false h = not-listed (m .too-long (leb-false _ _ h) .0) e
+short-by : {r : Listing} {s : Subject} {f : Fault} {k room : ℕ} → r ≡ L.Refused S.Result (TooShort k) → r ≡ L.Refused s f → room < k → Short k room s f
+short-by {r} {s} {f} {k} a e h = let g : TooShort k ≡ f = cc in record { message = cc; number = rw (sym g) refl; returned = rw (sym g) refl; truly = h }
+
+module _ (x : Stated) (p : Plan) (before : List ℕ) (r : Listings) (m : Lists x p before r) where
+  abbrev needed : ℕ
+  needed = length (listBytes (breaches (x .case .system) p))
+
+  as-every : (n : ℕ) → r .answer ≡ L.Listed n → EveryBreach x p before r n
+  as-every n e = go (leb needed (length before)) refl
+    where
+      go : (b : Bool) → leb needed (length before) ≡ b → EveryBreach x p before r n
+      go true h =
+          let f = m .fits (leb-true _ _ h) in
+          record { entries = breaches (x .case .system) p; count = listed-count (f .0) e; bytes = f .1; fail = m .entry; all = m .every; order = m .order }
+      go false h = not-listed (m .too-long (leb-false _ _ h) .0) e
+
+  as-short : (s : Subject) (f : Fault) → r .answer ≡ L.Refused s f → Short needed (length before) s f × (r .list ≡ before)
+  as-short s f e = go (leb needed (length before)) refl
+    where
+      go : (b : Bool) → leb needed (length before) ≡ b → Short needed (length before) s f × (r .list ≡ before)
+      go true h = not-listed e (m .fits (leb-true _ _ h) .0)
+      go false h = let k = leb-false _ _ h in let t = m .too-long k in (short-by (t .0) e k, t .1)
 
 module _ (l : Largest) (most : l .devices ≤ mostDevices) (long : l .intervals ≤ mostIntervals) where
   audited : (cs ps before : List ℕ) → Audited l cs ps before (judgement l cs ps before)
   audited cs ps before = as-audited l cs ps before _ (promised l most long cs ps before)
 
   list-audited : (cs ps before : List ℕ) → ListAudited l cs ps before (listings l cs ps before)
-  list-audited cs ps before x p h k n e = as-every x p before _ (case-listed l most long cs ps before .case-passed x h .lists p k) n e
+  list-audited cs ps before = let m = case-listed l most long cs ps before in record {
+    case-refused = λ f e. (m .case-refused f e .answer, m .case-refused f e .untouched);
+    plan-refused = λ x f h e. (m .case-passed x h .plan-refused f e .answer, m .case-passed x h .plan-refused f e .untouched);
+    listed = λ x p h k. as-every x p before _ (m .case-passed x h .lists p k);
+    short = λ x p h k. as-short x p before _ (m .case-passed x h .lists p k);
+  }
 
 -- ---- the claim, for any bytes
 
