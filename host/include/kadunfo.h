@@ -1,7 +1,7 @@
 /* The plan unit for hosts in C. A slice is a pointer and then a length; no two slices of a call overlap.
    Cases of editions 1 to 5 are judged, with plans of their own edition; a completion has its case's. A case has up
    to 64 devices and 96 intervals from edition 4 on, up to 16 and 48 in editions 1 to 3. In edition 5 the devices stand
-   on two bars with a link between them; a completion then has in each interval the mismatches in kW of bar 0 and of
+   on two bars with a DC link between them; a completion then has in each interval the mismatches in kW of bar 0 and of
    bar 1, then those in kvar alike. */
 #ifndef KADUNFO_H
 #define KADUNFO_H
@@ -22,8 +22,8 @@ enum kadunfo_word {
     KADUNFO_FIGURES_SHORT = 5    /* figures has fewer than four places; nothing was done */
 };
 
-/* Bytes that hold every list of breaches: four for each of 25 rules of 64 devices in 96 intervals, of the link's in
-   96, and of 4 windows of each device. */
+/* Bytes that hold every list of breaches: four for each of 25 rules of 64 devices in 96 intervals, of the DC link's
+   in 96, and of 4 windows of each device. */
 #define KADUNFO_LONGEST_LIST 615808 /* 4 * (64 * 96 * 25 + 96 + 64 * 4) */
 
 /* Bytes that hold every completion: that of edition 5 with 64 devices, 96 intervals, 4 zones and 4 energy windows
@@ -45,8 +45,8 @@ uint64_t kadunfo_judge(const uint8_t *kase, size_t case_length,
                        uint64_t *figures, size_t figures_length);
 
 /* Lists every broken rule of one plan as four bytes: rule, interval, device, window. The order is that of judging,
-   so the first is the one that kadunfo_judge names, and an accepted plan has none. Rule 27, the link's, has device 0
-   and comes behind the devices of its interval. Only KADUNFO_LISTED writes to list: four bytes for each breach, the
+   so the first is the one that kadunfo_judge names, and an accepted plan has none. Rule 27, the DC link's, has
+   device 0 and comes behind the devices of its interval. Only KADUNFO_LISTED writes to list: four bytes for each breach, the
    rest stays. A list never needs more than KADUNFO_LONGEST_LIST bytes. */
 uint64_t kadunfo_breaches(const uint8_t *kase, size_t case_length,
                           const uint8_t *plan, size_t plan_length,

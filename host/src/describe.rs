@@ -28,7 +28,7 @@ pub fn describe(case: &Case) -> String {
     lines.join("\n") + "\n"
 }
 
-/// Counts, durations, prices and the link limit of the day.
+/// Counts, durations, prices and the DC link limit of the day.
 fn day_lines(case: &Case) -> Vec<String> {
     let (devices, intervals) = (case.devices.len(), case.intervals.len());
     let zones = case.zones.len();
@@ -51,7 +51,7 @@ fn day_lines(case: &Case) -> Vec<String> {
     ];
     if case.has_bars() {
         let limit = case.link_limit;
-        lines.push(format!("link limit {limit} kW between bar 0 and bar 1"));
+        lines.push(format!("DC link limit {limit} kW between bar 0 and bar 1"));
     }
     lines
 }
@@ -168,13 +168,13 @@ fn reactive_words(device: &Device) -> String {
 
 fn link_words(link: &Link) -> String {
     match link {
-        Link::None => "no link".to_string(),
+        Link::None => "no p-q link".to_string(),
         Link::TwoLines { upper, lower } => format!(
-            "linked by two lines, upper {}, lower {}",
+            "p-q link by two lines, upper {}, lower {}",
             line_words(upper),
             line_words(lower)
         ),
-        Link::Equality(line) => format!("linked by an equality, {}", line_words(line)),
+        Link::Equality(line) => format!("p-q link by an equality, {}", line_words(line)),
     }
 }
 

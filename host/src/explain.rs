@@ -77,11 +77,11 @@ const RULES: [&str; 27] = [
     "starts in a window",
     "highest reactive power",
     "lowest reactive power",
-    "upper line of the link",
-    "lower line of the link",
-    "equality of the link",
+    "upper line of the p-q link",
+    "lower line of the p-q link",
+    "equality of the p-q link",
     "reserves beside an equality",
-    "link limit",
+    "DC link limit",
 ];
 
 /// One line of a breach: its four numbers, then the rule, the place and both sides in words.

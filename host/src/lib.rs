@@ -71,7 +71,7 @@ pub mod word {
 pub const LONGEST_MESSAGE: usize = 1_048_576;
 
 /// Bytes that hold every list of breaches: four for each of 25 rules of 64 devices in 96 intervals,
-/// of the link's in 96, and of 4 windows of each device.
+/// of the DC link's in 96, and of 4 windows of each device.
 pub const LONGEST_LIST: usize = 4 * (64 * 96 * 25 + 96 + 64 * 4);
 
 /// Bytes that hold every completion: that of edition 5 with 64 devices, 96 intervals, 4 zones and 4

@@ -225,7 +225,7 @@ fn put(message: &mut [u8], at: usize, width: usize, value: u64) {
     }
 }
 
-/// 1 kW and 1 kvar more of load than comes over the link: 1,200 more of its block, less 60,000 for
+/// 1 kW and 1 kvar more of load than comes over the DC link: 1,200 more of its block, less 60,000 for
 /// each mismatch. In the completion they stand behind the header's 25 bits and 2 devices of 73.
 #[test]
 fn mismatches_of_a_completion_are_those_of_bar_0_and_bar_1() {
@@ -595,8 +595,8 @@ fn trajectories_that_meet_in_words() {
     let expected = [
         "21 2 1 0 rule 21 (highest reactive power) at interval 2, device 1: reactive power with up reserve is 23 kvar (q 20 + qru 3), at most 22 kvar (qmax 11 x n 2; n is on 0 + startups 1 + shutdowns 1)",
         "22 2 1 0 rule 22 (lowest reactive power) at interval 2, device 1: reactive power less down reserve is -20 kvar (q 20 - qrd 40), at least -18 kvar (qmin -9 x n 2; n is on 0 + startups 1 + shutdowns 1)",
-        "23 2 1 0 rule 23 (upper line of the link) at interval 2, device 1: reactive power with up reserve is 23000 var (q 20 + qru 3), at most 19000 var (1000 x offset 8 x n 2 + slope 50 x p 60; n is on 0 + startups 1 + shutdowns 1)",
-        "24 2 1 0 rule 24 (lower line of the link) at interval 2, device 1: reactive power less down reserve is -20000 var (q 20 - qrd 40), at least -19000 var (1000 x offset -8 x n 2 + slope -50 x p 60; n is on 0 + startups 1 + shutdowns 1)",
+        "23 2 1 0 rule 23 (upper line of the p-q link) at interval 2, device 1: reactive power with up reserve is 23000 var (q 20 + qru 3), at most 19000 var (1000 x offset 8 x n 2 + slope 50 x p 60; n is on 0 + startups 1 + shutdowns 1)",
+        "24 2 1 0 rule 24 (lower line of the p-q link) at interval 2, device 1: reactive power less down reserve is -20000 var (q 20 - qrd 40), at least -19000 var (1000 x offset -8 x n 2 + slope -50 x p 60; n is on 0 + startups 1 + shutdowns 1)",
     ];
     assert_eq!(lines_of("meeting", &day), expected);
 }
@@ -606,13 +606,13 @@ fn trajectories_that_meet_in_words() {
 fn links_in_words() {
     let days = reactive_days();
     let line_of = |left: &str| {
-        format!("23 2 1 0 rule 23 (upper line of the link) at interval 2, device 1: reactive power with up reserve is 50000 var ({left}), at most 49950 var (1000 x offset 0 x n 1 + slope 333 x p 150; n is on 1)")
+        format!("23 2 1 0 rule 23 (upper line of the p-q link) at interval 2, device 1: reactive power with up reserve is 50000 var ({left}), at most 49950 var (1000 x offset 0 x n 1 + slope 333 x p 150; n is on 1)")
     };
     assert_eq!(lines_of("line", &days[6].1), [line_of("q 50")]);
     assert_eq!(lines_of("line", &days[7].1), [line_of("q 49 + qru 1")]);
     let expected = [
-        "25 1 1 0 rule 25 (equality of the link) at interval 1, device 1: reactive power is 7000 var (q 7), must be 7030 var (1000 x offset 1 x n 1 + slope 201 x p 30; n is on 0 + startups 1)",
-        "25 2 1 0 rule 25 (equality of the link) at interval 2, device 1: reactive power is 31000 var (q 31), must be 31150 var (1000 x offset 1 x n 1 + slope 201 x p 150; n is on 1)",
+        "25 1 1 0 rule 25 (equality of the p-q link) at interval 1, device 1: reactive power is 7000 var (q 7), must be 7030 var (1000 x offset 1 x n 1 + slope 201 x p 30; n is on 0 + startups 1)",
+        "25 2 1 0 rule 25 (equality of the p-q link) at interval 2, device 1: reactive power is 31000 var (q 31), must be 31150 var (1000 x offset 1 x n 1 + slope 201 x p 150; n is on 1)",
     ];
     assert_eq!(lines_of("equality", &days[9].1), expected);
     // A lower line of device 2, which consumes: −1 kvar and −333 thousandths of 150 kW.
@@ -631,7 +631,7 @@ fn links_in_words() {
         },
     };
     set(&mut day, (2, 2), [-46, 5, 0]);
-    let expected = "24 2 2 0 rule 24 (lower line of the link) at interval 2, device 2: reactive power less up reserve is -51000 var (q -46 - qru 5), at least -50950 var (1000 x offset -1 x n 1 + slope -333 x p 150; n is on 1)";
+    let expected = "24 2 2 0 rule 24 (lower line of the p-q link) at interval 2, device 2: reactive power less up reserve is -51000 var (q -46 - qru 5), at least -50950 var (1000 x offset -1 x n 1 + slope -333 x p 150; n is on 1)";
     assert_eq!(lines_of("lower", &day), [expected]);
 }
 
@@ -685,8 +685,8 @@ fn a_large_day_in_words() {
 #[test]
 fn flows_in_words() {
     let expected = [
-        "27 1 0 0 rule 27 (link limit) at interval 1: flow is -150 kW, at least -149 kW",
-        "27 2 0 0 rule 27 (link limit) at interval 2: flow is 150 kW, at most 149 kW",
+        "27 1 0 0 rule 27 (DC link limit) at interval 1: flow is -150 kW, at least -149 kW",
+        "27 2 0 0 rule 27 (DC link limit) at interval 2: flow is 150 kW, at most 149 kW",
     ];
     let lines = lines_of("flows", &barred_day(149, [-150, 150]));
     assert_eq!(lines, expected);
@@ -705,9 +705,9 @@ fn flows_stand_behind_their_devices_in_words() {
     day.plan.intervals[1][0].online_power = 151;
     let expected = [
         "1 1 2 0 rule 1 (fixed status) at interval 1, device 2: is on, must be off (fixed by the case)",
-        "27 1 0 0 rule 27 (link limit) at interval 1: flow is 1 kW, at most 0 kW",
+        "27 1 0 0 rule 27 (DC link limit) at interval 1: flow is 1 kW, at most 0 kW",
         "5 2 1 0 rule 5 (ramp up) at interval 2, device 1: power rises by 121 kW (from 30 to 151), at most 120 kW (60 min at 2 kW/min starting)",
-        "27 2 0 0 rule 27 (link limit) at interval 2: flow is -1 kW, at least 0 kW",
+        "27 2 0 0 rule 27 (DC link limit) at interval 2: flow is -1 kW, at least 0 kW",
         "20 0 1 1 rule 20 (starts in a window) at device 1, window 1: has 1 start (from minute 60 before minute 120), at most 0 starts",
     ];
     assert_eq!(lines_of("behind", &day), expected);
@@ -732,7 +732,7 @@ device 2: consuming; in zone 1; initially on for 600 min at 30 kW; minimum up 0 
     assert_eq!(answer(&["inspect", &case], 0), expected);
 }
 
-/// With limits, links of both kinds and a zone of device 2.
+/// With limits, p-q links of both kinds and a zone of device 2.
 #[test]
 fn inspect_prints_what_a_case_of_edition_2_holds() {
     let mut day = reactive_day();
@@ -771,12 +771,12 @@ mismatch price 1000 grains per kW min and kvar min
 overrun price 1 grains per kW min
 zone 1: minima to 0 kvar of qru, 0 kvar of qrd; shortfall prices 1 grains per var min of qru, 1 of qrd
 zone 2: minima to 2 kvar of qru, 1 kvar of qrd; shortfall prices 3 grains per var min of qru, 5 of qrd
-device 1: producing; in no zone; initially off for 600 min at 0 kW; minimum up 60 min, down 60 min; ramps up 10, down 10, starting 2, stopping 2 kW/min; pmin from 150 kW, pmax to 200 kW; costs in grains: on 4 per min, start 10000, stop 0; startup states 2, start windows 0, energy windows 0; qmin from -100 kvar, qmax to 11 kvar; linked by two lines, upper 0 kvar + 333 var per kW, lower -100 kvar - 1 var per kW
-device 2: consuming; in zone 2; initially on for 600 min at 30 kW; minimum up 0 min, down 0 min; ramps up 100, down 100, starting 100, stopping 100 kW/min; pmin from 0 kW, pmax to 200 kW; costs in grains: on 0 per min, start 0, stop 0; startup states 0, start windows 0, energy windows 0; qmin from -9 kvar, qmax to 11 kvar; linked by an equality, 1 kvar + 200 var per kW
+device 1: producing; in no zone; initially off for 600 min at 0 kW; minimum up 60 min, down 60 min; ramps up 10, down 10, starting 2, stopping 2 kW/min; pmin from 150 kW, pmax to 200 kW; costs in grains: on 4 per min, start 10000, stop 0; startup states 2, start windows 0, energy windows 0; qmin from -100 kvar, qmax to 11 kvar; p-q link by two lines, upper 0 kvar + 333 var per kW, lower -100 kvar - 1 var per kW
+device 2: consuming; in zone 2; initially on for 600 min at 30 kW; minimum up 0 min, down 0 min; ramps up 100, down 100, starting 100, stopping 100 kW/min; pmin from 0 kW, pmax to 200 kW; costs in grains: on 0 per min, start 0, stop 0; startup states 0, start windows 0, energy windows 0; qmin from -9 kvar, qmax to 11 kvar; p-q link by an equality, 1 kvar + 200 var per kW
 ";
     assert_eq!(answer(&["inspect", &case], 0), expected);
     let unlinked = Scratch::new("inspect-plain").day(&reactive_day());
-    assert!(answer(&["inspect", &unlinked[0]], 0).ends_with("qmax to 11 kvar; no link\n"));
+    assert!(answer(&["inspect", &unlinked[0]], 0).ends_with("qmax to 11 kvar; no p-q link\n"));
 }
 
 /// Device 1 with floors of 0 and 80, device 2 with none.
@@ -791,8 +791,8 @@ intervals 2: 2 x 60 min; 120 min in all
 zones 0
 mismatch price 1000 grains per kW min and kvar min
 overrun price 1 grains per kW min
-device 1: producing; in no zone; initially off for 600 min at 0 kW; minimum up 60 min, down 60 min; ramps up 10, down 10, starting 2, stopping 2 kW/min; pmin from 150 kW, pmax to 200 kW; costs in grains: on 4 per min, start 10000, stop 0; startup states 2, start windows 0, energy windows 0; qmin from 0 kvar, qmax to 0 kvar; no link; block floors to 80 kW in an interval
-device 2: consuming; in no zone; initially on for 600 min at 30 kW; minimum up 0 min, down 0 min; ramps up 100, down 100, starting 100, stopping 100 kW/min; pmin from 0 kW, pmax to 200 kW; costs in grains: on 0 per min, start 0, stop 0; startup states 0, start windows 0, energy windows 0; qmin from 0 kvar, qmax to 0 kvar; no link; block floors to 0 kW in an interval
+device 1: producing; in no zone; initially off for 600 min at 0 kW; minimum up 60 min, down 60 min; ramps up 10, down 10, starting 2, stopping 2 kW/min; pmin from 150 kW, pmax to 200 kW; costs in grains: on 4 per min, start 10000, stop 0; startup states 2, start windows 0, energy windows 0; qmin from 0 kvar, qmax to 0 kvar; no p-q link; block floors to 80 kW in an interval
+device 2: consuming; in no zone; initially on for 600 min at 30 kW; minimum up 0 min, down 0 min; ramps up 100, down 100, starting 100, stopping 100 kW/min; pmin from 0 kW, pmax to 200 kW; costs in grains: on 0 per min, start 0, stop 0; startup states 0, start windows 0, energy windows 0; qmin from 0 kvar, qmax to 0 kvar; no p-q link; block floors to 0 kW in an interval
 ";
     assert_eq!(answer(&["inspect", &case], 0), expected);
 }
@@ -819,7 +819,7 @@ fn inspect_prints_what_a_large_case_holds() {
     );
     let last = "device 64: consuming; in no zone; initially on for 600 min at 30 kW; ";
     assert!(lines[70].starts_with(last));
-    assert!(lines[70].ends_with("; no link; block floors to 0 kW in an interval"));
+    assert!(lines[70].ends_with("; no p-q link; block floors to 0 kW in an interval"));
 }
 
 #[test]
@@ -833,9 +833,9 @@ intervals 2: 2 x 60 min; 120 min in all
 zones 0
 mismatch price 1000 grains per kW min and kvar min of each bar
 overrun price 1 grains per kW min
-link limit 150 kW between bar 0 and bar 1
-device 1: producing; in no zone; initially off for 600 min at 0 kW; minimum up 60 min, down 60 min; ramps up 10, down 10, starting 2, stopping 2 kW/min; pmin from 150 kW, pmax to 200 kW; costs in grains: on 4 per min, start 10000, stop 0; startup states 2, start windows 0, energy windows 0; qmin from 0 kvar, qmax to 0 kvar; no link; block floors to 0 kW in an interval; on bar 0
-device 2: consuming; in no zone; initially on for 600 min at 30 kW; minimum up 0 min, down 0 min; ramps up 100, down 100, starting 100, stopping 100 kW/min; pmin from 0 kW, pmax to 200 kW; costs in grains: on 0 per min, start 0, stop 0; startup states 0, start windows 0, energy windows 0; qmin from 0 kvar, qmax to 0 kvar; no link; block floors to 0 kW in an interval; on bar 1
+DC link limit 150 kW between bar 0 and bar 1
+device 1: producing; in no zone; initially off for 600 min at 0 kW; minimum up 60 min, down 60 min; ramps up 10, down 10, starting 2, stopping 2 kW/min; pmin from 150 kW, pmax to 200 kW; costs in grains: on 4 per min, start 10000, stop 0; startup states 2, start windows 0, energy windows 0; qmin from 0 kvar, qmax to 0 kvar; no p-q link; block floors to 0 kW in an interval; on bar 0
+device 2: consuming; in no zone; initially on for 600 min at 30 kW; minimum up 0 min, down 0 min; ramps up 100, down 100, starting 100, stopping 100 kW/min; pmin from 0 kW, pmax to 200 kW; costs in grains: on 0 per min, start 0, stop 0; startup states 0, start windows 0, energy windows 0; qmin from 0 kvar, qmax to 0 kvar; no p-q link; block floors to 0 kW in an interval; on bar 1
 ";
     assert_eq!(answer(&["inspect", &case], 0), expected);
 }
@@ -977,7 +977,7 @@ fn most_starts_above_96_are_told() {
     assert_eq!(complaint(&["judge", &above, &plan], 2), expected);
 }
 
-/// The link limit stands behind 53 bits of the case; the flow of interval 1 behind 22 of the plan and
+/// The DC link limit stands behind 53 bits of the case; the flow of interval 1 behind 22 of the plan and
 /// two devices of 206.
 #[test]
 fn flows_and_limits_out_of_their_range_are_told() {
