@@ -29,6 +29,7 @@ use crate::worked_day::Day;
 
 mod bars;
 mod counts;
+mod exchanges;
 mod floors;
 mod reactive;
 
@@ -378,6 +379,7 @@ pub fn written_rows() -> Vec<Row> {
     rows.extend(floors::rows());
     rows.extend(counts::rows());
     rows.extend(bars::rows());
+    rows.extend(exchanges::rows());
     rows
 }
 

@@ -454,6 +454,65 @@ const BAR_VERDICTS: [&str; 51] = [
     "broken 27 1 0 0",
 ];
 
+/// What each written row about exchanges must give, in order.
+const EXCHANGE_VERDICTS: [&str; 32] = [
+    // Limits: 50 kW at 7 and 1 of mismatch for 10 minutes.
+    "accepted -4000",
+    "broken 7 1 1 0",
+    "broken 8 1 1 0",
+    "broken 9 1 1 0",
+    "broken 10 1 1 0",
+    "broken 11 1 1 0",
+    "accepted 0",
+    "broken 12 1 1 0",
+    "broken 13 1 1 0",
+    "accepted 0",
+    "broken 14 1 1 0",
+    // Reserves that a side may not hold.
+    "broken 15 1 1 0",
+    "broken 15 1 1 0",
+    "broken 15 1 1 0",
+    // 10 kW at 7, consumed, then produced, and 1 of mismatch.
+    "accepted 600",
+    "broken 18 1 1 0",
+    "accepted -800",
+    "broken 18 1 1 0",
+    "broken 18 1 1 0",
+    // 700 of blocks less 10 for each of 14 + 24 + 5 + 3; 26 + 36 + 5 + 3; 16 + 6 + 2.
+    "accepted 240",
+    "accepted 0",
+    "accepted 460",
+    // Whole messages. Of real power: 10·(40·8 − 20·7) of blocks, 130 of on cost, 2 won by a start
+    // in its state, 690 of reserves, 10·(3·14,000 + 4·38,000 + 5·1,000 + 6·1,000) of shortfalls,
+    // 1,200 of mismatch (in edition 5 of 5 and 55 kW), 3·(8·60 − 17) of overrun. Of reactive power:
+    // 290 of reserves, 10·(7·6,000 + 8·6,000) of shortfalls, 140 of mismatch.
+    "accepted -2051607",
+    "accepted -2952037",
+    "accepted -2952037",
+    "accepted -2952037",
+    "accepted -2952037",
+    // Refusals.
+    "refused case 2 4",
+    "refused case 4 686",
+    "refused case 4 703",
+    // Turns.
+    "broken 7 1 1 0",
+    "broken 8 1 2 0",
+];
+
+/// The lists of the last two rows about exchanges.
+const EXCHANGE_LISTS: [List; 2] = [
+    &[[7, 1, 1, 0], [9, 1, 1, 0], [10, 1, 1, 0], [27, 1, 0, 0]],
+    &[
+        [8, 1, 2, 0],
+        [11, 1, 2, 0],
+        [27, 1, 0, 0],
+        [7, 2, 1, 0],
+        [9, 2, 1, 0],
+        [10, 2, 1, 0],
+    ],
+];
+
 /// A list of breaches.
 type List = &'static [[u8; 4]];
 
@@ -547,7 +606,13 @@ const LISTS: [List; 10] = [
 fn written_rows_give_what_was_worked_out() {
     let rows = written_rows();
     let of_older = [&VERDICTS[..], &REACTIVE_VERDICTS, &FLOOR_VERDICTS].concat();
-    let verdicts = [&of_older[..], &COUNT_VERDICTS, &BAR_VERDICTS].concat();
+    let verdicts = [
+        &of_older[..],
+        &COUNT_VERDICTS,
+        &BAR_VERDICTS,
+        &EXCHANGE_VERDICTS,
+    ]
+    .concat();
     assert_eq!(rows.len(), verdicts.len());
     for (row, verdict) in rows.iter().zip(verdicts) {
         let printed = row.printed();
@@ -563,12 +628,14 @@ fn lists_of_written_rows_are_what_was_worked_out() {
     let (of_edition_1, later) = rows.split_at(VERDICTS.len());
     let (of_edition_2, later) = later.split_at(REACTIVE_VERDICTS.len());
     let (of_edition_3, later) = later.split_at(FLOOR_VERDICTS.len());
-    let (_, of_edition_5) = later.split_at(COUNT_VERDICTS.len());
-    let of_editions: [(&[Row], &[List]); 4] = [
+    let (_, later) = later.split_at(COUNT_VERDICTS.len());
+    let (of_edition_5, of_exchanges) = later.split_at(BAR_VERDICTS.len());
+    let of_editions: [(&[Row], &[List]); 5] = [
         (of_edition_1, &LISTS),
         (of_edition_2, &REACTIVE_LISTS),
         (of_edition_3, &FLOOR_LISTS),
         (of_edition_5, &BAR_LISTS),
+        (of_exchanges, &EXCHANGE_LISTS),
     ];
     let with_lists = of_editions.into_iter().flat_map(|(rows, lists)| {
         let last = &rows[rows.len() - lists.len()..];

@@ -11,4 +11,5 @@ pub mod ReactiveDay
 pub mod Floors
 pub mod FloorDay
 pub mod BarDay
+pub mod Exchanges
 pub mod FloorRows
