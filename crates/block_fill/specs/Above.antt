@@ -18,7 +18,7 @@ use Rattle.kilowatts.specs.Power.{kw}
 use Rattle.model.specs.Rules.{blocks}
 use Rattle.model.specs.Ours.{filling, fillingAbove}
 use Rattle.theorems.specs.Best.{above-floor, above-cap, above-total}
-use Rattle.block_fill.specs.Filled.{priceOf, capOf, Filled, Alike, filling-same, filling-caps, four-same}
+use Rattle.block_fill.specs.Filled.{priceOf, capOf, Offered, Filled, Alike, filling-same, filling-caps, four-same}
 use Rattle.block_fill.specs.Steps.{as-four}
 
 -- ---- four powers
@@ -44,6 +44,10 @@ four-of f a b c d e g h i = record { long = refl; at = at }
     at (suc (suc zero)) l = h
     at (suc (suc (suc zero))) l = i
     at (suc (suc (suc (suc k)))) l = absurd (omega arith)
+
+-- above floors that are not above their caps an offer has as many blocks
+pub room-offered : (floors : List Kw) {n : ℕ} {caps room : List Kw} → Offered n caps → Four (λ k. capOf caps k - capOf floors k) room → Offered n room
+room-offered floors offer gap = record { few = offer .few; absent = λ k h i. omega (arith, gap .at k i, offer .absent k h i) }
 
 -- no sum of two overflows
 pub record SumsFit (floors more : List Kw) : Type 0 where

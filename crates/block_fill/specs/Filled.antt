@@ -58,6 +58,11 @@ module _ (o p : ℕ) (caps : List Kw) (prices : List ℕ) (k : ℕ) where
   fill-is-filling false = ap (λ (n : ℕ). min (capOf caps k) (p - n)) (sumℕ-cong _ _ blocks (all (λ j. ap (λ t. gate t (capOf caps j)) (lower-first j)) blocks))
   fill-is-filling true = ap (λ (n : ℕ). min (capOf caps k) (p - n)) (sumℕ-cong _ _ blocks (all (λ j. ap (λ t. gate t (capOf caps j)) (higher-first j)) blocks))
 
+-- an offer of n blocks, of which a row holds four: those absent have cap 0
+pub record Offered (n : ℕ) (caps : List Kw) : Type 0 where
+  pub few : n ≤ 4
+  pub absent : (k : ℕ) → n ≤ k → k < 4 → capOf caps k ≡ 0
+
 -- the four powers, for prices kept from 0 with any offset, with their total conserved
 pub record Filled (side p : ℕ) (caps : List Kw) (prices : List ℕ) (r : List Kw) : Type 0 where
   pub powers : (offset : ℕ) → r ≡ map (λ k. kw (filling (eqb side 1) (priceOf offset prices) (capOf caps) p k)) blocks

@@ -3,18 +3,19 @@ use block_pick::Pick;
 use kilowatts::Kw;
 ghost use mathlib.Core.Path.{_≡_};
 ghost use Prim.Native.Nat.{_+_, _-_, _^_, _<_};
-ghost use Rattle.block_fill.specs.Filled.{Filled, capOf};
+ghost use Rattle.block_fill.specs.Filled.{Filled, Offered, capOf};
 ghost use Rattle.block_fill.specs.Above.{Four, sumOf, FloorsFit, FilledAbove, SumsFit};
 
-// Four blocks filled with p, at prices kept from 0: the cheapest first when producing, the dearest when consuming; it ends where nothing is left.
-pub fn fill(p: Kw, side: u32, caps: [Kw; 4], prices: [u32; 4]) -> [Kw; 4]
+// The blocks of an offer filled with p, at prices kept from 0: the cheapest first when producing, the dearest when consuming; it ends where nothing is left.
+pub fn fill(p: Kw, side: u32, blocks: usize, caps: [Kw; 4], prices: [u32; 4]) -> [Kw; 4]
+    requires { ⌜ Offered blocks caps ⌝ }
     ensures { λ r. ⌜ Filled side (p .0) caps prices r ⌝ }
 {
     let mut powers = [Kw(0), Kw(0), Kw(0), Kw(0)];
     let mut picked = [false; 4];
     let mut left = p;
     while 0 < left.0 {
-        let next = block_pick::next(side, prices, picked);
+        let next = block_pick::next(side, prices, blocks, picked);
         let Pick::Block(k) = next else {
             return powers;
         };
@@ -62,16 +63,23 @@ fn with_floors(floors: [Kw; 4], more: [Kw; 4]) -> [Kw; 4]
 }
 
 // "Floors first, then price order": each block its floor, and what is left of p filled above them; without floors it is filling.
-pub fn fill_above(p: Kw, side: u32, floors: [Kw; 4], caps: [Kw; 4], prices: [u32; 4]) -> [Kw; 4]
-    requires { ⌜ FloorsFit (p .0) floors caps ⌝ }
+pub fn fill_above(
+    p: Kw,
+    side: u32,
+    blocks: usize,
+    floors: [Kw; 4],
+    caps: [Kw; 4],
+    prices: [u32; 4],
+) -> [Kw; 4]
+    requires { ⌜ FloorsFit (p .0) floors caps × Offered blocks caps ⌝ }
     ensures { λ r. ⌜ FilledAbove side (p .0) floors caps prices r ⌝ }
 {
     let least = sum_of(floors);
     if least.0 == 0 {
-        return fill(p, side, caps, prices);
+        return fill(p, side, blocks, caps, prices);
     }
     let room = room_above(floors, caps);
     let left = p.less(least);
-    let more = fill(left, side, room, prices);
+    let more = fill(left, side, blocks, room, prices);
     with_floors(floors, more)
 }

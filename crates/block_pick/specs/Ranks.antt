@@ -25,9 +25,9 @@ pub record NextIs (ahead : ℕ → ℕ → Bool) (n : ℕ) (picked : List Bool) 
   pub fresh : T (not (taken picked k))
   pub best : (j : ℕ) → j < n → T (not (taken picked j)) → (j ≡ k → ⊥) → T (ahead k j)
 
--- the marks after so many picks, each of the block that is next
+-- the marks after so many picks, each of the block that is next; there may be more marks than blocks
 pub data Picked (ahead : ℕ → ℕ → Bool) (n : ℕ) : List Bool → ℕ → Type 0 where
-  none : Picked ahead n (replicate n false) 0
+  none : {size : ℕ} → n ≤ size → Picked ahead n (replicate size false) 0
   more : {picked : List Bool} {m k : ℕ} → Picked ahead n picked m → NextIs ahead n picked k → Picked ahead n (set picked k true) (suc m)
 
 -- what the blocks picked hold of a figure
@@ -81,11 +81,11 @@ module _ (picked : List Bool) (k : ℕ) where
       (rw (marked h) (omega (arith, gate-no (taken picked k) (f k) fresh)))
       n i
 
-pub held-none : (f : ℕ → ℕ) (n : ℕ) → held f n (replicate n false) ≡ 0
-held-none f n = sum-zero _ n (λ j h. rw (getD-replicate n j false false h))
+pub held-none : (f : ℕ → ℕ) (n size : ℕ) → n ≤ size → held f n (replicate size false) ≡ 0
+held-none f n size l = sum-zero _ n (λ j h. rw (getD-replicate size j false false (omega arith)))
 
 -- with each pick fewer are left
-pub fewer-left : (n : ℕ) (picked : List Bool) (k : ℕ) → length picked ≡ n → k < n → T (not (taken picked k))
+pub fewer-left : (n : ℕ) (picked : List Bool) (k : ℕ) → n ≤ length picked → k < n → T (not (taken picked k))
     → n - held (λ j. 1) n (set picked k true) < n - held (λ j. 1) n picked
 fewer-left n picked k l h fresh = omega (arith, held-more picked k (λ j. 1) n (omega arith) h fresh, most)
   where
@@ -95,10 +95,10 @@ fewer-left n picked k l h fresh = omega (arith, held-more picked k (λ j. 1) n (
 -- ---- picks in an order
 
 module _ {ahead : ℕ → ℕ → Bool} (lin : Linear ahead) {n : ℕ} where
-  front-none : Front ahead n (replicate n false)
-  front-none j k h i t u = absurd (rw (getD-replicate n j false false h) at t)
+  front-none : (size : ℕ) → n ≤ size → Front ahead n (replicate size false)
+  front-none size l j k h i t u = absurd (rw (getD-replicate size j false false (omega arith)) at t)
 
-  front-more : {picked : List Bool} {k : ℕ} → length picked ≡ n → Front ahead n picked → NextIs ahead n picked k → Front ahead n (set picked k true)
+  front-more : {picked : List Bool} {k : ℕ} → n ≤ length picked → Front ahead n picked → NextIs ahead n picked k → Front ahead n (set picked k true)
   front-more {picked} {k} l front next i j h g t u = go (ℕ-discrete j k) (ℕ-discrete i k)
     where
       go : Dec (j ≡ k) → Dec (i ≡ k) → T (ahead i j)
@@ -128,16 +128,16 @@ module _ {ahead : ℕ → ℕ → Bool} (lin : Linear ahead) {n : ℕ} where
   unfolding before
   pick-sum f {picked} {k} front next = sumℕ-cong _ _ (upTo n) (all-upTo _ n (λ j h. ap (λ b. gate b (f j)) (ahead-taken front next j h)))
 
-  pub picked-length : {picked : List Bool} {m : ℕ} → Picked ahead n picked m → length picked ≡ n
-  picked-length none = length-replicate n false
-  picked-length (more {picked} {m} {k} s next) = length-set picked k true ∙ picked-length s
+  pub picked-length : {picked : List Bool} {m : ℕ} → Picked ahead n picked m → n ≤ length picked
+  picked-length (none {size} l) = omega (arith, length-replicate size false)
+  picked-length (more {picked} {m} {k} s next) = omega (arith, length-set picked k true, picked-length s)
 
   pub picked-front : {picked : List Bool} {m : ℕ} → Picked ahead n picked m → Front ahead n picked
-  picked-front none = front-none
+  picked-front (none {size} l) = front-none size l
   picked-front (more s next) = front-more (picked-length s) (picked-front s) next
 
   pub picked-count : {picked : List Bool} {m : ℕ} → Picked ahead n picked m → held (λ j. 1) n picked ≡ m
-  picked-count none = held-none (λ j. 1) n
+  picked-count (none {size} l) = held-none (λ j. 1) n size l
   picked-count (more {picked} {m} {k} s next) =
       omega (arith, held-more picked k (λ j. 1) n (omega (arith, picked-length s, next .one)) (next .one) (next .fresh), picked-count s)
 

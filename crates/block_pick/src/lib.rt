@@ -1,12 +1,12 @@
 // The next of a device's blocks, straight from its offer: the cheapest first when producing, the dearest when consuming; "lower-numbered block first".
 ghost use mathlib.Core.Path.{_≡_};
 ghost use mathlib.Core.Bool.{false};
-ghost use Prim.Native.Nat.{_<_};
+ghost use Prim.Native.Nat.{_≤_, _<_};
 ghost use lib.Dec.{eqb};
 ghost use Rattle.block_pick.specs.Order.{ahead, aheadIn};
 ghost use Rattle.block_pick.specs.Picks.{Below, better, Picks};
 
-// The number of a block, or none.
+// A block by its place in the offer, which is its number less 1, or none.
 pub enum Pick {
     Block(usize),
     None,
@@ -34,13 +34,14 @@ fn better_of(side: u32, prices: [u32; 4], found: Pick, k: usize) -> Pick
     }
 }
 
-// The next block: of those not picked yet the one ahead of the others; none exactly where all are picked.
-pub fn next(side: u32, prices: [u32; 4], picked: [bool; 4]) -> Pick
-    ensures { λ r. ⌜ Picks (eqb side 1) prices picked r ⌝ }
+// The next of the blocks that the offer has: of those not picked yet the one ahead of the others; none exactly where all are picked.
+pub fn next(side: u32, prices: [u32; 4], blocks: usize, picked: [bool; 4]) -> Pick
+    requires { ⌜ blocks ≤ 4 ⌝ }
+    ensures { λ r. ⌜ Picks (eqb side 1) prices blocks picked r ⌝ }
 {
     let mut found = Pick::None;
     let mut k = 0;
-    while k < 4 {
+    while k < blocks {
         if !picked[k] {
             found = better_of(side, prices, found, k);
         }

@@ -1,11 +1,12 @@
 -- The loops over the breaches of an interval's cells, of all intervals and of the day's windows, and a day without any.
 use mathlib.Core.Path.{_≡_, refl, sym, _∙_}
-use mathlib.Core.List.{[]}
+use mathlib.Core.List.{List, [], _∷_, _++_}
 use Prim.Native.Nat.{ℕ, _+_, _≤_, _<_}
 use native.Mathlib.Omega.{arith}
 use native.Mathlib.Decide.{decLe}
-use Rattle.numbers.specs.Base.{upTo}
-use Rattle.numbers.specs.Every.{all-upTo}
+use Rattle.numbers.specs.Base.{upTo, gather}
+use Rattle.numbers.specs.Every.{all-upTo, upTo-all}
+use Rattle.numbers.specs.Sum.{All}
 use Rattle.numbers.specs.Gather.{gather-none}
 use Rattle.model.specs.Case.{System, Plan}
 use Rattle.model.specs.Forced.{intervals, devices}
@@ -15,6 +16,19 @@ use Rattle.model.specs.declared.Breach.{Breach}
 use Rattle.breaches.specs.First.{first, orElse, first-append, else-stop, else-pass, Left, loop-start, loop-held, loop-broken, loop-done}
 use Rattle.breaches.specs.declared.Check.{Check}
 use Rattle.breaches.specs.declared.Check.the-variants.{Held, Broken}
+
+-- nothing in all, nothing in a part
+both-none : {A : Type 0} (xs ys : List A) → xs ++ ys ≡ [] → (xs ≡ []) × (ys ≡ [])
+both-none [] ys h = (refl, h)
+both-none (x ∷ xs) ys h = absurd (let z : _≡_ {A = ℕ} 0 1 = cc in omega (arith, z))
+
+each-none : {B : Type 0} (f : ℕ → List B) (ks : List ℕ) → gather f ks ≡ [] → All (λ k. f k ≡ []) ks
+unfolding gather
+each-none f [] h = tt
+each-none f (k ∷ ks) h = let b = both-none (f k) (gather f ks) h in (b .0, each-none f ks (b .1))
+
+gathered-none : {B : Type 0} (f : ℕ → List B) (n : ℕ) → gather f (upTo n) ≡ [] → (k : ℕ) → k < n → f k ≡ []
+gathered-none f n h = upTo-all (λ k. f k ≡ []) n (each-none f (upTo n) h)
 
 module _ (q : System) (p : Plan) where
   -- the intervals' breaches, then the windows'
@@ -125,6 +139,29 @@ module _ (q : System) (p : Plan) where
     ) refl)),
     gather-none (windowBreaches q p) (upTo (devices q)) (all-upTo _ _ (λ i b. h .at i (omega arith) .windows)),
   ) refl
+
+  -- and back: no breach at all, none of a link or a device
+  pub record NoneAt (m n : ℕ) : Type 0 where
+    pub links : (t : ℕ) → t < m → linkBreaches q p t ≡ []
+    pub devices-hold : HoldTo m n
+
+  pub none-anywhere : {m n : ℕ} → intervals q ≡ m → devices q ≡ n → breaches q p ≡ [] → NoneAt m n
+  unfolding intervalCells dayBreaches dayWindows
+  none-anywhere e f h = record {
+    links = λ t l. interval t (omega arith) .1;
+    devices-hold = record {
+      at = λ i l. record {
+        cells = λ t k. gathered-none (cellBreaches q p t) (devices q) (interval t (omega arith) .0) i (omega arith);
+        windows = gathered-none (windowBreaches q p) (devices q) (parts .1) i (omega arith);
+      };
+    };
+  }
+    where
+      parts : (dayBreaches q p ≡ []) × (dayWindows q p ≡ [])
+      parts = both-none (dayBreaches q p) (dayWindows q p) (sym (day-is q p) ∙ h)
+
+      interval : (t : ℕ) → t < intervals q → (intervalCells q p t ≡ []) × (linkBreaches q p t ≡ [])
+      interval t l = both-none (intervalCells q p t) (linkBreaches q p t) (sym (interval-is q p t) ∙ gathered-none (intervalBreaches q p) (intervals q) (parts .0) t l)
 
   pub first-none : breaches q p ≡ [] → Held ≡ first (breaches q p)
   unfolding first

@@ -19,6 +19,12 @@ unfolding first
 none-first [] e h = refl
 none-first (b ∷ bs) e h = absurd (let z : _≡_ {A = ℕ} 0 1 = cc in omega (arith, z))
 
+-- a first breach, some breach
+pub broken-first : {P : Type 0} (l : List Breach) {c : Check} {x : Breach} → c ≡ first l → c ≡ Broken x → l ≡ [] → P
+unfolding first
+broken-first [] e b n = absurd (let z : _≡_ {A = ℕ} 0 1 = cc in omega (arith, z))
+broken-first (y ∷ l) e b n = absurd (let z : _≡_ {A = ℕ} 0 1 = cc in omega (arith, z))
+
 unfoldable pub orElse : Check → Check → Check
 orElse Held b = b
 orElse (Broken x) b = Broken x

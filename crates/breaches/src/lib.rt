@@ -1,6 +1,7 @@
 // The numbered rules of a day: whether a plan breaks none, and the first that it breaks.
 ghost use mathlib.Core.Path.{_≡_};
 ghost use mathlib.Core.Bool.{true};
+ghost use mathlib.Core.Logic.{_↔_};
 ghost use mathlib.Core.List.{[]};
 ghost use Prim.Native.Nat.{_*_, _≤_, _<_};
 ghost use lib.ListN.{length};
@@ -311,7 +312,7 @@ fn window_rules(
     Check::Held
 }
 
-// Whether device i, whose parts begin at a, breaks no rule: true where it breaks none, and false says nothing.
+// Whether device i, whose parts begin at a, breaks no rule.
 fn device_held(
     front: Front,
     halves: &[u32],
@@ -326,8 +327,8 @@ fn device_held(
     a: usize,
 ) -> bool
     requires { ⌜ Ready front (now halves) (now zones) (now minima) (now devices) (now cells) (now settings) (now starts) (now powers) × (i < length (now devices)) × (a ≡ i * length (now halves)) ⌝ }
-    ensures { λ r. ⌜ (r ≡ true → DeviceHolds (systemIn (now (halves .entry)) (now (zones .entry)) (now (minima .entry)) (now (devices .entry))
-        (now (cells .entry))) (planIn (length (now (devices .entry))) (length (now (halves .entry))) (now (settings .entry))) (length (now (halves .entry))) i) ⌝ }
+    ensures { λ r. ⌜ (r ≡ true) ↔ DeviceHolds (systemIn (now (halves .entry)) (now (zones .entry)) (now (minima .entry)) (now (devices .entry))
+        (now (cells .entry))) (planIn (length (now (devices .entry))) (length (now (halves .entry))) (now (settings .entry))) (length (now (halves .entry))) i ⌝ }
 {
     let d = device_at(devices, i);
     let b = bounds_of(d);
@@ -349,7 +350,7 @@ fn device_held(
     true
 }
 
-// Whether no device breaks a rule: true where none does, and false says nothing.
+// Whether no device breaks a rule.
 fn devices_held(
     front: Front,
     halves: &[u32],
@@ -362,8 +363,8 @@ fn devices_held(
     powers: &[u32],
 ) -> bool
     requires { ⌜ Ready front (now halves) (now zones) (now minima) (now devices) (now cells) (now settings) (now starts) (now powers) ⌝ }
-    ensures { λ r. ⌜ (r ≡ true → HoldTo (systemIn (now (halves .entry)) (now (zones .entry)) (now (minima .entry)) (now (devices .entry))
-        (now (cells .entry))) (planIn (length (now (devices .entry))) (length (now (halves .entry))) (now (settings .entry))) (length (now (halves .entry))) (length (now (devices .entry)))) ⌝ }
+    ensures { λ r. ⌜ (r ≡ true) ↔ HoldTo (systemIn (now (halves .entry)) (now (zones .entry)) (now (minima .entry)) (now (devices .entry))
+        (now (cells .entry))) (planIn (length (now (devices .entry))) (length (now (halves .entry))) (now (settings .entry))) (length (now (halves .entry))) (length (now (devices .entry))) ⌝ }
 {
     let mut i = 0;
     let mut a = 0;
@@ -389,7 +390,7 @@ fn devices_held(
     true
 }
 
-// Whether a plan breaks no rule, by the link and device by device: true where it breaks none, and false says nothing.
+// Whether a plan breaks no rule, by the link and device by device.
 pub fn no_breach(
     front: Front,
     halves: &[u32],
@@ -402,7 +403,7 @@ pub fn no_breach(
     powers: &[u32],
 ) -> bool
     requires { ⌜ Ready front (now halves) (now zones) (now minima) (now devices) (now cells) (now settings) (now starts) (now powers) ⌝ }
-    ensures { λ r. ⌜ (r ≡ true → breaches (systemIn (now (halves .entry)) (now (zones .entry)) (now (minima .entry)) (now (devices .entry))
+    ensures { λ r. ⌜ (r ≡ true) ↔ (breaches (systemIn (now (halves .entry)) (now (zones .entry)) (now (minima .entry)) (now (devices .entry))
         (now (cells .entry))) (planIn (length (now (devices .entry))) (length (now (halves .entry))) (now (settings .entry))) ≡ []) ⌝ }
 {
     if !link_held(halves, devices, settings) {

@@ -45,6 +45,30 @@ test-holds n ns e h = rw e h
 pub all-hold : (xs ys : List (ℕ × Bool)) → failing xs ≡ [] → failing ys ≡ [] → failing (xs ++ ys) ≡ []
 all-hold xs ys e h = failing-append xs ys ∙ rw (e, h) refl
 
+-- and where none fails each holds
+one-fails : {P : Type 0} (n : ℕ) (ns : List ℕ) → n ∷ ns ≡ [] → P
+one-fails n ns e = absurd (let z : _≡_ {A = ℕ} 0 1 = cc in omega (arith, z))
+
+abbrev pub EachHeld : List (ℕ × Bool) → Type 0
+EachHeld [] = Unit {0}
+EachHeld (x ∷ ns) = (x .1 ≡ true) × EachHeld ns
+
+pub each-held : (ns : List (ℕ × Bool)) → failing ns ≡ [] → EachHeld ns
+unfolding failing
+each-held [] e = tt
+each-held (x ∷ ns) e = go (x .1) (each-held ns) e
+  where
+    go : (b : Bool) → (failing ns ≡ [] → EachHeld ns) → unless b (x .0) (failing ns) ≡ [] → (b ≡ true) × EachHeld ns
+    go true f h = (refl, f h)
+    go false f h = one-fails (x .0) (failing ns) h
+
+pub parts-held : (xs ys : List (ℕ × Bool)) → failing (xs ++ ys) ≡ [] → (failing xs ≡ []) × (failing ys ≡ [])
+parts-held xs ys e = go (failing xs) (sym (failing-append xs ys) ∙ e)
+  where
+    go : (l : List ℕ) → l ++ failing ys ≡ [] → (l ≡ []) × (failing ys ≡ [])
+    go [] h = (refl, h)
+    go (n ∷ l) h = one-fails n (l ++ failing ys) h
+
 -- ---- the numbers of a word's bits, from number k on, the word's lowest bit first; at most f of them
 unfoldable pub bitsFrom : ℕ → ℕ → ℕ → List ℕ
 bitsFrom k zero w = []
@@ -205,3 +229,12 @@ word-none (x ∷ ns) e = go (x .1) (word-none ns) e
     go : (b : Bool) → (failingWord ns ≡ 0 → failing ns ≡ []) → bitUnless b (x .0) + failingWord ns ≡ 0 → unless b (x .0) (failing ns) ≡ []
     go true f z = f (omega arith)
     go false f z = absurd (omega (arith, pow-pos (x .0)))
+
+pub none-word : (ns : List (ℕ × Bool)) → failing ns ≡ [] → failingWord ns ≡ 0
+unfolding failingWord failing
+none-word [] e = refl
+none-word (x ∷ ns) e = go (x .1) (none-word ns) e
+  where
+    go : (b : Bool) → (failing ns ≡ [] → failingWord ns ≡ 0) → unless b (x .0) (failing ns) ≡ [] → bitUnless b (x .0) + failingWord ns ≡ 0
+    go true f h = omega (arith, f h)
+    go false f h = one-fails (x .0) (failing ns) h

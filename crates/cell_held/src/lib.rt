@@ -1,6 +1,7 @@
-// Whether no rule of one device in one interval fails, in one go and by whether it is on: true where each rule holds, and false says nothing.
+// Whether no rule of one device in one interval fails, in one go and by whether it is on.
 ghost use mathlib.Core.Path.{_≡_};
 ghost use mathlib.Core.Bool.{true};
+ghost use mathlib.Core.Logic.{_↔_};
 ghost use mathlib.Core.List.{[]};
 ghost use Prim.Native.Nat.{_+_, _≤_};
 ghost use Rattle.model.specs.Breaches.{failing};
@@ -22,7 +23,7 @@ use row_places::Setting;
 // Rules 1 to 4.
 fn state_held(d: Bounds, c: Cell, s: Setting, w: Moment) -> bool
     requires { ⌜ Sized c s w × Small d ⌝ }
-    ensures { λ r. ⌜ (r ≡ true → failing (stateTests d c s w) ≡ []) ⌝ }
+    ensures { λ r. ⌜ (r ≡ true) ↔ (failing (stateTests d c s w) ≡ []) ⌝ }
 {
     if !status_kept(c.status, s.on) {
         return false;
@@ -39,7 +40,7 @@ fn state_held(d: Bounds, c: Cell, s: Setting, w: Moment) -> bool
 // Rules 5 and 6.
 fn ramps_held(d: Bounds, c: Cell, s: Setting, w: Moment) -> bool
     requires { ⌜ Sized c s w × Small d ⌝ }
-    ensures { λ r. ⌜ (r ≡ true → failing (rampTests d c s w) ≡ []) ⌝ }
+    ensures { λ r. ⌜ (r ≡ true) ↔ (failing (rampTests d c s w) ≡ []) ⌝ }
 {
     if !rise_kept(
         w.power,
@@ -58,7 +59,7 @@ fn ramps_held(d: Bounds, c: Cell, s: Setting, w: Moment) -> bool
 // Rules 7 to 15 of a device that is on.
 fn on_limits_held(d: Bounds, c: Cell, s: Setting, w: Moment) -> bool
     requires { ⌜ Sized c s w × (s .on ≡ 1) ⌝ }
-    ensures { λ r. ⌜ (r ≡ true → OnLimits d c s w) ⌝ }
+    ensures { λ r. ⌜ (r ≡ true) ↔ OnLimits d c s w ⌝ }
 {
     let e = s.reserves;
     let two = e.rgu.0 + e.scr.0;
@@ -85,7 +86,7 @@ fn on_limits_held(d: Bounds, c: Cell, s: Setting, w: Moment) -> bool
 // The same of a device that is off.
 fn off_limits_held(d: Bounds, c: Cell, s: Setting, w: Moment) -> bool
     requires { ⌜ Sized c s w × (s .on ≡ 0) ⌝ }
-    ensures { λ r. ⌜ (r ≡ true → OffLimits d c s w) ⌝ }
+    ensures { λ r. ⌜ (r ≡ true) ↔ OffLimits d c s w ⌝ }
 {
     let e = s.reserves;
     let ups = e.rgu.0 + e.scr.0 + e.rruon.0;
@@ -107,7 +108,7 @@ fn off_limits_held(d: Bounds, c: Cell, s: Setting, w: Moment) -> bool
 // Rules 16 to 19 of a device that is on and holds no reserves of the other state.
 fn on_powers_held(d: Bounds, c: Cell, s: Setting, w: Moment) -> bool
     requires { ⌜ Sized c s w × (s .on ≡ 1) × (offUps s + s .reserves .rrdoff .0 ≤ 0) ⌝ }
-    ensures { λ r. ⌜ (r ≡ true → failing (powerTests d c s w) ≡ []) ⌝ }
+    ensures { λ r. ⌜ (r ≡ true) ↔ (failing (powerTests d c s w) ≡ []) ⌝ }
 {
     let e = s.reserves;
     let ups = Kw(e.rgu.0 + e.scr.0 + e.rruon.0);
@@ -136,7 +137,7 @@ fn on_powers_held(d: Bounds, c: Cell, s: Setting, w: Moment) -> bool
 // The same of a device that is off, where floors don't bind.
 fn off_powers_held(d: Bounds, c: Cell, s: Setting, w: Moment) -> bool
     requires { ⌜ Sized c s w × (s .on ≡ 0) × (ups s + downs s ≤ 0) ⌝ }
-    ensures { λ r. ⌜ (r ≡ true → failing (powerTests d c s w) ≡ []) ⌝ }
+    ensures { λ r. ⌜ (r ≡ true) ↔ (failing (powerTests d c s w) ≡ []) ⌝ }
 {
     let e = s.reserves;
     let standing = Kw(e.nsc.0 + e.rruoff.0);
@@ -155,7 +156,7 @@ fn off_powers_held(d: Bounds, c: Cell, s: Setting, w: Moment) -> bool
 // Rules 7 to 19, by whether the device is on.
 fn amounts_held(d: Bounds, c: Cell, s: Setting, w: Moment) -> bool
     requires { ⌜ Sized c s w ⌝ }
-    ensures { λ r. ⌜ (r ≡ true → (failing (onTests d c s w) ≡ []) × (failing (offTests d c s w) ≡ []) × (failing (powerTests d c s w) ≡ [])) ⌝ }
+    ensures { λ r. ⌜ (r ≡ true) ↔ ((failing (onTests d c s w) ≡ []) × (failing (offTests d c s w) ≡ []) × (failing (powerTests d c s w) ≡ [])) ⌝ }
 {
     if s.on == 1 {
         if !on_limits_held(d, c, s, w) {
@@ -172,7 +173,7 @@ fn amounts_held(d: Bounds, c: Cell, s: Setting, w: Moment) -> bool
 // Rules 1 to 19.
 pub fn held(d: Bounds, c: Cell, s: Setting, w: Moment) -> bool
     requires { ⌜ Sized c s w × Small d ⌝ }
-    ensures { λ r. ⌜ (r ≡ true → failing (tests d c s w) ≡ []) ⌝ }
+    ensures { λ r. ⌜ (r ≡ true) ↔ (failing (tests d c s w) ≡ []) ⌝ }
 {
     if !state_held(d, c, s, w) {
         return false;

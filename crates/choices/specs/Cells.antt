@@ -16,10 +16,11 @@ use Rattle.row_places.specs.declared.Device.{Device}
 use Rattle.row_places.specs.Figures.{cellOf, deviceOf, onAt, startedAt, stoppedAt}
 use Rattle.numbers.specs.Parts.{part, part-long}
 use Rattle.numbers.specs.Ranges.{sum-last}
-use Rattle.records.specs.Views.{less, priceOffset, numberOf, settingIn, deviceIn, devicePricesIn, systemIn, caseIn, planIn, Ready}
+use Rattle.records.specs.Views.{less, priceOffset, numberOf, settingIn, deviceIn, devicePricesIn, systemIn, caseIn, planIn, Ready, Padded}
 use Rattle.records.specs.Viewed as Viewed
 use Rattle.records.specs.Ranged as Ranged
 use Rattle.records.specs.Ranged.{DeviceSized}
+use Rattle.block_fill.specs.Filled.{Offered}
 
 -- device i in interval t
 pub record CellOf (d : Device) (cell : Cell) (settings : List (List ℕ)) (starts : List ℕ) (p t : ℕ) : Type 0 where
@@ -118,6 +119,13 @@ module _ {d : Device} {cell : Cell} {settings : List (List ℕ)} {starts : List 
 
   pub floor-below : (k : ℕ) → k < 4 → numberOf (cell .floors) k ≤ numberOf (cell .caps) k
   floor-below k h = rw (w .cell-is) (Ranged.floor-below (w .ready .case-rows) (w .i) (w .known) t (w .interval) k h)
+
+  -- its offer
+  pub offered : Offered (cell .blocks) (cell .caps)
+  offered = rw (w .cell-is) (record { few = padded .few; absent = padded .absent })
+    where
+      padded : Padded (getD own t [])
+      padded = Ranged.padded-at (w .ready .case-rows) (w .i) (w .known) t (w .interval)
 
   pub on-small : onAt settings t ≤ 1
   on-small = rw (w .settings-are) (Ranged.setting-range (w .ready .plan-rows) (w .i) t (w .known) (w .interval) .on)

@@ -23,6 +23,7 @@ ghost use Rattle.choices.specs.Cells.{CellOf};
 ghost use Rattle.choices.specs.States.{chosen, stateOf};
 ghost use Rattle.choices.specs.Rests.{initial, offSince, Looks};
 ghost use Rattle.records.specs.Views.{mostStates};
+ghost use Rattle.block_fill.specs.Filled.{Offered};
 ghost use Rattle.block_fill.specs.Above.{sumOf, FloorsFit};
 ghost use Rattle.choices.specs.Blocks.{FilledWhile};
 ghost use Rattle.choices.specs.Choices.{ChoiceOf};
@@ -132,14 +133,22 @@ fn state_at(
 }
 
 // The block powers of p: above the floors while on; while off floors don't bind.
-fn blocks_of(on: u32, p: Kw, side: u32, floors: [Kw; 4], caps: [Kw; 4], prices: [u32; 4]) -> [Kw; 4]
-    requires { ⌜ (on ≤ 1) × (on ≡ 1 → FloorsFit (p .0) floors caps) ⌝ }
+fn blocks_of(
+    on: u32,
+    p: Kw,
+    side: u32,
+    blocks: usize,
+    floors: [Kw; 4],
+    caps: [Kw; 4],
+    prices: [u32; 4],
+) -> [Kw; 4]
+    requires { ⌜ (on ≤ 1) × (on ≡ 1 → FloorsFit (p .0) floors caps) × Offered blocks caps ⌝ }
     ensures { λ r. ⌜ FilledWhile on side (p .0) floors caps prices r ⌝ }
 {
     if on == 1 {
-        fill_above(p, side, floors, caps, prices)
+        fill_above(p, side, blocks, floors, caps, prices)
     } else {
-        fill(p, side, caps, prices)
+        fill(p, side, blocks, caps, prices)
     }
 }
 
@@ -172,7 +181,8 @@ pub fn choose(
     let floors = cell.floors;
     let caps = cell.caps;
     let prices = cell.prices;
-    let blocks = blocks_of(on, p, side_at(devices, i), floors, caps, prices);
+    let offered = cell.blocks as usize;
+    let blocks = blocks_of(on, p, side_at(devices, i), offered, floors, caps, prices);
     Choice {
         started,
         stopped,

@@ -1,6 +1,7 @@
 // Rules 1 to 19 of a device in one interval, out of its parts of the tables, which t alone indexes.
 ghost use mathlib.Core.Path.{_≡_};
 ghost use mathlib.Core.Bool.{true};
+ghost use mathlib.Core.Logic.{_↔_};
 ghost use mathlib.Core.List.{[]};
 ghost use Prim.Native.Nat.{_<_};
 ghost use lib.ListN.{length};
@@ -36,7 +37,7 @@ pub fn failing_at(
     cell_rules::failing_rules(d, c, s, w)
 }
 
-// Whether none fails, in one go: true where each holds, and false says nothing.
+// Whether none fails, in one go.
 fn held_at(
     d: Bounds,
     power0: Kw,
@@ -48,7 +49,7 @@ fn held_at(
     t: usize,
 ) -> bool
     requires { ⌜ Fits d (power0 .0) (now halves) (now cells) (now settings) (now starts) (now powers) t ⌝ }
-    ensures { λ r. ⌜ (r ≡ true → failing (testsAt d (power0 .0) (now (halves .entry)) (now (cells .entry)) (now (settings .entry)) (now (starts .entry)) (now (powers .entry)) t) ≡ []) ⌝ }
+    ensures { λ r. ⌜ (r ≡ true) ↔ (failing (testsAt d (power0 .0) (now (halves .entry)) (now (cells .entry)) (now (settings .entry)) (now (starts .entry)) (now (powers .entry)) t) ≡ []) ⌝ }
 {
     let w = moment_at(d, power0, halves, cells, settings, starts, powers, t);
     let c = cell_at(cells, t);
@@ -56,7 +57,7 @@ fn held_at(
     cell_held::held(d, c, s, w)
 }
 
-// Whether no rule of a device's intervals fails: true where each holds, and false says nothing.
+// Whether no rule of a device's intervals fails.
 pub fn held_all(
     d: Bounds,
     power0: Kw,
@@ -67,7 +68,7 @@ pub fn held_all(
     powers: &[u32],
 ) -> bool
     requires { ⌜ AllFit d (power0 .0) (now halves) (now cells) (now settings) (now starts) (now powers) ⌝ }
-    ensures { λ r. ⌜ (r ≡ true → HeldTo d (power0 .0) (now (halves .entry)) (now (cells .entry)) (now (settings .entry)) (now (starts .entry)) (now (powers .entry)) (length (now (halves .entry)))) ⌝ }
+    ensures { λ r. ⌜ (r ≡ true) ↔ HeldTo d (power0 .0) (now (halves .entry)) (now (cells .entry)) (now (settings .entry)) (now (starts .entry)) (now (powers .entry)) (length (now (halves .entry))) ⌝ }
 {
     let mut t = 0;
     while t < halves.len() {

@@ -1,7 +1,7 @@
 -- A device's parts as the code cuts them, from a on: they lie within the tables, and their tests and windows are the model's.
 use mathlib.Core.Path.{_≡_, refl, sym, ap, _∙_}
 use mathlib.Core.Bool.{Bool, true, false, not}
-use mathlib.Core.List.{List, [], _∷_, map}
+use mathlib.Core.List.{List, [], _∷_, _++_, map}
 use Prim.Native.Nat.{ℕ, suc, _+_, _-_, _*_, _^_, _≤_, _<_}
 use native.Mathlib.Omega.{arith}
 use native.Mathlib.Nat.{mul-le-mul}
@@ -13,7 +13,7 @@ use Rattle.numbers.specs.Every.{all-upTo}
 use Rattle.numbers.specs.Gather.{gather-cong}
 use Rattle.model.specs.Case.{System, Plan}
 use Rattle.model.specs.Forced as F
-use Rattle.model.specs.Rules.{windowBreach}
+use Rattle.model.specs.Rules.{cellBreach, windowBreach}
 use Rattle.model.specs.Breaches.{failing, realTests, reactiveTests, cellTests, cellBreaches, oneWindow, windowBreaches}
 use Rattle.model.specs.declared.Breach.{Breach}
 use Rattle.row_places.specs.Figures.{deviceOf}
@@ -24,7 +24,7 @@ use Rattle.row_places.specs.Figures.{noStart}
 use Rattle.row_places.specs.declared.Device.{Device}
 use Rattle.row_places.specs.declared.Front.{Front}
 use Rattle.cell_bounds.specs.declared.Bounds.{Bounds}
-use Rattle.cell_bounds.specs.Word.{failingWord, numbersIn, rising, word-below, both-bits, all-hold}
+use Rattle.cell_bounds.specs.Word.{failingWord, numbersIn, rising, word-below, both-bits, all-hold, parts-held}
 use Rattle.cell_bounds.specs.Tests.{boundsOf}
 use Rattle.moments.specs.Moments.{testsAt, tests-rise-here, Fits}
 use Rattle.device_rules.specs.Tie.{tests-here, fits-here}
@@ -33,6 +33,11 @@ use Rattle.reactive_rules.specs.declared.ReactiveBounds.{ReactiveBounds}
 use Rattle.reactive_rules.specs.Rules.{reactiveBoundsOf, reactiveTestsAt, reactive-rise, ReactiveFits, AllReactiveFit, ReactiveHeldTo}
 use Rattle.reactive_rules.specs.Tie.{reactive-tests-here, reactive-fits-here, own-cells}
 use Rattle.start_windows.specs.Windows.{startsAt, starts-are}
+
+-- what is made of nothing
+unmapped : {A B : Type 0} (f : A → B) (l : List A) → map f l ≡ [] → l ≡ []
+unmapped f [] e = refl
+unmapped f (a ∷ l) e = absurd (let z : _≡_ {A = ℕ} 0 1 = cc in omega (arith, z))
 
 -- ---- rule 20 of a device's windows
 
@@ -92,6 +97,14 @@ module _ {front : Front} {halves : List ℕ} {zones minima devices cells setting
     tests-cut : (t : ℕ) → t < length halves → testsAt b (d .power0 .0) halves ownCells ownSettings starts ownPowers t ≡ realTests q p t i
     tests-cut t h = rw (at, is, part-cut m i a cells e, part-cut m i a settings e, part-cut m i a powers e) (tests-here ready i l t h)
 
+    -- a cell without a breach fails no test
+    cell-holds : (t : ℕ) → cellBreaches q p t i ≡ [] → (failing (realTests q p t i) ≡ []) × (failing (reactiveTests q p t i) ≡ [])
+    unfolding cellBreaches cellTests
+    cell-holds t h = parts-held (realTests q p t i) (reactiveTests q p t i) (unmapped (cellBreach t i) (failing (realTests q p t i ++ reactiveTests q p t i)) h)
+
+    pub here-held : ((t : ℕ) → t < length halves → cellBreaches q p t i ≡ []) → HeldTo b (d .power0 .0) halves ownCells ownSettings starts ownPowers (length halves)
+    here-held k = record { at = λ t h. rw (tests-cut t h) (cell-holds t (k t h) .0) }
+
     module _ {r : ReactiveBounds} (known : r ≡ reactiveBoundsOf d) where
       pub reactive-fits-cut : (t : ℕ) → t < length halves → ReactiveFits r ownCells ownSettings starts ownPowers t
       reactive-fits-cut t h = rw (known, is, part-cut m i a cells e, part-cut m i a settings e, part-cut m i a powers e) (reactive-fits-here ready i l t h)
@@ -127,6 +140,9 @@ module _ {front : Front} {halves : List ℕ} {zones minima devices cells setting
         pub word-numbers : numbersIn (real + reactive) ≡ failing (cellTests q p t i)
         unfolding cellTests
         word-numbers = rw (x, y, ← tests-cut t h, ← reactive-cut t h) (both-bits 20 27 reals reactives (omega arith) (omega arith) reals-rise reactives-rise)
+
+      pub here-reactive : ((t : ℕ) → t < length halves → cellBreaches q p t i ≡ []) → ReactiveHeldTo r ownCells ownSettings starts ownPowers (length ownCells)
+      here-reactive k = record { at = λ t h. let j : t < length halves = omega (arith, cells-long) in rw (reactive-cut t j) (cell-holds t (k t j) .1) }
 
       -- no test fails
       pub none-here : HeldTo b (d .power0 .0) halves ownCells ownSettings starts ownPowers (length halves) → ReactiveHeldTo r ownCells ownSettings starts ownPowers (length ownCells)

@@ -1,6 +1,6 @@
 -- Rule 27 from the rows, and that it is the model's.
 use mathlib.Core.Path.{_≡_, refl, ap₂}
-use mathlib.Core.Bool.{Bool, true, _&&_}
+use mathlib.Core.Bool.{Bool, true, false, _&&_}
 use mathlib.Core.List.{List, [], _∷_, map}
 use Prim.Native.Nat.{ℕ, _+_, _*_, _≤_, _<_}
 use native.Mathlib.Omega.{arith}
@@ -15,7 +15,7 @@ use Rattle.numbers.specs.Z.{whole, n-, n~}
 use Rattle.model.specs.declared.Breach.{Breach}
 use Rattle.model.specs.Case.{System, Plan}
 use Rattle.model.specs.Rules.{linkBreach}
-use Rattle.model.specs.Breaches.{failing, linkTest, linkBreaches}
+use Rattle.model.specs.Breaches.{failing, unless, linkTest, linkBreaches}
 use Rattle.kilovars.specs.Reactive.{kvarOffset}
 use Rattle.row_places.specs.Figures.{flowAt, limitAt}
 use Rattle.row_places.specs.declared.Front.{Front}
@@ -104,6 +104,14 @@ module _ {front : Front} {halves : List ℕ} {zones minima devices cells setting
     pub link-is : linkHere devices settings t ≡ linkBreaches q p t
     unfolding linkHere linkBreaches
     link-is = rw test-is refl
+
+    pub link-back : linkBreaches q p t ≡ [] → linkKept devices settings t ≡ true
+    unfolding linkBreaches failing
+    link-back e = go (linkTest q p t) test-is e
+      where
+        go : (b : Bool) → linkKept devices settings t ≡ b → map (linkBreach t) (unless b 27 []) ≡ [] → linkKept devices settings t ≡ true
+        go true s h = s
+        go false s h = absurd (let z : _≡_ {A = ℕ} 0 1 = cc in omega (arith, z))
 
     pub link-none : linkKept devices settings t ≡ true → linkBreaches q p t ≡ []
     unfolding linkBreaches failing

@@ -1,6 +1,7 @@
 // Rule 27: −limit ≤ flow ≤ limit, of the link between the bars. Signed figures are kept from 0, so that both sides of a comparison are naturals.
 ghost use mathlib.Core.Path.{_≡_};
 ghost use mathlib.Core.Bool.{true};
+ghost use mathlib.Core.Logic.{_↔_};
 ghost use Prim.Native.Nat.{_*_, _≤_};
 ghost use lib.ListN.{length};
 ghost use Rattle.kilovars.specs.Reactive.{kvarOffset};
@@ -30,10 +31,10 @@ pub fn link_kept(devices: &[DeviceRow], settings: &[SettingRow], t: usize) -> bo
     flow_within(flow, limit)
 }
 
-// Whether it holds in every interval: true where it does, and false says nothing.
+// Whether it holds in every interval.
 pub fn link_held(halves: &[u32], devices: &[DeviceRow], settings: &[SettingRow]) -> bool
     requires { ⌜ LinkRows (length (now halves)) (now devices) (now settings) ⌝ }
-    ensures { λ r. ⌜ (r ≡ true → KeptTo (now (devices .entry)) (now (settings .entry)) (length (now (halves .entry)))) ⌝ }
+    ensures { λ r. ⌜ (r ≡ true) ↔ KeptTo (now (devices .entry)) (now (settings .entry)) (length (now (halves .entry))) ⌝ }
 {
     let mut t = 0;
     while t < halves.len() {

@@ -4,7 +4,7 @@ use mathlib.Core.Bool.{Bool, true, false}
 use mathlib.Core.List.{List, [], _∷_, _++_, List·Memᴰ}
 use Prim.Native.Nat.{ℕ, _*_, _≤_, _<_}
 use native.Mathlib.Omega.{arith}
-use borrow.Author.Tests.{le-leb, lt-leb}
+use borrow.Author.Tests.{le-leb, lt-leb, leb-false}
 use lib.Dec.{leb}
 use lib.ListN.{length, drop}
 use lib.IntN.{ℤ}
@@ -33,13 +33,21 @@ use Rattle.model.specs.Named.{Failed, listed-fails, fails-listed, listed-in-ord
 use Rattle.model.specs.Judgement.{readPlan, verdict, unlessBroken, accepts, ourSurplus, completionBytes}
 use Rattle.model.specs.Lists.{breachBytes, listBytes, listing, Listings, listed, listPlan, listCase, listings}
 use Rattle.theorems.specs.Promise.{Sound, planOf, promised, plan-promised, stated-sound}
-use Rattle.theorems.specs.Theorem.{apart}
+use Rattle.theorems.specs.Theorem.{Short, apart}
 use Rattle.listings.specs.Sizes.{mostBreaches, breaches-few, bytes-small}
 
 -- judging answers with a surplus, or with 7 for its own buffer
 pub data Unbroken : Verdict → Type 0 where
   accepted : (z : ℤ) → Unbroken (W.Accepted z)
   short : (n : ℕ) → Unbroken (W.Refused S.Result (TooShort n))
+
+-- a list of so many bytes that the buffer cannot hold: 7 with the bytes needed, of the lent buffer, and no byte of it is touched
+pub record NotHeld (needed : ℕ) (before : List ℕ) (l : Listings) : Type 0 where
+  pub subject : Subject
+  pub fault : Fault
+  pub answer : l .answer ≡ Refused subject fault
+  pub short : Short needed (length before) subject fault
+  pub untouched : l .list ≡ before
 
 -- what is listed of a plan that passed reading; `before` is the list's buffer as it came
 pub record Lists (x : Stated) (p : Plan) (before : List ℕ) (l : Listings) : Type 0 where
@@ -51,9 +59,9 @@ pub record Lists (x : Stated) (p : Plan) (before : List ℕ) (l : Listings) : Ty
   -- "the rest of the buffer unchanged, and return how many"
   pub fits : length (listBytes (breaches (x .case .system) p)) ≤ length before → (l .answer ≡ Listed (length (breaches (x .case .system) p)))
       × (l .list ≡ listBytes (breaches (x .case .system) p) ++ drop (length (listBytes (breaches (x .case .system) p))) before)
-  -- "refuses with 7 when the buffer can't hold the list, and writes nothing"
-  pub too-long : length before < length (listBytes (breaches (x .case .system) p)) → (l .answer ≡ Refused S.Result (TooShort (length (listBytes (breaches (x .case .system) p)))))
-      × (l .list ≡ before)
+  -- "refuses with 7 when the buffer can't hold the list, and writes nothing": exactly then
+  pub too-long : length before < length (listBytes (breaches (x .case .system) p)) → NotHeld (length (listBytes (breaches (x .case .system) p))) before l
+  pub only-long : (s : Subject) (f : Fault) → l .answer ≡ Refused s f → Short (length (listBytes (breaches (x .case .system) p))) (length before) s f
   -- "The first entry is always the one the judgement names", whatever the result buffer's length
   pub first : (room : ℕ) (b : Breach) (bs : List Breach) → breaches (x .case .system) p ≡ b ∷ bs → verdict x p room ≡ W.Broken b
   -- "An accepted plan gives none": the list is empty exactly where judging accepts, or answers 7 for its own buffer
@@ -91,6 +99,14 @@ not-broken : {P : Type 0} (b : Breach) (v : Verdict) → Unbroken v → v ≡ W.
 not-broken b v (accepted z) e = apart (cc)
 not-broken b v (short n) e = apart (cc)
 
+-- a refusal of the list's buffer is 7, and only where the list does not fit
+only-short : (n needed room : ℕ) (s : Subject) (f : Fault) → pick (leb needed room) (Listed n) (Refused S.Result (TooShort needed)) ≡ Refused s f → Short needed room s f
+only-short n needed room s f e = go (leb needed room) refl e
+  where
+    go : (b : Bool) → leb needed room ≡ b → pick b (Listed n) (Refused S.Result (TooShort needed)) ≡ Refused s f → Short needed room s f
+    go true h k = apart (cc)
+    go false h k = let g : TooShort needed ≡ f = cc in record { message = cc; number = rw (sym g) refl; returned = rw (sym g) refl; truly = leb-false needed room h }
+
 module _ (x : Stated) (p : Plan) where
   abbrev q : System
   q = x .case .system
@@ -123,7 +139,14 @@ module _ (x : Stated) (p : Plan) where
     every = fails-listed q p;
     order = listed-in-order q p;
     fits = λ h. rw (le-leb (length (listBytes (breaches q p))) (length before) h) (refl, refl);
-    too-long = λ h. rw (lt-leb (length (listBytes (breaches q p))) (length before) h) (refl, refl);
+    too-long = λ h. record {
+      subject = S.Result;
+      fault = TooShort (length (listBytes (breaches q p)));
+      answer = rw (lt-leb (length (listBytes (breaches q p))) (length before) h) refl;
+      short = record { message = refl; number = refl; returned = refl; truly = h };
+      untouched = rw (lt-leb (length (listBytes (breaches q p))) (length before) h) refl;
+    };
+    only-long = only-short (length (breaches q p)) (length (listBytes (breaches q p))) (length before);
     first = first-named;
     none = unbroken;
     only-none = nothing-broken;

@@ -1,6 +1,7 @@
 // Rules 21 to 26 of a device in one interval, out of its parts of the tables, which t alone indexes.
 ghost use mathlib.Core.Path.{_≡_};
 ghost use mathlib.Core.Bool.{true};
+ghost use mathlib.Core.Logic.{_↔_};
 ghost use Prim.Native.Nat.{_<_};
 ghost use lib.ListN.{length};
 ghost use Rattle.row_places.specs.Figures.{reactiveAt, reactiveCellAt};
@@ -102,7 +103,7 @@ pub fn failing_reactive(
     failing_figures(d.side, n, power, link, c, x)
 }
 
-// Whether no reactive rule of a device's intervals fails: true only where each holds.
+// Whether no reactive rule of a device's intervals fails.
 pub fn reactive_held(
     d: ReactiveBounds,
     cells: &[CellRow],
@@ -111,7 +112,7 @@ pub fn reactive_held(
     powers: &[u32],
 ) -> bool
     requires { ⌜ AllReactiveFit d (now cells) (now settings) (now starts) (now powers) ⌝ }
-    ensures { λ r. ⌜ (r ≡ true → ReactiveHeldTo d (now (cells .entry)) (now (settings .entry)) (now (starts .entry)) (now (powers .entry)) (length (now (cells .entry)))) ⌝ }
+    ensures { λ r. ⌜ (r ≡ true) ↔ ReactiveHeldTo d (now (cells .entry)) (now (settings .entry)) (now (starts .entry)) (now (powers .entry)) (length (now (cells .entry))) ⌝ }
 {
     let kind = d.link.kind;
     let mut t = 0;

@@ -5,7 +5,7 @@ use mathlib.Core.List.{List, [], _∷_}
 use Prim.Native.Nat.{ℕ, zero, suc, _+_, _-_, _*_, _/_, _%_, _^_, _<_}
 use native.Mathlib.Omega.{arith}
 use lib.Dec.{eqb, ltb}
-use lib.ListN.{getD, set}
+use lib.ListN.{getD, set, replicate}
 use Rattle.bits.specs.Pick.{pick}
 use Rattle.numbers.specs.Base.{bit}
 use Rattle.model.specs.Editions.{mostStates, mostWindows}
@@ -32,6 +32,10 @@ use Rattle.row_places.specs.declared.Minima.{Minima}
 
 abbrev pub at : List ℕ → ℕ → ℕ
 at r k = getD r k 0
+
+-- a row of so many figures, each 0
+abbrev pub blank : ℕ → List ℕ
+blank width = replicate width 0
 
 -- the eight from place k on: amounts, prices
 abbrev pub eightOf : List ℕ → ℕ → Reserves

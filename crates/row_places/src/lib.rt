@@ -8,6 +8,8 @@ use kilovars::KvarPrice;
 use kilovars::SignedKvar;
 use kilovars::VarPrice;
 use kilowatts::Kw;
+ghost use mathlib.Core.Path.{_≡_};
+ghost use Rattle.row_places.specs.Figures.{blank};
 
 // A device in one interval: status, pmin, pmax, count of blocks, four caps, four prices kept from −10,000, the prices of the eight; then qmin and qmax, kept
 // from −100,000, and the prices of the two reactive reserves; then four floors.
@@ -223,23 +225,33 @@ pub const MINIMA_QRU: usize = 2;
 pub const MINIMA_QRD: usize = 3;
 
 // Rows of zeros, for an owner's tables: what a reader fills.
-pub fn blank_cell() -> CellRow {
+pub fn blank_cell() -> CellRow
+    ensures { λ r. ⌜ r ≡ blank 28 ⌝ }
+{
     [0u32; 28]
 }
 
-pub fn blank_setting() -> SettingRow {
+pub fn blank_setting() -> SettingRow
+    ensures { λ r. ⌜ r ≡ blank 14 ⌝ }
+{
     [0u32; 14]
 }
 
-pub fn blank_device() -> DeviceRow {
+pub fn blank_device() -> DeviceRow
+    ensures { λ r. ⌜ r ≡ blank 66 ⌝ }
+{
     [0u32; 66]
 }
 
-pub fn blank_zone() -> ZoneRow {
+pub fn blank_zone() -> ZoneRow
+    ensures { λ r. ⌜ r ≡ blank 12 ⌝ }
+{
     [0u32; 12]
 }
 
-pub fn blank_minima() -> MinimaRow {
+pub fn blank_minima() -> MinimaRow
+    ensures { λ r. ⌜ r ≡ blank 4 ⌝ }
+{
     [0u32; 4]
 }
 

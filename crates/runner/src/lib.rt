@@ -43,10 +43,13 @@ pub fn result_buffer() -> [u8; 14336]
     [0u8; 14336]
 }
 
-// Whether a call that failed is tried again: it was interrupted, or what it asks for is not ready.
+// Whether a call that failed is tried again: at once where it was interrupted, after a pause where what it asks for is not ready.
 fn again(error: i32) -> bool {
-    libc::sched_yield();
-    error == EINTR || error == EAGAIN
+    if error == EAGAIN {
+        pauses::pause();
+        return true;
+    }
+    error == EINTR
 }
 
 // The system's number of an error, EIO where it gives none.
@@ -59,7 +62,7 @@ fn number(error: i32) -> u64
 // Bytes read, and the number of the error that ended reading, or 0.
 pub struct Got(pub usize, pub u64);
 
-// Reads until the buffer is full, the input ends or reading fails.
+// Reads until the buffer is full, the input ends or reading fails. Which bytes the system reads no contract can say.
 pub fn read_full(buf: &mut [u8]) -> Got
     ensures { λ r. ⌜ r .0 ≤ length (now (buf .exit)) ⌝ }
 {
@@ -99,7 +102,8 @@ fn read_frame(frame: &mut [u8], left: u64) -> Got
     Got(here + more.0, more.1)
 }
 
-// Writes a text to standard output. Where that fails a line on standard error says so: a program cannot set its exit status.
+// Writes a text to standard output, and tells whether the system took all of it. Where that fails a line on standard error says so: a program cannot set its exit
+// status. The contract leaves the answer free: whether the system takes a byte no definition can say.
 pub fn tell(text: &[u8]) -> bool {
     let mut done: usize = 0;
     let mut tries = TRIES;

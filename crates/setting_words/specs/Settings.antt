@@ -4,6 +4,8 @@ use mathlib.Core.List.{List}
 use Prim.Native.Nat.{ℕ, _+_, _*_, _/_, _%_, _^_, _≤_, _<_}
 use Rattle.bits.specs.Bits.{fieldAt, reach}
 use Rattle.model.specs.Case as M
+use Rattle.kilowatts.specs.Power.{kw}
+use Rattle.row_places.specs.declared.Reserves.{Reserves}
 use Rattle.row_places.specs.declared.Reactive.{Reactive}
 use Rattle.row_places.specs.declared.Setting.{Setting}
 use Rattle.row_places.specs.Figures.{settingRow}
@@ -14,6 +16,13 @@ use Rattle.setting_words.specs.declared.Three.{Three}
 -- "on 1, online power 17, eight reserves 17 each": what a record holds of the fields that every edition has
 abbrev pub activeIn : Active → ℕ × (ℕ × M.Reserves)
 activeIn x = (x .on, (x .online .0, eightIn (x .reserves)))
+
+-- what stands beside a refusal: each figure 0
+abbrev pub noReserves : Reserves
+noReserves = record { rgu = kw 0; rgd = kw 0; scr = kw 0; nsc = kw 0; rruon = kw 0; rruoff = kw 0; rrdon = kw 0; rrdoff = kw 0 }
+
+abbrev pub noActive : Active
+noActive = record { on = 0; online = kw 0; reserves = noReserves }
 
 -- the setting that a record holds; that of these figures and the reactive ones
 abbrev pub settingHeld : Setting → M.Setting

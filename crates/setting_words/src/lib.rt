@@ -3,7 +3,7 @@ ghost use mathlib.Core.Path.{_≡_};
 ghost use mathlib.Core.Bool.{true};
 ghost use Prim.Native.Nat.{_+_, _*_, _/_, _%_, _^_, _≤_, _<_};
 ghost use Rattle.bits.specs.Bits.{reach};
-ghost use Rattle.setting_words.specs.Settings.{activeIn, kwBits, activeBits, nineIn, Threefold, Unborrowed, Low, Found};
+ghost use Rattle.setting_words.specs.Settings.{noReserves, noActive, activeIn, kwBits, activeBits, nineIn, Threefold, Unborrowed, Low, Found};
 use bits::bits_at;
 use kilowatts::Kw;
 use row_places::Reserves;
@@ -44,7 +44,9 @@ pub struct Quick {
 }
 
 // What stands beside a refusal.
-fn no_reserves() -> Reserves {
+fn no_reserves() -> Reserves
+    ensures { λ r. ⌜ r ≡ noReserves ⌝ }
+{
     Reserves {
         rgu: Kw(0),
         rgd: Kw(0),
@@ -57,7 +59,9 @@ fn no_reserves() -> Reserves {
     }
 }
 
-pub fn no_active() -> Active {
+pub fn no_active() -> Active
+    ensures { λ r. ⌜ r ≡ noActive ⌝ }
+{
     let reserves = no_reserves();
     Active {
         on: 0,
@@ -141,7 +145,7 @@ fn has_active(s: &[u8], at: u64) -> bool
     at / 8 + ACTIVE_BYTES <= bits::reached(s)
 }
 
-// By whole words, where the message has them.
+// By whole words, where the message has them. The contract leaves free where it declines: a reader then goes field by field, with the same figures.
 pub fn quick_active(s: &[u8], at: u64) -> Quick
     ensures { λ r. ⌜ (r .ok ≡ true → Found (now (s .entry)) at (r .active)) ⌝ }
 {

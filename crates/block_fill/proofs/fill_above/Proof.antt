@@ -3,7 +3,7 @@ use native.Mathlib.Omega.{arith}
 use mathlib.Core.Path.{_≡_, sym, ap, _∙_}
 use Prim.Native.Nat.{ℕ, _-_}
 use borrow.Author.Needs.{needs}
-use Rattle.block_fill.specs.Above.{above-without, above-with, sums-fit}
+use Rattle.block_fill.specs.Above.{above-without, above-with, sums-fit, room-offered}
 use Rattle.block_fill.proofs.fill_above.Statement.{statement}
 use Rattle.block_fill.proofs.fill_above.Tie as tie
 
@@ -17,7 +17,7 @@ returns : tie.Need-returns
 returns c =
     let start : _ = c .before .before .before .before in
     let a : _ = start .args in
-    above-without (a .side) (a .p .0) (a .floors) (a .caps) (a .prices) (start .pre) (omega arith) (c .fill .ensures)
+    above-without (a .side) (a .p .0) (a .floors) (a .caps) (a .prices) (start .pre .0) (omega arith) (c .fill .ensures)
 
 room-above-requires : tie.Need-room-above-requires
 room-above-requires c κs = search needs
@@ -26,7 +26,7 @@ less-requires : tie.Need-less-requires
 less-requires c κs = search needs
 
 fill-requires-2 : tie.Need-fill-requires-2
-fill-requires-2 c κs = search needs
+fill-requires-2 c κs = let start : _ = c .before .before .before .before .before in room-offered (start .args .floors) (start .pre .1) (c .before .room-above .ensures)
 
 with-floors-requires : tie.Need-with-floors-requires
 with-floors-requires c κs =
@@ -35,7 +35,7 @@ with-floors-requires c κs =
     let at-sum : _ = at-room .before .before .before in
     let start : _ = at-sum .before in
     let a : _ = start .args in
-    sums-fit (a .side) (a .p .0) (a .floors) (a .caps) (a .prices) (start .pre) (at-room .room-above .ensures)
+    sums-fit (a .side) (a .p .0) (a .floors) (a .caps) (a .prices) (start .pre .0) (at-room .room-above .ensures)
     (at-less .less .ensures ∙ ap (λ (n : ℕ). a .p .0 - n) (at-sum .sum-of .ensures)) (c .fill2 .ensures) (search needs)
 
 returns-2 : tie.Need-returns-2
@@ -46,7 +46,7 @@ returns-2 c =
     let at-sum : _ = at-room .before .before .before in
     let start : _ = at-sum .before in
     let a : _ = start .args in
-    above-with (a .side) (a .p .0) (a .floors) (a .caps) (a .prices) (start .pre) (at-room .room-above .ensures)
+    above-with (a .side) (a .p .0) (a .floors) (a .caps) (a .prices) (start .pre .0) (at-room .room-above .ensures)
     (at-less .less .ensures ∙ ap (λ (n : ℕ). a .p .0 - n) (at-sum .sum-of .ensures)) (at-fill .fill2 .ensures) (c .with-floors .ensures)
 
 pub fill-above-spec : {M : Type 1} → statement M

@@ -11,10 +11,10 @@ use Rattle.block_pick.proofs.next.Statement.{statement}
 use Rattle.block_pick.proofs.next.Tie as tie
 
 abbrev Inv-loop : tie.InvT-loop
-Inv-loop side prices picked found₀ k₀ found k = (k ≤ 4) × (found ≡ nextUpTo (aheadIn (eqb side 1) prices) picked k)
+Inv-loop side prices blocks picked found₀ k₀ found k = (k ≤ blocks) × (found ≡ nextUpTo (aheadIn (eqb side 1) prices) picked k)
 
 abbrev μ-loop : tie.MeasureT-loop
-μ-loop side prices picked found₀ k₀ found k = 4 - k
+μ-loop side prices blocks picked found₀ k₀ found k = blocks - k
 
 loop-holds : tie.Need-loop-holds Inv-loop μ-loop
 unfolding nextUpTo
@@ -27,7 +27,7 @@ better-of-requires : tie.Need-better-of-requires Inv-loop μ-loop
 better-of-requires c κs =
     let at-loop : _ = c .before .before in
     let a : _ = at-loop .before .args in
-    (omega arith, found-below (eqb (a .side) 1) (a .prices) (a .t3) (at-loop .loop .k) (at-loop .loop .inv .1))
+    (omega arith, found-below (eqb (a .side) 1) (a .prices) (a .t4) (at-loop .loop .k) (at-loop .loop .inv .1))
 
 add-k : tie.Need-add-k Inv-loop μ-loop
 add-k c = omega arith
@@ -41,16 +41,16 @@ loop-again c =
     let a : _ = at-loop .before .args in
     let e : _ = at-loop .loop .inv .1 in
     ⊎-elim
-    (λ w. (omega arith, w .2 ∙ found-better (eqb (a .side) 1) (a .prices) (a .t3) (at-loop .loop .k) e (not-true _ (w .0 .taken)) (w .1 .ensures)))
-    (λ w. (omega arith, w .1 ∙ found-same (eqb (a .side) 1) (a .prices) (a .t3) (at-loop .loop .k) e (not-false _ (w .0 .left))))
+    (λ w. (omega arith, w .2 ∙ found-better (eqb (a .side) 1) (a .prices) (a .t4) (at-loop .loop .k) e (not-true _ (w .0 .taken)) (w .1 .ensures)))
+    (λ w. (omega arith, w .1 ∙ found-same (eqb (a .side) 1) (a .prices) (a .t4) (at-loop .loop .k) e (not-false _ (w .0 .left))))
     (c .if1 .came)
 
 returns : tie.Need-returns Inv-loop μ-loop
 returns c =
     let at-loop : _ = c .before in
     let a : _ = at-loop .before .args in
-    let e : at-loop .loop .k ≡ 4 = omega arith in
-    picks-of (eqb (a .side) 1) (a .prices) (a .t3) (rw e at (at-loop .loop .inv .1))
+    let e : at-loop .loop .k ≡ a .blocks = omega arith in
+    picks-of (eqb (a .side) 1) (a .prices) (a .blocks) (a .t4) (rw e at (at-loop .loop .inv .1))
 
 pub next-spec : {M : Type 1} → statement M
 next-spec = tie.close (tie.spec Inv-loop μ-loop loop-holds array-read-if1 better-of-requires add-k loop-less loop-again returns)

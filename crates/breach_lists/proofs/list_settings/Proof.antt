@@ -21,7 +21,7 @@ same-length-2 c = search needs
 returns : tie.Need-returns
 returns c = let early : _ = c .before .before .before .before .before .before .before .before .before .before in
     let a : _ = early .before .before .before .before .before .args in lists-none (a .front) (a .halves .now) (a .zones .now) (a .minima .now) (a .devices .now) (a .cells .now)
-    (a .settings .now) (a .list .now) (c .before .no-breach .ensures (c .if1 .taken))
+    (a .settings .now) (a .list .now) (c .before .no-breach .ensures .0 (c .if1 .taken))
 
 list-all-requires : tie.Need-list-all-requires
 list-all-requires c κs = let early : _ = c .before .before .before .before .before .before .before .before .before .before .before in ready-of _ _ _ _ _ _ _

@@ -1,10 +1,10 @@
 -- The parts are those of device i: its intervals, their reactive rules, then its windows.
 use native.Mathlib.Omega.{arith}
-use mathlib.Core.Path.{sym, ap, _∙_}
-use borrow.Author.Tests.{not-false}
+use mathlib.Core.Path.{refl, sym, ap, _∙_}
+use borrow.Author.Tests.{not-true, not-false}
 use Rattle.numbers.specs.Tests.{never}
-use Rattle.breaches.specs.First.{first, none-first}
-use Rattle.failing_rules.specs.Parts.{place, all-fit, all-reactive-fit, none-here, few-windows, own-long, windows-are}
+use Rattle.breaches.specs.First.{first, none-first, broken-first}
+use Rattle.failing_rules.specs.Parts.{place, all-fit, all-reactive-fit, none-here, here-held, here-reactive, few-windows, own-long, windows-are}
 use borrow.Author.Needs.{needs}
 use Rattle.breaches.proofs.device_held.Statement.{statement}
 use Rattle.breaches.proofs.device_held.Tie as tie
@@ -59,7 +59,13 @@ held-all-requires c κs = let s : _ = c .before .before .before .before .before 
     all-fit (s .pre .0) (s .args .i) (s .args .a) (s .pre .1) (s .pre .2) (c .before .before .before .before .device-at .ensures) (c .before .before .before .bounds-of .ensures)
 
 returns : tie.Need-returns
-returns c = λ e. never e
+returns c =
+    let there : _ = c .before .before .before .before .before .before in
+    let s : _ = there .before .before .before .before in (
+      λ e. never e,
+      λ k. sym (not-true _ (c .if1 .taken)) ∙ c .before .held-all .ensures .1 (
+          here-held (s .pre .0) (s .args .i) (s .args .a) (s .pre .1) (s .pre .2) (there .device-at .ensures) (c .before .before .before .before .before .bounds-of .ensures) (k .cells)),
+    )
 
 reactive-bounds-of-requires : tie.Need-reactive-bounds-of-requires
 reactive-bounds-of-requires c κs = search needs
@@ -70,7 +76,14 @@ reactive-held-requires c κs = let s : _ = c .before .before .before .before .be
     (c .before .before .before .before .before .before .bounds-of .ensures) (c .reactive-bounds-of .ensures)
 
 returns-2 : tie.Need-returns-2
-returns-2 c = λ e. never e
+returns-2 c =
+    let there : _ = c .before .before .before .before .before .before .before .before .before in
+    let s : _ = there .before .before .before .before in (
+      λ e. never e,
+      λ k. sym (not-true _ (c .if2 .taken)) ∙ c .before .reactive-held .ensures .1 (
+          here-reactive (s .pre .0) (s .args .i) (s .args .a) (s .pre .1) (s .pre .2) (there .device-at .ensures)
+          (c .before .before .before .before .before .before .before .before .bounds-of .ensures) (c .before .before .reactive-bounds-of .ensures) (k .cells)),
+    )
 
 device-windows-requires : tie.Need-device-windows-requires
 device-windows-requires c κs = let there : _ = c .before .before .before .before .before .before .before .before .before in let s : _ = there .before .before .before .before in (
@@ -87,18 +100,25 @@ enum-told-2 : tie.Need-enum-told-2
 enum-told-2 c = search needs
 
 returns-3 : tie.Need-returns-3
-returns-3 c = λ e. never e
+returns-3 c = let there : _ = c .before .before .before .before .before .before .before .before .before .before .before .before in let s : _ = there .before .before .before .before in (
+  λ e. never e,
+  λ k. broken-first _ (c .before .before .device-windows .ensures ∙ ap first (windows-are (s .pre .0) (s .args .i) (s .args .a) (s .pre .1) (s .pre .2)
+      (there .device-at .ensures))) (c .enum-told2 .given .1) (k .windows),
+)
 
 returns-4 : tie.Need-returns-4
-returns-4 c = λ e. let there : _ = c .before .before .before .before .before .before .before .before .before .before .before .before in let s : _ = there .before .before .before .before in record {
-  cells = none-here (s .pre .0) (s .args .i) (s .args .a) (s .pre .1) (s .pre .2) (there .device-at .ensures)
-      (c .before .before .before .before .before .before .before .before .before .before .before .bounds-of .ensures)
-      (c .before .before .before .before .before .reactive-bounds-of .ensures)
-      (c .before .before .before .before .before .before .before .held-all .ensures (not-false _ (c .before .before .before .before .before .before .if1 .left)))
-      (c .before .before .before .before .reactive-held .ensures (not-false _ (c .before .before .before .if2 .left)));
-  windows = none-first _ (c .before .before .device-windows .ensures ∙ ap first (windows-are (s .pre .0) (s .args .i) (s .args .a) (s .pre .1) (s .pre .2)
-      (there .device-at .ensures))) (c .enum-told .given .1);
-}
+returns-4 c = let there : _ = c .before .before .before .before .before .before .before .before .before .before .before .before in let s : _ = there .before .before .before .before in (
+  λ e. record {
+    cells = none-here (s .pre .0) (s .args .i) (s .args .a) (s .pre .1) (s .pre .2) (there .device-at .ensures)
+        (c .before .before .before .before .before .before .before .before .before .before .before .bounds-of .ensures)
+        (c .before .before .before .before .before .reactive-bounds-of .ensures)
+        (c .before .before .before .before .before .before .before .held-all .ensures .0 (not-false _ (c .before .before .before .before .before .before .if1 .left)))
+        (c .before .before .before .before .reactive-held .ensures .0 (not-false _ (c .before .before .before .if2 .left)));
+    windows = none-first _ (c .before .before .device-windows .ensures ∙ ap first (windows-are (s .pre .0) (s .args .i) (s .args .a) (s .pre .1) (s .pre .2)
+        (there .device-at .ensures))) (c .enum-told .given .1);
+  },
+  λ k. refl,
+)
 
 pub device-held-spec : {M : Type 1} → statement M
 device-held-spec = tie.close (tie.spec device-at-requires bounds-of-requires add-e mul-own-cells sub-own-cells part-own-cells-start part-own-cells-end mul-own sub-own

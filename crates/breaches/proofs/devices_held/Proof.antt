@@ -1,8 +1,8 @@
 -- The loop's invariant: the devices below i break no rule, and the next part begins at a.
 use Prim.Native.Nat.{_≤_, _-_, _*_}
 use native.Mathlib.Omega.{arith}
-use mathlib.Core.Path.{_≡_}
-use borrow.Author.Tests.{not-false}
+use mathlib.Core.Path.{_≡_, refl, sym, _∙_}
+use borrow.Author.Tests.{not-true, not-false}
 use lib.ListN.{length}
 use Rattle.numbers.specs.Tests.{never}
 use Rattle.numbers.specs.Parts.{next-part}
@@ -27,7 +27,7 @@ device-held-requires : tie.Need-device-held-requires Inv-loop μ-loop
 device-held-requires c κs = search needs
 
 returns : tie.Need-returns Inv-loop μ-loop
-returns c = λ e. never e
+returns c = (λ e. never e, λ k. sym (not-true _ (c .if1 .taken)) ∙ c .before .device-held .ensures .1 (k .at (c .before .before .before .loop .i) (c .before .before .loop-test .taken)))
 
 add-a : tie.Need-add-a Inv-loop μ-loop
 add-a c = let a : _ = c .before .before .before .before .before .before .before .args in
@@ -48,13 +48,13 @@ loop-again c = let a : _ = c .before .before .before .before .before .before .be
   search needs,
   omega (arith, c .before .before .before .loop .inv .1, next-part (length (a .halves .now)) (c .before .before .before .loop .i)),
   hold-next (systemIn (a .halves .now) (a .zones .now) (a .minima .now) (a .devices .now) (a .cells .now))
-      (planIn (length (a .devices .now)) (length (a .halves .now)) (a .settings .now)) (c .before .before .before .loop .inv .2) (c .before .device-held .ensures (not-false _ (c .if1 .left))),
+      (planIn (length (a .devices .now)) (length (a .halves .now)) (a .settings .now)) (c .before .before .before .loop .inv .2) (c .before .device-held .ensures .0 (not-false _ (c .if1 .left))),
 )
 
 returns-2 : tie.Need-returns-2 Inv-loop μ-loop
-returns-2 c = λ e. let a : _ = c .before .before .before .before .before .args in
+returns-2 c = let a : _ = c .before .before .before .before .before .args in
     let z : c .before .loop .i ≡ length (a .devices .now) = omega (arith, c .loop-test .left, c .before .loop .inv .0) in
-    rw z at (c .before .loop .inv .2)
+    (λ e. rw z at (c .before .loop .inv .2), λ k. refl)
 
 pub devices-held-spec : {M : Type 1} → statement M
 devices-held-spec = tie.close (tie.spec Inv-loop μ-loop loop-holds device-held-requires returns add-a add-i loop-less loop-again returns-2)

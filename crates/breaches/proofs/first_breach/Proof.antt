@@ -12,7 +12,7 @@ no-breach-requires c κs = search needs
 returns : tie.Need-returns
 returns c = let a : _ = c .before .before .before .before .before .args in
     first-none (systemIn (a .halves .now) (a .zones .now) (a .minima .now) (a .devices .now) (a .cells .now))
-    (planIn (length (a .devices .now)) (length (a .halves .now)) (a .settings .now)) (c .before .no-breach .ensures (c .if1 .taken))
+    (planIn (length (a .devices .now)) (length (a .halves .now)) (a .settings .now)) (c .before .no-breach .ensures .0 (c .if1 .taken))
 
 exact-breach-requires : tie.Need-exact-breach-requires
 exact-breach-requires c κs = search needs

@@ -6,7 +6,7 @@ use Rattle.choices.proofs.blocks_of.Statement.{statement}
 use Rattle.choices.proofs.blocks_of.Tie as tie
 
 fill-above-requires : tie.Need-fill-above-requires
-fill-above-requires c κs = c .before .pre .1 (c .if1 .taken)
+fill-above-requires c κs = (c .before .pre .1 (c .if1 .taken), c .before .pre .2)
 
 fill-requires : tie.Need-fill-requires
 fill-requires c κs = search needs

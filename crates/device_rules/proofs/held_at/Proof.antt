@@ -1,7 +1,8 @@
 -- The records are those of interval t.
 use mathlib.Core.Path.{_≡_, subst}
+use mathlib.Core.Logic.{_↔_}
 use mathlib.Core.List.{List, []}
-use mathlib.Core.Bool.{Bool}
+use mathlib.Core.Bool.{Bool, true}
 use Prim.Native.Nat.{ℕ}
 use Rattle.model.specs.Breaches.{failing}
 use Rattle.moments.specs.Moments.{testsAt, same-sizes, same-tests}
@@ -27,8 +28,8 @@ held-requires c κs = (
 
 returns : tie.Need-returns
 unfolding testsAt
-returns c = λ e. subst (λ (l : List (ℕ × Bool)). failing l ≡ []) (same-tests (c .before .before .cell-at .ensures) (c .before .setting-at .ensures)
-    (c .before .before .before .moment-at .ensures) (c .before .before .before .before .before .before .before .args .d)) (c .held .ensures e)
+returns c = subst (λ (l : List (ℕ × Bool)). (c .held .result ≡ true) ↔ (failing l ≡ [])) (same-tests (c .before .before .cell-at .ensures) (c .before .setting-at .ensures)
+    (c .before .before .before .moment-at .ensures) (c .before .before .before .before .before .before .before .args .d)) (c .held .ensures)
 
 pub held-at-spec : {M : Type 1} → statement M
 held-at-spec = tie.close (tie.spec moment-at-requires cell-at-requires setting-at-requires held-requires returns)
