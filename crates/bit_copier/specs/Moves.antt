@@ -225,7 +225,8 @@ field-split s at a (suc b) =
     let v : (fieldAt s at (a + b) * 2 + bitAt s (at + a + b)) % 2 ≡ bitAt s (at + a + b) = omega arith in
     let u' : (fieldAt s (at + a) b * 2 + bitAt s (at + a + b)) / 2 ≡ fieldAt s (at + a) b = omega arith in
     let v' : (fieldAt s (at + a) b * 2 + bitAt s (at + a + b)) % 2 ≡ bitAt s (at + a + b) = omega arith in
-    rw (e, m, u, v, u', v') (ap (λ (l : List ℕ). l ++ (bitAt s (at + a + b) ∷ [])) (field-split s at a b) ∙ append-assoc (bitsOf a (fieldAt s at a)) (bitsOf b (fieldAt s (at + a) b)) (bitAt s (at + a + b) ∷ []))
+    rw (e, m, u, v, u', v') (ap (λ (l : List ℕ). l ++ (bitAt s (at + a + b) ∷ [])) (field-split s at a b) ∙ append-assoc (bitsOf a (fieldAt s at a)) (bitsOf b (fieldAt s
+    (at + a) b)) (bitAt s (at + a + b) ∷ []))
 
 pub keep-both : (a b : ℕ) (s : List ℕ) (at : ℕ) → Alike (keep a ⨾ keep b) (keep (a + b)) s at
 unfolding past spliced
@@ -247,7 +248,8 @@ times-keep (suc n) w s at =
     let e : suc n * w ≡ n * w + w = omega arith in
     rw e (record {
       past = omega (arith, h .past);
-      bits = field-split s at (n * w) w ∙ ap (λ (l : List ℕ). l ++ bitsOf w (fieldAt s (at + n * w) w)) (h .bits) ∙ ap (λ (k : ℕ). along (spliced (keep w) s) (past (keep w) s) n at ++ bitsOf w (fieldAt s k w)) (h .past);
+      bits = field-split s at (n * w) w ∙ ap (λ (l : List ℕ). l ++ bitsOf w (fieldAt s (at + n * w) w)) (h .bits) ∙ ap (λ (k : ℕ). along (spliced (keep w) s) (past
+          (keep w) s) n at ++ bitsOf w (fieldAt s k w)) (h .past);
     })
 
 -- what came with an edition
@@ -337,6 +339,10 @@ closes-short buffer p h = record { long = refl; whole = λ i j. absurd (omega ar
 
 pub closes-all : (entry exit : List ℕ) (p : Pen) → Finishes entry exit p → Closes entry exit p
 closes-all entry exit p f = record { long = f .long; whole = λ i j. f }
+
+-- a run of parts of one width
+pub run-times : (n w : ℕ) {s a b : List ℕ} {q r : Copier} → Moves (keep (n * w)) s a b q r → Moves (times n (keep w)) s a b q r
+run-times n w {s} {q = q} m = moves-as (times-keep n w s (q .from)) m
 
 -- a value of fewer bits
 pub pow-within : (v w u : ℕ) → v < 2 ^ w → w ≤ u → v < 2 ^ u

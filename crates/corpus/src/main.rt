@@ -197,14 +197,7 @@ fn print_plan(
 {
     let message = layouts::message_at(frame, 0, LIMIT);
     let mut buffer = written_buffer();
-    let x = rewrites::rewrite_plan_by(
-        message,
-        edition,
-        devices,
-        intervals,
-        settings,
-        &mut buffer,
-    );
+    let x = rewrites::rewrite_plan_by(message, edition, devices, intervals, settings, &mut buffer);
     print_writing(x, &buffer);
 }
 

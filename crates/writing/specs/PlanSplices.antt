@@ -22,7 +22,8 @@ use Rattle.model.specs.ByEdition as B
 use Rattle.writing.specs.Again as A
 use Rattle.writing.specs.Cases.{figure-again, eight-again, kW-again}
 use Rattle.writing.specs.Plans.{reactive-again, front-is}
-use Rattle.writing.specs.Splice.{Splice, keep, add, _⨾_, times, past, spliced, Told, Anew, Wide, keep-anew, more-anew, pair-anew, loose-anew, held-anew, list-anew, Adds, add-adds, whole-run, nat-wide, int-wide, held-wide, pair-wide}
+use Rattle.writing.specs.Splice.{Splice, keep, add, _⨾_, times, past, spliced, Told, Anew, Wide, keep-anew, more-anew, pair-anew, loose-anew, held-anew, list-anew}
+use Rattle.writing.specs.Splice.{Adds, add-adds, whole-run, nat-wide, int-wide, held-wide, pair-wide}
 use Rattle.writing.specs.CaseSplices.{kept, figure-wide, kW-wide, eight-wide, sinceSplice, since-anew, some-anew, forget}
 
 -- ---- the splices

@@ -18,7 +18,8 @@ use Rattle.model.specs.ByEdition.{Stated, statedIn, plannedIn}
 use Rattle.model.specs.Judgement.{readPlan, verdict, accepts, judgement, judged, completionBytes}
 use Rattle.model.specs.Lists.{listings, listed}
 use Rattle.writing.specs.Anew.{anew, caseBytes, rowsBytes, planBytes}
-use Rattle.writing.specs.Again.{Fit, Reads, fit-then, fit-held, fit-nat, fit-more, only-fits, pair-reads, then-reads, held-reads, more-reads, nat-reads, only-reads, own-bytes, whole-reads, fit-whole}
+use Rattle.writing.specs.Again.{Fit, Reads, fit-then, fit-held, fit-nat, fit-more, only-fits, pair-reads, then-reads, held-reads, more-reads, nat-reads}
+use Rattle.writing.specs.Again.{only-reads, own-bytes, whole-reads, fit-whole}
 use Rattle.writing.specs.Cases.{Small, content-again}
 use Rattle.writing.specs.Plans.{Held, Rows, plan-rows, plan-fits, Open, openPlan, opened, open-writes, open-fits}
 
@@ -39,7 +40,8 @@ module _ (l : Largest) where
   pub case-reads : Reads (B.caseLayout l) Any (Kept l)
   unfolding B.caseLayout
   case-reads = held-reads _ _ _ _ Any _ _
-      (pair-reads _ _ _ _ _ _ (only-reads 4 B.caseKind _) (then-reads (nat B.editionField) (λ e. B.content e l) _ (λ e. Small) _ (λ e. Fit (B.content newest l) 2624894) (nat-reads B.editionField) (λ e ok. content-again e newest (ok .1) l)))
+      (pair-reads _ _ _ _ _ _ (only-reads 4 B.caseKind _) (then-reads (nat B.editionField) (λ e. B.content e l) _ (λ e. Small) _ (λ e. Fit (B.content newest l) 2624894)
+      (nat-reads B.editionField) (λ e ok. content-again e newest (ok .1) l)))
       (λ v ok. tt)
       (λ v ok. rw (sym (ok .0)) refl)
       (λ v ok r. record { edition = ok .1 .0 .1; small = ok .1 .1; fits = r .1 .1 })

@@ -27,11 +27,17 @@ copy-devices-requires : tie.Need-copy-devices-requires
 copy-devices-requires c κs = search needs
 
 same-length : tie.Need-same-length
-same-length c = let x6 = c .before .before in let x5 = x6 .before .before .before .before in let x4 = x5 .before .before .before .before in let x3 = x4 .before .before .before .before in let x2 = x3 .before .before .before .before in let x1 = x2 .before .before .before .before in moves-then (x1 .keep-field .ensures) (moves-then (x2 .keep-field2 .ensures) (moves-then (x3 .keep-since .ensures) (moves-then (run-times _ 8 (x4 .keep-run .ensures)) (moves-then (x5 .copy-zones .ensures) (x6 .copy-devices .ensures))))) .long
+same-length c = let x6 = c .before .before in let x5 = x6 .before .before .before .before in let x4 = x5 .before .before .before .before in
+    let x3 = x4 .before .before .before .before in let x2 = x3 .before .before .before .before in
+    let x1 = x2 .before .before .before .before in moves-then (x1 .keep-field .ensures) (moves-then (x2 .keep-field2 .ensures) (moves-then (x3 .keep-since .ensures) (moves-then
+    (run-times _ 8 (x4 .keep-run .ensures)) (moves-then (x5 .copy-zones .ensures) (x6 .copy-devices .ensures))))) .long
 
 returns : tie.Need-returns
 unfolding bodySplice
-returns c = let x6 = c .before .before in let x5 = x6 .before .before .before .before in let x4 = x5 .before .before .before .before in let x3 = x4 .before .before .before .before in let x2 = x3 .before .before .before .before in let x1 = x2 .before .before .before .before in moves-then (x1 .keep-field .ensures) (moves-then (x2 .keep-field2 .ensures) (moves-then (x3 .keep-since .ensures) (moves-then (run-times _ 8 (x4 .keep-run .ensures)) (moves-then (x5 .copy-zones .ensures) (x6 .copy-devices .ensures)))))
+returns c = let x6 = c .before .before in let x5 = x6 .before .before .before .before in let x4 = x5 .before .before .before .before in
+    let x3 = x4 .before .before .before .before in let x2 = x3 .before .before .before .before in
+    let x1 = x2 .before .before .before .before in moves-then (x1 .keep-field .ensures) (moves-then (x2 .keep-field2 .ensures) (moves-then (x3 .keep-since .ensures) (moves-then
+    (run-times _ 8 (x4 .keep-run .ensures)) (moves-then (x5 .copy-zones .ensures) (x6 .copy-devices .ensures)))))
 
 pub copy-body-spec : {M : Type 1} → statement M
 copy-body-spec =

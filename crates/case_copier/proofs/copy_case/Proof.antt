@@ -21,7 +21,9 @@ same-length c = search needs
 
 returns : tie.Need-returns
 unfolding caseSplice
-returns c = let x3 = c .before .before in let x2 = x3 .before .before .before .before in let x1 = x2 .before .before .before .before in let s = x1 .before .before .before .before in let m = add-moves 4 1 (set-start 8 {s = now (s .args .s)} (omega (arith, s .pre))) (x1 .add-field .ensures) in moves-then m (moves-then (add-moves 4 5 (set-after m) (x2 .add-field2 .ensures)) (x3 .copy-content .ensures))
+returns c = let x3 = c .before .before in let x2 = x3 .before .before .before .before in let x1 = x2 .before .before .before .before in
+    let s = x1 .before .before .before .before in let m = add-moves 4 1 (set-start 8 {s = now (s .args .s)} (omega (arith, s .pre))) (x1 .add-field .ensures) in moves-then m
+    (moves-then (add-moves 4 5 (set-after m) (x2 .add-field2 .ensures)) (x3 .copy-content .ensures))
 
 pub copy-case-spec : {M : Type 1} → statement M
 copy-case-spec =

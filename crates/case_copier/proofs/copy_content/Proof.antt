@@ -16,7 +16,17 @@ next-field-requires : tie.Need-next-field-requires
 next-field-requires c κs = let s = c .before .before .before in (s .pre, omega (arith, c .device-bits .ensures, bounded (s .args .edition) .deviceBits))
 
 widen-field-requires : tie.Need-widen-field-requires
-widen-field-requires c κs = let b = c .before .before in let s = b .before .before .before in (s .pre, omega (arith, b .device-bits .ensures, widths-some (s .args .edition) .1), omega (arith, b .device-bits .ensures, bounded (s .args .edition) .deviceBits), omega arith)
+widen-field-requires c κs = let b = c .before .before in let s = b .before .before .before in (
+  s .pre,
+  omega (
+    arith,
+    b .device-bits .ensures,
+    widths-some
+        (s .args .edition) .1,
+  ),
+  omega (arith, b .device-bits .ensures, bounded (s .args .edition) .deviceBits),
+  omega arith,
+)
 
 copy-timed-requires : tie.Need-copy-timed-requires
 copy-timed-requires c κs = search needs
@@ -26,7 +36,11 @@ same-length c = search needs
 
 returns : tie.Need-returns
 unfolding contentSplice
-returns c = let x2 = c .before .before in let x1 = x2 .before .before .before .before in let n = x1 .before .before in let b = n .before in let s = b .before .before .before in by-as _ _ 7 (λ devices. by (intervalBits (s .args .edition)) 7 (λ intervals. by 3 3 (λ zones. bodySplice (s .args .edition) devices intervals zones))) (b .device-bits .ensures) (moves-by (b .device-bits .result) 7 (n .next-field .result) (λ devices. by (intervalBits (s .args .edition)) 7 (λ intervals. by 3 3 (λ zones. bodySplice (s .args .edition) devices intervals zones))) (n .next-field .ensures) (x1 .widen-field .ensures) (x2 .copy-timed .ensures))
+returns c = let x2 = c .before .before in let x1 = x2 .before .before .before .before in let n = x1 .before .before in let b = n .before in
+    let s = b .before .before .before in by-as _ _ 7 (λ devices. by (intervalBits (s .args .edition)) 7 (λ intervals. by 3 3 (λ zones. bodySplice
+    (s .args .edition) devices intervals zones))) (b .device-bits .ensures) (moves-by (b .device-bits .result) 7 (n .next-field .result) (λ devices. by (intervalBits
+    (s .args .edition)) 7 (λ intervals. by 3 3 (λ zones. bodySplice (s .args .edition) devices intervals zones))) (n .next-field .ensures) (x1 .widen-field .ensures)
+    (x2 .copy-timed .ensures))
 
 pub copy-content-spec : {M : Type 1} → statement M
 copy-content-spec =

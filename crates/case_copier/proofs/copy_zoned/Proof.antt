@@ -18,7 +18,9 @@ same-length : tie.Need-same-length
 same-length c = search needs
 
 returns : tie.Need-returns
-returns c = let r = c .before .before in let k = r .before .before .before .before in let n = k .before .before in let s = n .before .before .before in moves-by-keep 3 (n .next-field .result) (λ zones. bodySplice (s .args .edition) (s .args .devices) (s .args .intervals) zones) (n .next-field .ensures) (k .keep-field .ensures) (r .copy-body .ensures)
+returns c = let r = c .before .before in let k = r .before .before .before .before in let n = k .before .before in
+    let s = n .before .before .before in moves-by-keep 3 (n .next-field .result) (λ zones. bodySplice (s .args .edition) (s .args .devices) (s .args .intervals) zones)
+    (n .next-field .ensures) (k .keep-field .ensures) (r .copy-body .ensures)
 
 pub copy-zoned-spec : {M : Type 1} → statement M
 copy-zoned-spec =

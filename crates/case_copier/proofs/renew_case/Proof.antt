@@ -15,7 +15,8 @@ bytes-in-requires : tie.Need-bytes-in-requires
 bytes-in-requires c κs = search needs
 
 returns : tie.Need-returns
-returns c = let b = c .before in let k = b .before .before .before in let s = k .before .before .before .before in renews-not (caseSplice (s .args .edition)) 8 (k .copy-case .ensures) (b .bytes-in .ensures) (c .if1 .taken)
+returns c = let b = c .before in let k = b .before .before .before in
+    let s = k .before .before .before .before in renews-not (caseSplice (s .args .edition)) 8 (k .copy-case .ensures) (b .bytes-in .ensures) (c .if1 .taken)
 
 copy-case-requires-2 : tie.Need-copy-case-requires-2
 copy-case-requires-2 c κs = search needs
@@ -27,7 +28,9 @@ same-length : tie.Need-same-length
 same-length c = search needs
 
 returns-2 : tie.Need-returns-2
-returns-2 c = let l = c .before .before in let w = l .before .before .before .before .before in let h = w .before .before in let b = h .before in let k = b .before .before .before in let s = k .before .before .before .before in renews-all (caseSplice (s .args .edition)) 8 (k .copy-case .ensures) (b .bytes-in .ensures) (h .if1 .left) (w .copy-case2 .ensures) (l .close .ensures)
+returns-2 c = let l = c .before .before in let w = l .before .before .before .before .before in let h = w .before .before in let b = h .before in
+    let k = b .before .before .before in let s = k .before .before .before .before in renews-all (caseSplice (s .args .edition)) 8 (k .copy-case .ensures) (b .bytes-in .ensures)
+    (h .if1 .left) (w .copy-case2 .ensures) (l .close .ensures)
 
 pub renew-case-spec : {M : Type 1} → statement M
 renew-case-spec =

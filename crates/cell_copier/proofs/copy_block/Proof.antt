@@ -19,7 +19,8 @@ same-length c = search needs
 
 returns : tie.Need-returns
 unfolding blockSplice
-returns c = let x3 = c .before .before in let x2 = x3 .before .before .before .before in let x1 = x2 .before .before .before .before in moves-then (moves-then (x1 .keep-field .ensures) (x2 .keep-since .ensures)) (x3 .keep-field2 .ensures)
+returns c = let x3 = c .before .before in let x2 = x3 .before .before .before .before in
+    let x1 = x2 .before .before .before .before in moves-then (moves-then (x1 .keep-field .ensures) (x2 .keep-since .ensures)) (x3 .keep-field2 .ensures)
 
 pub copy-block-spec : {M : Type 1} → statement M
 copy-block-spec =

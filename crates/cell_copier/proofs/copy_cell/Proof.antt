@@ -21,11 +21,15 @@ copy-reactive-requires : tie.Need-copy-reactive-requires
 copy-reactive-requires c κs = search needs
 
 same-length : tie.Need-same-length
-same-length c = let x5 = c .before .before in let x4 = x5 .before .before .before .before in let x3 = x4 .before .before .before .before in let x2 = x3 .before .before .before .before in let x1 = x2 .before .before .before .before in moves-then (x1 .keep-field .ensures) (moves-then (x2 .keep-field2 .ensures) (moves-then (x3 .copy-blocks .ensures) (moves-then (x4 .keep-run .ensures) (x5 .copy-reactive .ensures)))) .long
+same-length c = let x5 = c .before .before in let x4 = x5 .before .before .before .before in let x3 = x4 .before .before .before .before in
+    let x2 = x3 .before .before .before .before in let x1 = x2 .before .before .before .before in moves-then (x1 .keep-field .ensures) (moves-then (x2 .keep-field2 .ensures)
+    (moves-then (x3 .copy-blocks .ensures) (moves-then (x4 .keep-run .ensures) (x5 .copy-reactive .ensures)))) .long
 
 returns : tie.Need-returns
 unfolding cellSplice
-returns c = let x5 = c .before .before in let x4 = x5 .before .before .before .before in let x3 = x4 .before .before .before .before in let x2 = x3 .before .before .before .before in let x1 = x2 .before .before .before .before in moves-then (x1 .keep-field .ensures) (moves-then (x2 .keep-field2 .ensures) (moves-then (x3 .copy-blocks .ensures) (moves-then (x4 .keep-run .ensures) (x5 .copy-reactive .ensures))))
+returns c = let x5 = c .before .before in let x4 = x5 .before .before .before .before in let x3 = x4 .before .before .before .before in
+    let x2 = x3 .before .before .before .before in let x1 = x2 .before .before .before .before in moves-then (x1 .keep-field .ensures) (moves-then (x2 .keep-field2 .ensures)
+    (moves-then (x3 .copy-blocks .ensures) (moves-then (x4 .keep-run .ensures) (x5 .copy-reactive .ensures))))
 
 pub copy-cell-spec : {M : Type 1} → statement M
 copy-cell-spec =

@@ -15,7 +15,9 @@ same-length : tie.Need-same-length
 same-length c = search needs
 
 returns : tie.Need-returns
-returns c = let b = c .before .before in let a = b .before .before .before .before in let h = a .before .before in let s = h .before .before .before in let m = add-moves 36 0 (s .pre) (a .add-field .ensures) in since-lacks (s .args .edition) 2 (keep 64) (h .if1 .taken) (moves-then m (add-moves 28 0 (set-after m) (b .add-field2 .ensures)))
+returns c = let b = c .before .before in let a = b .before .before .before .before in let h = a .before .before in let s = h .before .before .before in
+    let m = add-moves 36 0 (s .pre) (a .add-field .ensures) in since-lacks (s .args .edition) 2 (keep 64) (h .if1 .taken) (moves-then m (add-moves 28 0 (set-after m)
+    (b .add-field2 .ensures)))
 
 keep-run-requires : tie.Need-keep-run-requires
 keep-run-requires c κs = search needs

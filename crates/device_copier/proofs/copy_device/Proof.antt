@@ -33,11 +33,21 @@ copy-cells-requires : tie.Need-copy-cells-requires
 copy-cells-requires c κs = search needs
 
 same-length : tie.Need-same-length
-same-length c = let x9 = c .before .before in let x8 = x9 .before .before .before .before in let x7 = x8 .before .before .before .before in let x6 = x7 .before .before .before .before in let x5 = x6 .before .before .before .before in let x4 = x5 .before .before .before .before in let x3 = x4 .before .before .before .before in let x2 = x3 .before .before .before .before in let x1 = x2 .before .before .before .before in moves-then (x1 .keep-run .ensures) (moves-then (x2 .keep-run2 .ensures) (moves-then (x3 .keep-run3 .ensures) (moves-then (x4 .keep-counted .ensures) (moves-then (x5 .copy-starts .ensures) (moves-then (x6 .keep-counted2 .ensures) (moves-then (x7 .copy-link .ensures) (moves-then (x8 .keep-since .ensures) (x9 .copy-cells .ensures)))))))) .long
+same-length c = let x9 = c .before .before in let x8 = x9 .before .before .before .before in let x7 = x8 .before .before .before .before in
+    let x6 = x7 .before .before .before .before in let x5 = x6 .before .before .before .before in let x4 = x5 .before .before .before .before in
+    let x3 = x4 .before .before .before .before in let x2 = x3 .before .before .before .before in
+    let x1 = x2 .before .before .before .before in moves-then (x1 .keep-run .ensures) (moves-then (x2 .keep-run2 .ensures) (moves-then (x3 .keep-run3 .ensures) (moves-then
+    (x4 .keep-counted .ensures) (moves-then (x5 .copy-starts .ensures) (moves-then (x6 .keep-counted2 .ensures) (moves-then (x7 .copy-link .ensures) (moves-then
+    (x8 .keep-since .ensures) (x9 .copy-cells .ensures)))))))) .long
 
 returns : tie.Need-returns
 unfolding deviceSplice
-returns c = let x9 = c .before .before in let x8 = x9 .before .before .before .before in let x7 = x8 .before .before .before .before in let x6 = x7 .before .before .before .before in let x5 = x6 .before .before .before .before in let x4 = x5 .before .before .before .before in let x3 = x4 .before .before .before .before in let x2 = x3 .before .before .before .before in let x1 = x2 .before .before .before .before in moves-then (x1 .keep-run .ensures) (moves-then (x2 .keep-run2 .ensures) (moves-then (x3 .keep-run3 .ensures) (moves-then (x4 .keep-counted .ensures) (moves-then (x5 .copy-starts .ensures) (moves-then (x6 .keep-counted2 .ensures) (moves-then (x7 .copy-link .ensures) (moves-then (x8 .keep-since .ensures) (x9 .copy-cells .ensures))))))))
+returns c = let x9 = c .before .before in let x8 = x9 .before .before .before .before in let x7 = x8 .before .before .before .before in
+    let x6 = x7 .before .before .before .before in let x5 = x6 .before .before .before .before in let x4 = x5 .before .before .before .before in
+    let x3 = x4 .before .before .before .before in let x2 = x3 .before .before .before .before in
+    let x1 = x2 .before .before .before .before in moves-then (x1 .keep-run .ensures) (moves-then (x2 .keep-run2 .ensures) (moves-then (x3 .keep-run3 .ensures) (moves-then
+    (x4 .keep-counted .ensures) (moves-then (x5 .copy-starts .ensures) (moves-then (x6 .keep-counted2 .ensures) (moves-then (x7 .copy-link .ensures) (moves-then
+    (x8 .keep-since .ensures) (x9 .copy-cells .ensures))))))))
 
 pub copy-device-spec : {M : Type 1} → statement M
 copy-device-spec =

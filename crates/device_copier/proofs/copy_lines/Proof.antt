@@ -23,7 +23,8 @@ same-length-2 : tie.Need-same-length-2
 same-length-2 c = search needs
 
 returns-3 : tie.Need-returns-3
-returns-3 c = let k = c .before .before in let h = k .before .before in let s = h .before .before .before .before in lines-one (s .args .kind) (h .before .if1 .left) (h .if2 .left) (k .keep-field .ensures)
+returns-3 c = let k = c .before .before in let h = k .before .before in
+    let s = h .before .before .before .before in lines-one (s .args .kind) (h .before .if1 .left) (h .if2 .left) (k .keep-field .ensures)
 
 pub copy-lines-spec : {M : Type 1} → statement M
 copy-lines-spec =

@@ -19,7 +19,9 @@ same-length : tie.Need-same-length
 same-length c = search needs
 
 returns : tie.Need-returns
-returns c = let x2 = c .before .before in let x1 = x2 .before .before .before .before in let f = x1 .before .before in let s = f .before .before .before in plan-moves (s .args .edition) (s .args .devices) (s .args .intervals) _ (f .front-bits .ensures) (set-start _ (omega (arith, f .front-bits .ensures, s .pre .0))) (x1 .add-front .ensures) (x2 .copy-rows .ensures)
+returns c = let x2 = c .before .before in let x1 = x2 .before .before .before .before in let f = x1 .before .before in
+    let s = f .before .before .before in plan-moves (s .args .edition) (s .args .devices) (s .args .intervals) _ (f .front-bits .ensures) (set-start _ (omega
+    (arith, f .front-bits .ensures, s .pre .0))) (x1 .add-front .ensures) (x2 .copy-rows .ensures)
 
 pub copy-plan-spec : {M : Type 1} → statement M
 copy-plan-spec =

@@ -15,7 +15,9 @@ bytes-in-requires : tie.Need-bytes-in-requires
 bytes-in-requires c κs = search needs
 
 returns : tie.Need-returns
-returns c = let b = c .before in let k = b .before .before .before in let s = k .before .before .before .before in renews-not (planSplice (s .args .edition) (s .args .devices) (s .args .intervals)) (frontOf (s .args .edition)) (k .copy-plan .ensures) (b .bytes-in .ensures) (c .if1 .taken)
+returns c = let b = c .before in let k = b .before .before .before in
+    let s = k .before .before .before .before in renews-not (planSplice (s .args .edition) (s .args .devices) (s .args .intervals)) (frontOf (s .args .edition))
+    (k .copy-plan .ensures) (b .bytes-in .ensures) (c .if1 .taken)
 
 copy-plan-requires-2 : tie.Need-copy-plan-requires-2
 copy-plan-requires-2 c κs = search needs
@@ -27,7 +29,9 @@ same-length : tie.Need-same-length
 same-length c = search needs
 
 returns-2 : tie.Need-returns-2
-returns-2 c = let l = c .before .before in let w = l .before .before .before .before .before in let h = w .before .before in let b = h .before in let k = b .before .before .before in let s = k .before .before .before .before in renews-all (planSplice (s .args .edition) (s .args .devices) (s .args .intervals)) (frontOf (s .args .edition)) (k .copy-plan .ensures) (b .bytes-in .ensures) (h .if1 .left) (w .copy-plan2 .ensures) (l .close .ensures)
+returns-2 c = let l = c .before .before in let w = l .before .before .before .before .before in let h = w .before .before in let b = h .before in
+    let k = b .before .before .before in let s = k .before .before .before .before in renews-all (planSplice (s .args .edition) (s .args .devices) (s .args .intervals)) (frontOf
+    (s .args .edition)) (k .copy-plan .ensures) (b .bytes-in .ensures) (h .if1 .left) (w .copy-plan2 .ensures) (l .close .ensures)
 
 pub renew-plan-spec : {M : Type 1} → statement M
 renew-plan-spec =

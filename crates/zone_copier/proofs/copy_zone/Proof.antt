@@ -22,7 +22,9 @@ same-length c = search needs
 
 returns : tie.Need-returns
 unfolding zoneSplice
-returns c = let x4 = c .before .before in let x3 = x4 .before .before .before .before in let x2 = x3 .before .before .before .before in let x1 = x2 .before .before .before .before in moves-then (x1 .keep-field .ensures) (moves-then (x2 .keep-field2 .ensures) (moves-then (x3 .keep-since .ensures) (x4 .copy-each-minima .ensures)))
+returns c = let x4 = c .before .before in let x3 = x4 .before .before .before .before in let x2 = x3 .before .before .before .before in
+    let x1 = x2 .before .before .before .before in moves-then (x1 .keep-field .ensures) (moves-then (x2 .keep-field2 .ensures) (moves-then (x3 .keep-since .ensures)
+    (x4 .copy-each-minima .ensures)))
 
 pub copy-zone-spec : {M : Type 1} → statement M
 copy-zone-spec =
