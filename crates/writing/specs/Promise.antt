@@ -72,18 +72,7 @@ plan-writes : (l : Largest) (cs ps before : List ℕ) (x : Stated) (p : Plan) �
 unfolding planAnew
 plan-writes l cs ps before x p e g = rw (e, g) (put-writes (planBytes (x .case .system) p) before)
 
--- a pair written: the case's bytes and the plan's, each in a buffer of its own
-pub record Pair (l : Largest) (cs ps : List ℕ) (case plan : List ℕ) : Type 0 where
-  pub case-buffer : List ℕ
-  pub case-length : ℕ
-  pub case-written : caseAnew l cs case-buffer .answer ≡ Written case-length
-  pub case-is : case ≡ take case-length (caseAnew l cs case-buffer .result)
-  pub plan-buffer : List ℕ
-  pub plan-length : ℕ
-  pub plan-written : planAnew l cs ps plan-buffer .answer ≡ Written plan-length
-  pub plan-is : plan ≡ take plan-length (planAnew l cs ps plan-buffer .result)
-
--- what holds of a pair that was written, x and p being what the old pair holds
+-- what holds of a case and a plan that were written, x and p being what the old ones hold
 pub record PairKept (l : Largest) (cs ps : List ℕ) (x : Stated) (p : Plan) (case plan : List ℕ) : Type 0 where
   -- "with result buffers long enough, the written pair's verdict is the old pair's, place included"
   pub judged : (buffer other : List ℕ) → length (completionBytes x p) ≤ length buffer → length (completionBytes (anew (x .case)) p) ≤ length other
@@ -91,12 +80,9 @@ pub record PairKept (l : Largest) (cs ps : List ℕ) (x : Stated) (p : Plan) (ca
   -- and every broken rule in the same bytes, whatever the list's buffer
   pub listed : (buffer : List ℕ) → listings l case plan buffer ≡ listings l cs ps buffer
 
-pub pair-kept : (l : Largest) (cs ps : List ℕ) (x : Stated) (p : Plan) → statedIn l cs ≡ passes x → readPlan x ps ≡ passes p → (case plan : List ℕ) → Pair l cs ps case plan
-    → PairKept l cs ps x p case plan
-pair-kept l cs ps x p e g case plan w =
-    let c : case ≡ caseBytes (x .case) = w .case-is ∙ case-writes l cs (w .case-buffer) x e .bytes (w .case-length) (w .case-written) in
-    let d : plan ≡ planBytes (x .case .system) p = w .plan-is ∙ plan-writes l cs ps (w .plan-buffer) x p e g .bytes (w .plan-length) (w .plan-written) in
-    rw (c, d) (record { judged = judged-same l cs x e ps p g; listed = listed-same l cs x e ps p g })
+pair-kept : (l : Largest) (cs ps : List ℕ) (x : Stated) (p : Plan) → statedIn l cs ≡ passes x → readPlan x ps ≡ passes p
+    → PairKept l cs ps x p (caseBytes (x .case)) (planBytes (x .case .system) p)
+pair-kept l cs ps x p e g = record { judged = judged-same l cs x e ps p g; listed = listed-same l cs x e ps p g }
 
 -- what holds of the bytes written of a case, x being what it holds
 pub record CaseKept (l : Largest) (cs : List ℕ) (x : Stated) (out : List ℕ) : Type 0 where
@@ -107,8 +93,9 @@ pub record CaseKept (l : Largest) (cs : List ℕ) (x : Stated) (out : List ℕ) 
   -- "Two such messages .. hold equal content exactly when their written forms are the same bytes": this one and any other
   pub equal : (ds : List ℕ) (y : Stated) → statedIn l ds ≡ passes y → (buffer : List ℕ) (m : ℕ) → caseAnew l ds buffer .answer ≡ Written m
       → (x .case ≡ y .case) ↔ (out ≡ take m (caseAnew l ds buffer .result))
-  -- with a plan that passes, written with it
-  pub pair : (ps : List ℕ) (p : Plan) → readPlan x ps ≡ passes p → (plan : List ℕ) → Pair l cs ps out plan → PairKept l cs ps x p out plan
+  -- with any plan that passes, written too
+  pub pair : (ps : List ℕ) (p : Plan) → readPlan x ps ≡ passes p → (buffer : List ℕ) (m : ℕ) → planAnew l cs ps buffer .answer ≡ Written m
+      → PairKept l cs ps x p out (take m (planAnew l cs ps buffer .result))
   -- no case takes more
   pub size : length out ≤ 328113
 
@@ -117,7 +104,7 @@ case-kept l cs x e = record {
   reads = case-again l cs x e;
   own = case-own l cs x e;
   equal = λ ds y k buffer m w. rw (case-writes l ds buffer y k .bytes m w) (case-equal l cs ds x y e k);
-  pair = λ ps p g plan w. pair-kept l cs ps x p e g (caseBytes (x .case)) plan w;
+  pair = λ ps p g buffer m w. rw (plan-writes l cs ps buffer x p e g .bytes m w) (pair-kept l cs ps x p e g);
   size = case-size l cs x e;
 }
 
@@ -147,8 +134,8 @@ pub record PlanKept (l : Largest) (cs ps : List ℕ) (x : Stated) (p : Plan) (ou
   -- equal content, counts and figures, exactly when the same bytes
   pub equal : (ds rs : List ℕ) (y : Stated) (r : Plan) → statedIn l ds ≡ passes y → readPlan y rs ≡ passes r → (buffer : List ℕ) (m : ℕ) → planAnew l ds rs buffer .answer ≡ Written m
       → (contentOf (x .case .system) p ≡ contentOf (y .case .system) r) ↔ (out ≡ take m (planAnew l ds rs buffer .result))
-  -- with its case, written with it
-  pub pair : (case : List ℕ) → Pair l cs ps case out → PairKept l cs ps x p case out
+  -- with its case, written too
+  pub pair : (buffer : List ℕ) (m : ℕ) → caseAnew l cs buffer .answer ≡ Written m → PairKept l cs ps x p (take m (caseAnew l cs buffer .result)) out
   -- no plan takes more
   pub size : length out ≤ 158427
 
@@ -157,7 +144,7 @@ plan-kept l cs ps x p e g = record {
   reads = plan-again l cs x e ps p g;
   own = plan-own l cs x e ps p g;
   equal = λ ds rs y r k i buffer m w. rw (plan-writes l ds rs buffer y r k i .bytes m w) (plan-equal l cs x e ps p g ds y k rs r i);
-  pair = λ case w. pair-kept l cs ps x p e g case (planBytes (x .case .system) p) w;
+  pair = λ buffer m w. rw (case-writes l cs buffer x e .bytes m w) (pair-kept l cs ps x p e g);
   size = plan-size l cs x e ps p g;
 }
 
