@@ -26,6 +26,8 @@ const KIND_BITS: u64 = 4;
 
 const EDITION_BITS: u64 = 4;
 
+const AHEAD_BITS: u64 = KIND_BITS + EDITION_BITS;
+
 const DEVICES_BITS: u64 = 7;
 
 const INTERVALS_BITS: u64 = 7;
@@ -38,8 +40,10 @@ const LIMIT_BITS: u64 = 17;
 
 const HALF_BITS: u64 = 8;
 
-// The kind of a case's message.
+// The kind of a case's message, and the edition that is written.
 const CASE_KIND: u64 = 1;
+
+const EDITION: u64 = NEWEST as u64;
 
 // The edition with which the link's limit came.
 const LIMIT_EDITION: u32 = 5;
@@ -116,11 +120,11 @@ fn copy_case(s: &[u8], buf: &mut [u8], edition: u32) -> Copier
         at: 0,
     };
     let q = Copier {
-        from: KIND_BITS + EDITION_BITS,
+        from: AHEAD_BITS,
         pen,
     };
     let q = add_field(buf, q, KIND_BITS, CASE_KIND);
-    let q = add_field(buf, q, EDITION_BITS, NEWEST as u64);
+    let q = add_field(buf, q, EDITION_BITS, EDITION);
     copy_content(s, buf, q, edition)
 }
 

@@ -40,6 +40,8 @@ const LINK_BITS: u64 = 2;
 
 const LINE_BITS: u64 = 18 + 15;
 
+const TWO_LINES_BITS: u64 = 2 * LINE_BITS;
+
 const NO_LINK: u64 = 0;
 
 const TWO_LINES: u64 = 1;
@@ -94,7 +96,7 @@ fn copy_lines(s: &[u8], buf: &mut [u8], q: Copier, kind: u64) -> Copier
         return q;
     }
     if kind == TWO_LINES {
-        return keep_run(s, buf, q, 2 * LINE_BITS);
+        return keep_run(s, buf, q, TWO_LINES_BITS);
     }
     keep_field(s, buf, q, LINE_BITS)
 }

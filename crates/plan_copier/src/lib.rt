@@ -26,6 +26,8 @@ const KIND_BITS: u64 = 4;
 
 const EDITION_BITS: u64 = 4;
 
+const AHEAD_BITS: u64 = KIND_BITS + EDITION_BITS;
+
 const DEVICES_BITS: u64 = 7;
 
 const INTERVALS_BITS: u64 = 7;
@@ -36,8 +38,10 @@ const REACTIVE_BITS: u64 = 18 + 2 * 17;
 
 const FLOW_BITS: u64 = 18;
 
-// The kind of a plan's message.
+// The kind of a plan's message, and the edition that is written.
 const PLAN_KIND: u64 = 2;
+
+const EDITION: u64 = NEWEST as u64;
 
 // The editions with which reactive power and the flow came.
 const REACTIVE_EDITION: u32 = 2;
@@ -101,7 +105,7 @@ fn copy_rows(
 fn front_bits(edition: u32) -> u64
     ensures { λ r. ⌜ r ≡ frontOf edition ⌝ }
 {
-    KIND_BITS + EDITION_BITS + device_bits(edition) + interval_bits(edition)
+    AHEAD_BITS + device_bits(edition) + interval_bits(edition)
 }
 
 // Kind, edition and counts, in the newest edition's widths.
@@ -110,7 +114,7 @@ fn add_front(buf: &mut [u8], q: Copier, devices: u64, intervals: u64) -> Copier
     ensures { λ r. ⌜ Fronts devices intervals (now (buf .entry)) (now (buf .exit)) q r ⌝ }
 {
     let q = add_field(buf, q, KIND_BITS, PLAN_KIND);
-    let q = add_field(buf, q, EDITION_BITS, NEWEST as u64);
+    let q = add_field(buf, q, EDITION_BITS, EDITION);
     let q = add_field(buf, q, DEVICES_BITS, devices);
     add_field(buf, q, INTERVALS_BITS, intervals)
 }
