@@ -1,5 +1,5 @@
 //! The smallest stack, in steps of 4 KB, in which a thread judges a batch's first plan, which is
-//! accepted, and lists its breaches: `stack BATCH`. Each size is tried in a process of its own, which
+//! accepted, lists its breaches and writes both messages in the newest edition: `stack BATCH`. Each size is tried in a process of its own, which
 //! ends by a signal where the stack is too small.
 
 use std::env;
@@ -7,7 +7,7 @@ use std::fs;
 use std::process::{Command, ExitCode, Stdio};
 use std::thread;
 
-use host::{breaches, judge, messages, LONGEST_COMPLETION};
+use host::{breaches, judge, messages, write_case, write_plan, LONGEST_CASE};
 
 const LARGEST: usize = 1536;
 
@@ -48,13 +48,15 @@ fn attempt(batch: &str, kilobytes: usize) -> ExitCode {
         .next()
         .zip(messages.next())
         .expect("a case and a plan");
-    let mut result = vec![0; LONGEST_COMPLETION];
+    let mut result = vec![0; LONGEST_CASE];
     let judging = thread::Builder::new()
         .stack_size(kilobytes * 1024)
         .spawn(move || {
             [
                 judge(&case, &plan, &mut result),
                 breaches(&case, &plan, &mut []),
+                write_case(&case, &mut result),
+                write_plan(&case, &plan, &mut result),
             ]
         })
         .expect("a thread");

@@ -12,6 +12,8 @@
 enum kadunfo_word {
     KADUNFO_ACCEPTED = 0,        /* figures: surplus in two's complement */
     KADUNFO_LISTED = 0,          /* the same word from kadunfo_breaches; figures: number of breaches, 0, 0, 0 */
+    KADUNFO_WRITTEN = 0,         /* the same word from kadunfo_write_case and kadunfo_write_plan; figures: bytes written,
+                                    0, 0, 0 */
     KADUNFO_MESSAGE = 0,         /* the same word from kadunfo_split; figures: from, until, 0, 0 */
     KADUNFO_BROKEN = 1,          /* figures: rule, interval, device, window, each from 1, or 0 where it has none */
     KADUNFO_END = 1,             /* the same word from kadunfo_split; figures: 0, 0, 0, 0 */
@@ -29,6 +31,11 @@ enum kadunfo_word {
 /* Bytes that hold every completion: that of edition 5 with 64 devices, 96 intervals, 4 zones and 4 energy windows
    of each device. */
 #define KADUNFO_LONGEST_COMPLETION 70876
+
+/* Bytes that hold every case and every plan that is written: those of edition 5 with 64 devices, 96 intervals and
+   every count at its most. */
+#define KADUNFO_LONGEST_CASE 328113
+#define KADUNFO_LONGEST_PLAN 158427
 
 /* The most bytes of a message in a batch. */
 #define KADUNFO_LONGEST_MESSAGE 1048576
@@ -56,6 +63,23 @@ uint64_t kadunfo_breaches(const uint8_t *kase, size_t case_length,
 /* A case's devices, intervals and zones (word 0), or its refusal (word 2: number, bit). */
 uint64_t kadunfo_inspect(const uint8_t *kase, size_t case_length,
                          uint64_t *figures, size_t figures_length);
+
+/* Writes a case in the newest edition, 5, with what its own edition lacks at its neutral value: reactive power and
+   floors 0, prices of reactive shortfalls 1, no links, every device on bar 0, link limit 0. It is refused where
+   reading refuses it (word 2), then where result is too short (word 4: 7, bytes needed). Only KADUNFO_WRITTEN writes
+   to result: the case's bytes, the rest stays. A case of edition 5 is written as it stands. A case never needs more
+   than KADUNFO_LONGEST_CASE bytes. */
+uint64_t kadunfo_write_case(const uint8_t *kase, size_t case_length,
+                            uint8_t *result, size_t result_length,
+                            uint64_t *figures, size_t figures_length);
+
+/* Writes a plan, read with its own case, likewise: reactive power and flows 0 where its edition has none. The written
+   plan goes with the written case, and the two get the verdict and the breaches that they had. A plan never needs
+   more than KADUNFO_LONGEST_PLAN bytes. */
+uint64_t kadunfo_write_plan(const uint8_t *kase, size_t case_length,
+                            const uint8_t *plan, size_t plan_length,
+                            uint8_t *result, size_t result_length,
+                            uint64_t *figures, size_t figures_length);
 
 /* The message whose 24-bit length starts at byte `at` of a batch. KADUNFO_MESSAGE: it stands in the bytes from..until
    of the batch, and the next length starts at until. KADUNFO_END: no byte is left at `at`, or it is past the batch.

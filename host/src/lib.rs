@@ -5,6 +5,7 @@ mod comparison;
 pub mod day;
 pub mod describe;
 pub mod explain;
+pub mod files;
 mod frames;
 pub mod message;
 mod reactive;
@@ -38,6 +39,24 @@ extern "C" {
         figures: *mut u64,
         figures_length: usize,
     ) -> u64;
+    fn kadunfo_write_case(
+        case: *const u8,
+        case_length: usize,
+        result: *mut u8,
+        result_length: usize,
+        figures: *mut u64,
+        figures_length: usize,
+    ) -> u64;
+    fn kadunfo_write_plan(
+        case: *const u8,
+        case_length: usize,
+        plan: *const u8,
+        plan_length: usize,
+        result: *mut u8,
+        result_length: usize,
+        figures: *mut u64,
+        figures_length: usize,
+    ) -> u64;
     fn kadunfo_split(
         batch: *const u8,
         batch_length: usize,
@@ -52,6 +71,8 @@ pub mod word {
     pub const ACCEPTED: u64 = 0;
     /// The same word from `breaches`.
     pub const LISTED: u64 = 0;
+    /// The same word from `write_case` and `write_plan`.
+    pub const WRITTEN: u64 = 0;
     /// The same word from `inspect`; the header has no name of its own for it.
     pub const INSPECTED: u64 = 0;
     /// The same word from `split`.
@@ -78,6 +99,12 @@ pub const LONGEST_LIST: usize = 4 * (64 * 96 * 25 + 96 + 64 * 4);
 /// energy windows of each device.
 pub const LONGEST_COMPLETION: usize = 70_876;
 
+/// Bytes that hold every case that is written: one of edition 5 with every count at its most.
+pub const LONGEST_CASE: usize = 328_113;
+
+/// Bytes that hold every plan that is written: one of edition 5 with 64 devices and 96 intervals.
+pub const LONGEST_PLAN: usize = 158_427;
+
 /// Bytes of stack that a call takes at most; a thread has 2 MB of it unless told otherwise.
 pub const STACK: usize = 1_500_000;
 
@@ -97,6 +124,29 @@ pub fn judge(case: &[u8], plan: &[u8], result: &mut [u8]) -> Told {
 /// in the order of judging; nothing is written where `list` is too short or a message is refused.
 pub fn breaches(case: &[u8], plan: &[u8], list: &mut [u8]) -> Told {
     told_of_pair(kadunfo_breaches, case, plan, list)
+}
+
+/// Writes a plan, read with its case, to `result` in the newest edition; nothing is written where
+/// `result` is too short or a message is refused.
+pub fn write_plan(case: &[u8], plan: &[u8], result: &mut [u8]) -> Told {
+    told_of_pair(kadunfo_write_plan, case, plan, result)
+}
+
+/// Writes a case to `result` in the newest edition, likewise.
+pub fn write_case(case: &[u8], result: &mut [u8]) -> Told {
+    let mut figures = [0u64; 4];
+    // SAFETY: each pointer comes with the length of its slice, and the slices do not overlap.
+    let word = unsafe {
+        kadunfo_write_case(
+            case.as_ptr(),
+            case.len(),
+            result.as_mut_ptr(),
+            result.len(),
+            figures.as_mut_ptr(),
+            figures.len(),
+        )
+    };
+    Told { word, figures }
 }
 
 /// An exported function of a case, a plan, a lent buffer and figures.

@@ -1,5 +1,6 @@
 //! The corpora through the static library, beside the reference: every verdict and every
-//! completion's bytes, every list of breaches, the rest of the buffers, and every split.
+//! completion's bytes, every list of breaches, every message in the newest edition, the rest of the
+//! buffers, and every split.
 
 mod common;
 #[path = "../examples/packed/lines.rs"]
@@ -8,13 +9,17 @@ mod lines;
 use std::fs;
 
 use common::{each_batch, each_case, each_pair};
-use host::{breaches, inspect, judge, split, word, Told, LONGEST_COMPLETION, LONGEST_LIST};
+use host::{
+    breaches, inspect, judge, split, word, write_case, write_plan, Told, LONGEST_CASE,
+    LONGEST_COMPLETION, LONGEST_LIST, LONGEST_PLAN,
+};
 use reference::batch::{split as expected_split, Split};
 use reference::breaches::breaches as expected_list;
 use reference::case::read_case;
 use reference::form::Form;
 use reference::judge::{judge as expected, Refusal, Verdict};
 use reference::packed::unpack;
+use reference::rewrite::{rewrite_case, rewrite_plan};
 
 /// Longer than any completion, so that bytes behind it are seen to stay.
 const ROOM: usize = LONGEST_COMPLETION + 3;
@@ -148,6 +153,78 @@ fn corpus_agrees_in_every_list() {
     println!("{none} without a breach, {listed} with, {refused} refused; longest {longest} bytes");
     assert!(none > 500 && listed > 1_000 && refused > 500);
     assert!(longest > 500_000 && longest <= LONGEST_LIST);
+}
+
+/// What both sides answer on one message and one buffer's length: answer and buffer alike.
+fn agree_in_writing(
+    room: usize,
+    ours: impl Fn(&mut [u8]) -> Told,
+    theirs: impl Fn(&mut [u8]) -> Result<usize, Refusal>,
+) -> (Told, Vec<u8>) {
+    let mut buffer = vec![BEFORE; room];
+    let mut other = buffer.clone();
+    let answer = ours(&mut buffer);
+    let expected = match theirs(&mut other) {
+        Ok(bytes) => Told {
+            word: word::WRITTEN,
+            figures: [bytes as u64, 0, 0, 0],
+        },
+        Err(refusal) => refused(refusal),
+    };
+    assert_eq!(answer, expected);
+    assert_eq!(buffer, other);
+    (answer, buffer)
+}
+
+/// A message in the newest edition, where it passes reading: with room to spare, with just enough
+/// and with a byte too few.
+fn agree_around_length(
+    longest: usize,
+    ours: impl Fn(&mut [u8]) -> Told,
+    theirs: impl Fn(&mut [u8]) -> Result<usize, Refusal>,
+) -> Option<Vec<u8>> {
+    let (answer, mut message) = agree_in_writing(longest + 3, &ours, &theirs);
+    if answer.word != word::WRITTEN {
+        return None;
+    }
+    let bytes = answer.figures[0] as usize;
+    message.truncate(bytes);
+    let (_, exact) = agree_in_writing(bytes, &ours, &theirs);
+    assert_eq!(exact, message);
+    let (short, untouched) = agree_in_writing(bytes - 1, &ours, &theirs);
+    assert_eq!(short.figures, [7, bytes as u64, 0, 0]);
+    assert!(untouched.iter().all(|&byte| byte == BEFORE));
+    Some(message)
+}
+
+/// Every message in the newest edition, and every written pair judged as the pair it came from.
+#[test]
+fn corpus_agrees_in_every_message_written() {
+    let (mut cases, mut plans, mut own) = (0, 0, 0);
+    each_case(|case, stack| {
+        let ours = |buffer: &mut [u8]| write_case(case, buffer);
+        let theirs = |buffer: &mut [u8]| rewrite_case(case, buffer);
+        let new_case = agree_around_length(LONGEST_CASE, ours, theirs);
+        cases += usize::from(new_case.is_some());
+        for plan in stack {
+            let ours = |buffer: &mut [u8]| write_plan(case, plan, buffer);
+            let theirs = |buffer: &mut [u8]| rewrite_plan(case, plan, buffer);
+            let new_plan = agree_around_length(LONGEST_PLAN, ours, theirs);
+            let (Some(new_case), Some(new_plan)) = (&new_case, new_plan) else {
+                continue;
+            };
+            plans += 1;
+            let mut room = vec![0; ROOM];
+            let judged = judge(case, plan, &mut room);
+            assert_eq!(judge(new_case, &new_plan, &mut room), judged);
+            if case[0] & 15 == 5 {
+                assert_eq!((&new_case[..], &new_plan[..]), (case, &plan[..]));
+                own += 1;
+            }
+        }
+    });
+    println!("{cases} cases and {plans} plans written, {own} pairs as they stood");
+    assert!(cases > 1_000 && plans > 1_500 && own > 200);
 }
 
 /// The larger days as the output beside them has them, line for line.

@@ -1247,3 +1247,124 @@ fn sentences_of_the_corpus_tell_figures_that_break_the_rule() {
     );
     assert!(runs > 150 && lines[1..].iter().all(|&count| count > 50));
 }
+
+/// The worked day of edition 1 in edition 5, and the verdict that it had.
+#[test]
+fn renew_writes_the_newest_edition() {
+    let scratch = Scratch::new("renew");
+    let day = lettered('b');
+    let [case, plan] = scratch.day(&day);
+    let newest = Day {
+        edition: Edition::NEWEST,
+        ..day
+    };
+    let (new_case, new_plan) = newest.messages();
+    let outs = [scratch.path("new-case"), scratch.path("new-plan")];
+    let [case_out, plan_out] = &outs;
+    assert_eq!(answer(&["renew", &case, case_out], 0), "case 258\n");
+    assert_eq!(fs::read(case_out).expect("it is written"), new_case);
+    assert!(!Path::new(plan_out).exists());
+    let lines = answer(&["renew", &case, case_out, &plan, plan_out], 0);
+    assert_eq!(lines, "case 258\nplan 111\n");
+    assert_eq!(fs::read(case_out).expect("it is written"), new_case);
+    assert_eq!(fs::read(plan_out).expect("it is written"), new_plan);
+    let verdict = answer(&["judge", case_out, plan_out], 1);
+    assert_eq!(verdict, "broken 5 2 1 0\n");
+    // Once more, over files that are there: as they stand.
+    let again = [
+        scratch.file("again-case", b"x"),
+        scratch.file("again-plan", b"y"),
+    ];
+    let words = ["renew", case_out, &again[0], plan_out, &again[1]];
+    assert_eq!(answer(&words, 0), "case 258\nplan 111\n");
+    assert_eq!(fs::read(&again[0]).expect("it is written"), new_case);
+    assert_eq!(fs::read(&again[1]).expect("it is written"), new_plan);
+    // Nothing is left beside them.
+    let left = fs::read_dir(&scratch.0).expect("the directory").count();
+    assert_eq!(left, 6);
+}
+
+/// An output that is an input, by whatever name, or the other output; nothing is written.
+#[test]
+fn renew_refuses_an_output_that_is_an_input() {
+    let scratch = Scratch::new("renew-apart");
+    let [case, plan] = scratch.day(&lettered('a'));
+    let before = [&case, &plan].map(|path| fs::read(path).expect("it is there"));
+    let linked = scratch.path("linked");
+    std::os::unix::fs::symlink(&case, &linked).expect("a link");
+    let hard = scratch.path("hard");
+    fs::hard_link(&plan, &hard).expect("a link");
+    let roundabout = format!("{}/./case", scratch.0.display());
+    let [one, other] = [scratch.path("one"), scratch.path("other")];
+    for (words, named) in [
+        (vec![&case, &case], &case),
+        (vec![&case, &linked], &linked),
+        (vec![&case, &roundabout], &roundabout),
+        (vec![&case, &plan, &plan, &one], &plan),
+        (vec![&case, &one, &plan, &case], &case),
+        (vec![&case, &hard, &plan, &one], &hard),
+    ] {
+        let words: Vec<&str> = [vec!["renew"], words.iter().map(|w| w.as_str()).collect()].concat();
+        let line = complaint(&words, 3);
+        assert_eq!(line, format!("desk: {named} is an input (see desk --help)"));
+    }
+    let line = complaint(&["renew", &case, &one, &plan, &one], 3);
+    assert_eq!(
+        line,
+        format!("desk: {one} is written twice (see desk --help)")
+    );
+    assert!(!Path::new(&one).exists() && !Path::new(&other).exists());
+    let after = [&case, &plan].map(|path| fs::read(path).expect("it is there"));
+    assert_eq!(before, after);
+}
+
+/// A refused message, or a place that cannot be written, leaves every output as it was.
+#[test]
+fn renew_writes_whole_files_or_none() {
+    let scratch = Scratch::new("renew-whole");
+    let (case, plan) = lettered('a').messages();
+    let case_file = scratch.file("case", &case);
+    let cut_case = scratch.file("cut-case", &case[..1]);
+    let plan_file = scratch.file("plan", &plan);
+    let cut_plan = scratch.file("cut-plan", &plan[..1]);
+    let [one, other] = [scratch.file("one", b"one"), scratch.file("other", b"other")];
+    let line = complaint(&["renew", &cut_case, &one, &plan_file, &other], 2);
+    assert!(
+        line.starts_with(&format!("refused 1 8: case {cut_case}: ")),
+        "{line}"
+    );
+    let line = complaint(&["renew", &case_file, &one, &cut_plan, &other], 2);
+    assert!(
+        line.starts_with(&format!("refused 1 8: plan {cut_plan}: ")),
+        "{line}"
+    );
+    let nowhere = scratch.path("no-such-folder/out");
+    let line = complaint(&["renew", &case_file, &one, &plan_file, &nowhere], 3);
+    assert!(
+        line.starts_with(&format!("desk: cannot write {nowhere}: ")),
+        "{line}"
+    );
+    let folder = scratch.path("folder");
+    fs::create_dir(&folder).expect("a folder");
+    let line = complaint(&["renew", &case_file, &folder], 3);
+    assert!(
+        line.starts_with(&format!("desk: cannot write {folder}: ")),
+        "{line}"
+    );
+    let line = complaint(&["renew", &scratch.path("absent"), &one], 3);
+    assert!(line.starts_with("desk: cannot read "), "{line}");
+    assert_eq!(fs::read(&one).expect("it is there"), b"one");
+    assert_eq!(fs::read(&other).expect("it is there"), b"other");
+    assert_eq!(fs::read_dir(&scratch.0).expect("the directory").count(), 7);
+    for words in [
+        vec!["renew"],
+        vec!["renew", &case_file],
+        vec!["renew", &case_file, &one, &plan_file],
+    ] {
+        let line = complaint(&words, 3);
+        assert_eq!(
+            line,
+            "desk: usage: desk renew CASE OUT [PLAN OUT] (see desk --help)"
+        );
+    }
+}

@@ -12,6 +12,7 @@
 
 static uint8_t kase[LONGEST_FILE], plan[LONGEST_FILE], batch[LONGEST_FILE];
 static uint8_t result[KADUNFO_LONGEST_COMPLETION], list[KADUNFO_LONGEST_LIST];
+static uint8_t new_case[KADUNFO_LONGEST_CASE], new_plan[KADUNFO_LONGEST_PLAN], again[KADUNFO_LONGEST_CASE];
 static uint64_t figures[4];
 
 static size_t load(const char *path, uint8_t *bytes) {
@@ -56,6 +57,44 @@ static int untouched_when_short(size_t case_length, size_t plan_length) {
     return figures_untouched();
 }
 
+/* The pair in the newest edition is judged, and each message of it is written once more as it stands. */
+static int tell_written(size_t case_length, size_t plan_length) {
+    tell("new-judge", kadunfo_judge(new_case, case_length, new_plan, plan_length, result, sizeof result, figures, 4));
+    if (kadunfo_write_case(new_case, case_length, again, case_length, figures, 4) != KADUNFO_WRITTEN
+        || figures[0] != case_length || memcmp(again, new_case, case_length) != 0)
+        return 0;
+    return kadunfo_write_plan(new_case, case_length, new_plan, plan_length, again, plan_length, figures, 4) == KADUNFO_WRITTEN
+        && figures[0] == plan_length && memcmp(again, new_plan, plan_length) == 0;
+}
+
+/* With three figures nothing is done. */
+static int unwritten_when_short(size_t case_length, size_t plan_length) {
+    memset(again, BEFORE, sizeof again);
+    memset(figures, BEFORE, sizeof figures);
+    if (kadunfo_write_case(kase, case_length, again, sizeof again, figures, 3) != KADUNFO_FIGURES_SHORT
+        || kadunfo_write_plan(kase, case_length, plan, plan_length, again, sizeof again, figures, 3) != KADUNFO_FIGURES_SHORT)
+        return 0;
+    for (size_t i = 0; i < sizeof again; i++)
+        if (again[i] != BEFORE)
+            return 0;
+    return figures_untouched();
+}
+
+static int tell_writing(size_t case_length, size_t plan_length) {
+    tell("write-short", kadunfo_write_plan(kase, case_length, plan, plan_length, new_plan, 1, figures, 4));
+    uint64_t case_word = kadunfo_write_case(kase, case_length, new_case, sizeof new_case, figures, 4);
+    tell("write-case", case_word);
+    size_t new_case_length = (size_t)figures[0];
+    uint64_t plan_word = kadunfo_write_plan(kase, case_length, plan, plan_length, new_plan, sizeof new_plan, figures, 4);
+    tell("write-plan", plan_word);
+    if (!unwritten_when_short(case_length, plan_length))
+        return 0;
+    if (case_word != KADUNFO_WRITTEN || plan_word != KADUNFO_WRITTEN)
+        return 1;
+    kadunfo_write_plan(kase, case_length, plan, plan_length, new_plan, sizeof new_plan, figures, 4);
+    return tell_written(new_case_length, (size_t)figures[0]);
+}
+
 static int tell_pair(size_t case_length, size_t plan_length) {
     tell("inspect", kadunfo_inspect(kase, case_length, figures, 4));
     tell("judge", kadunfo_judge(kase, case_length, plan, plan_length, result, sizeof result, figures, 4));
@@ -64,7 +103,7 @@ static int tell_pair(size_t case_length, size_t plan_length) {
     tell("breaches", word);
     if (word == KADUNFO_LISTED)
         tell_list((size_t)figures[0]);
-    return untouched_when_short(case_length, plan_length);
+    return tell_writing(case_length, plan_length) && untouched_when_short(case_length, plan_length);
 }
 
 static int tell_batch(size_t length) {

@@ -6,7 +6,7 @@ use std::path::{Path, PathBuf};
 use std::process::Command;
 use std::sync::LazyLock;
 
-use host::{LONGEST_COMPLETION, LONGEST_LIST, LONGEST_MESSAGE, STACK};
+use host::{LONGEST_CASE, LONGEST_COMPLETION, LONGEST_LIST, LONGEST_MESSAGE, LONGEST_PLAN, STACK};
 use reference::batch;
 use reference::busiest::busiest_batch;
 use reference::case::read_case;
@@ -67,19 +67,23 @@ fn edition_1_in_c() {
     let (_, plan_b) = days[1].1.messages();
     assert_eq!(
         tell(&case, &plan_a),
-        "inspect 0 2 2 0 0\njudge 0 167860 0 0 0\nshort 0 0 0 0 0\nbreaches 0 0 0 0 0\n"
+        "inspect 0 2 2 0 0\njudge 0 167860 0 0 0\nshort 0 0 0 0 0\nbreaches 0 0 0 0 0\n\
+         write-short 4 7 111 0 0\nwrite-case 0 258 0 0 0\nwrite-plan 0 111 0 0 0\nnew-judge 0 167860 0 0 0\n"
     );
     assert_eq!(
         tell(&case, &plan_b),
-        "inspect 0 2 2 0 0\njudge 1 5 2 1 0\nshort 4 7 4 0 0\nbreaches 0 1 0 0 0\n5 2 1 0\n"
+        "inspect 0 2 2 0 0\njudge 1 5 2 1 0\nshort 4 7 4 0 0\nbreaches 0 1 0 0 0\n5 2 1 0\n\
+         write-short 4 7 111 0 0\nwrite-case 0 258 0 0 0\nwrite-plan 0 111 0 0 0\nnew-judge 1 5 2 1 0\n"
     );
     assert_eq!(
         tell(&case, &plan_a[..1]),
-        "inspect 0 2 2 0 0\njudge 3 1 8 0 0\nshort 3 1 8 0 0\nbreaches 3 1 8 0 0\n"
+        "inspect 0 2 2 0 0\njudge 3 1 8 0 0\nshort 3 1 8 0 0\nbreaches 3 1 8 0 0\n\
+         write-short 3 1 8 0 0\nwrite-case 0 258 0 0 0\nwrite-plan 3 1 8 0 0\n"
     );
     assert_eq!(
         tell(&case[..1], &plan_a[..1]),
-        "inspect 2 1 8 0 0\njudge 2 1 8 0 0\nshort 2 1 8 0 0\nbreaches 2 1 8 0 0\n"
+        "inspect 2 1 8 0 0\njudge 2 1 8 0 0\nshort 2 1 8 0 0\nbreaches 2 1 8 0 0\n\
+         write-short 2 1 8 0 0\nwrite-case 2 1 8 0 0\nwrite-plan 2 1 8 0 0\n"
     );
 }
 
@@ -92,16 +96,19 @@ fn edition_2_in_c() {
     let (_, broken) = days[2].1.messages();
     assert_eq!(
         tell(&case, &accepted),
-        "inspect 0 2 2 0 0\njudge 0 107860 0 0 0\nshort 0 0 0 0 0\nbreaches 0 0 0 0 0\n"
+        "inspect 0 2 2 0 0\njudge 0 107860 0 0 0\nshort 0 0 0 0 0\nbreaches 0 0 0 0 0\n\
+         write-short 4 7 111 0 0\nwrite-case 0 258 0 0 0\nwrite-plan 0 111 0 0 0\nnew-judge 0 107860 0 0 0\n"
     );
     assert_eq!(
         tell(&case, &broken),
-        "inspect 0 2 2 0 0\njudge 1 21 1 2 0\nshort 4 7 4 0 0\nbreaches 0 1 0 0 0\n21 1 2 0\n"
+        "inspect 0 2 2 0 0\njudge 1 21 1 2 0\nshort 4 7 4 0 0\nbreaches 0 1 0 0 0\n21 1 2 0\n\
+         write-short 4 7 111 0 0\nwrite-case 0 258 0 0 0\nwrite-plan 0 111 0 0 0\nnew-judge 1 21 1 2 0\n"
     );
     let (_, of_edition_1) = two_set_day().messages();
     assert_eq!(
         tell(&case, &of_edition_1),
-        "inspect 0 2 2 0 0\njudge 3 2 4 0 0\nshort 3 2 4 0 0\nbreaches 3 2 4 0 0\n"
+        "inspect 0 2 2 0 0\njudge 3 2 4 0 0\nshort 3 2 4 0 0\nbreaches 3 2 4 0 0\n\
+         write-short 3 2 4 0 0\nwrite-case 0 258 0 0 0\nwrite-plan 3 2 4 0 0\n"
     );
 }
 
@@ -115,11 +122,13 @@ fn edition_3_in_c() {
     let days = floor_days();
     assert_eq!(
         tell(&days[0].1),
-        "inspect 0 2 2 0 0\njudge 0 164260 0 0 0\nshort 0 0 0 0 0\nbreaches 0 0 0 0 0\n"
+        "inspect 0 2 2 0 0\njudge 0 164260 0 0 0\nshort 0 0 0 0 0\nbreaches 0 0 0 0 0\n\
+         write-short 4 7 111 0 0\nwrite-case 0 258 0 0 0\nwrite-plan 0 111 0 0 0\nnew-judge 0 164260 0 0 0\n"
     );
     assert_eq!(
         tell(&days[1].1),
-        "inspect 0 2 2 0 0\njudge 1 19 2 1 0\nshort 4 7 4 0 0\nbreaches 0 1 0 0 0\n19 2 1 0\n"
+        "inspect 0 2 2 0 0\njudge 1 19 2 1 0\nshort 4 7 4 0 0\nbreaches 0 1 0 0 0\n19 2 1 0\n\
+         write-short 4 7 111 0 0\nwrite-case 0 258 0 0 0\nwrite-plan 0 111 0 0 0\nnew-judge 1 19 2 1 0\n"
     );
 }
 
@@ -136,15 +145,18 @@ fn edition_4_in_c() {
     let (_, plan_b) = messages.next().expect("day (b)");
     assert_eq!(
         tell(&case, &plan_a),
-        "inspect 0 2 2 0 0\njudge 0 167860 0 0 0\nshort 0 0 0 0 0\nbreaches 0 0 0 0 0\n"
+        "inspect 0 2 2 0 0\njudge 0 167860 0 0 0\nshort 0 0 0 0 0\nbreaches 0 0 0 0 0\n\
+         write-short 4 7 111 0 0\nwrite-case 0 258 0 0 0\nwrite-plan 0 111 0 0 0\nnew-judge 0 167860 0 0 0\n"
     );
     assert_eq!(
         tell(&case, &plan_b),
-        "inspect 0 2 2 0 0\njudge 1 5 2 1 0\nshort 4 7 4 0 0\nbreaches 0 1 0 0 0\n5 2 1 0\n"
+        "inspect 0 2 2 0 0\njudge 1 5 2 1 0\nshort 4 7 4 0 0\nbreaches 0 1 0 0 0\n5 2 1 0\n\
+         write-short 4 7 111 0 0\nwrite-case 0 258 0 0 0\nwrite-plan 0 111 0 0 0\nnew-judge 1 5 2 1 0\n"
     );
     assert_eq!(
         tell(&case, &plan_a[..1]),
-        "inspect 0 2 2 0 0\njudge 3 1 8 0 0\nshort 3 1 8 0 0\nbreaches 3 1 8 0 0\n"
+        "inspect 0 2 2 0 0\njudge 3 1 8 0 0\nshort 3 1 8 0 0\nbreaches 3 1 8 0 0\n\
+         write-short 3 1 8 0 0\nwrite-case 0 258 0 0 0\nwrite-plan 3 1 8 0 0\n"
     );
 }
 
@@ -158,11 +170,13 @@ fn edition_5_in_c() {
     let days = link_days();
     assert_eq!(
         tell(&days[0].1),
-        "inspect 0 2 2 0 0\njudge 0 167860 0 0 0\nshort 0 0 0 0 0\nbreaches 0 0 0 0 0\n"
+        "inspect 0 2 2 0 0\njudge 0 167860 0 0 0\nshort 0 0 0 0 0\nbreaches 0 0 0 0 0\n\
+         write-short 4 7 111 0 0\nwrite-case 0 258 0 0 0\nwrite-plan 0 111 0 0 0\nnew-judge 0 167860 0 0 0\n"
     );
     assert_eq!(
         tell(&days[1].1),
-        "inspect 0 2 2 0 0\njudge 1 27 2 0 0\nshort 4 7 4 0 0\nbreaches 0 1 0 0 0\n27 2 0 0\n"
+        "inspect 0 2 2 0 0\njudge 1 27 2 0 0\nshort 4 7 4 0 0\nbreaches 0 1 0 0 0\n27 2 0 0\n\
+         write-short 4 7 111 0 0\nwrite-case 0 258 0 0 0\nwrite-plan 0 111 0 0 0\nnew-judge 1 27 2 0 0\n"
     );
 }
 
@@ -199,6 +213,8 @@ fn figures_are_the_headers() {
     for (name, wrapper, by_hand) in [
         ("LONGEST_LIST", LONGEST_LIST, 615_808),
         ("LONGEST_COMPLETION", LONGEST_COMPLETION, 70_876),
+        ("LONGEST_CASE", LONGEST_CASE, 328_113),
+        ("LONGEST_PLAN", LONGEST_PLAN, 158_427),
         ("LONGEST_MESSAGE", LONGEST_MESSAGE, 1_048_576),
         ("STACK", STACK, 1_500_000),
     ] {

@@ -4,7 +4,8 @@
 use std::thread;
 
 use host::{
-    breaches, inspect, judge, messages, word, Told, LONGEST_COMPLETION, LONGEST_MESSAGE, STACK,
+    breaches, inspect, judge, messages, word, write_case, write_plan, Told, LONGEST_CASE,
+    LONGEST_COMPLETION, LONGEST_MESSAGE, LONGEST_PLAN, STACK,
 };
 use reference::busiest::busiest_batch;
 use reference::edition::Edition;
@@ -43,4 +44,12 @@ fn promised_stack_is_enough_for_the_largest_day() {
     assert_eq!(short.figures, [7, LONGEST_COMPLETION as u64, 0, 0]);
     let listed = in_promised_stack(|| breaches(case, plan, &mut []));
     assert_eq!((listed.word, listed.figures), (word::LISTED, [0; 4]));
+    let mut new_case = vec![0; LONGEST_CASE];
+    let written = in_promised_stack(|| write_case(case, &mut new_case));
+    assert_eq!(written.figures, [LONGEST_CASE as u64, 0, 0, 0]);
+    assert!(new_case == case);
+    let mut new_plan = vec![0; LONGEST_PLAN];
+    let written = in_promised_stack(|| write_plan(case, plan, &mut new_plan));
+    assert_eq!(written.figures, [LONGEST_PLAN as u64, 0, 0, 0]);
+    assert!(new_plan == plan);
 }

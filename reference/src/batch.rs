@@ -10,6 +10,7 @@ use crate::fault::{Fault, Number};
 use crate::form::Form;
 use crate::judge::{find, Finding};
 use crate::plan::read_plan;
+use crate::rewrite::{newest_case, newest_plan};
 use crate::rules::Place;
 
 const LENGTH_BYTES: usize = 3;
@@ -73,17 +74,21 @@ pub enum Line {
         devices: usize,
         intervals: usize,
         zones: usize,
+        /// The message in the newest edition; no part of the printed line, here and below.
+        rewritten: Vec<u8>,
     },
     Accepted {
         index: usize,
         surplus: i128,
         message: Vec<u8>,
+        rewritten: Vec<u8>,
     },
     Broken {
         index: usize,
         place: Place,
         /// The list of every broken rule, in bytes; no part of the printed line.
         breaches: Vec<u8>,
+        rewritten: Vec<u8>,
     },
     Refused {
         index: usize,
@@ -92,6 +97,18 @@ pub enum Line {
     Framing {
         number: Number,
     },
+}
+
+impl Line {
+    /// The message in the newest edition, where it passes reading.
+    pub fn rewritten(&self) -> Option<&[u8]> {
+        match self {
+            Line::Case { rewritten, .. }
+            | Line::Accepted { rewritten, .. }
+            | Line::Broken { rewritten, .. } => Some(rewritten),
+            Line::Refused { .. } | Line::Framing { .. } => None,
+        }
+    }
 }
 
 impl fmt::Display for Line {
@@ -169,6 +186,7 @@ fn case_line(index: usize, edition: Edition, case: &Case) -> Line {
         devices: case.devices.len(),
         intervals: case.intervals(),
         zones: case.zones.len(),
+        rewritten: newest_case(case),
     }
 }
 
@@ -180,11 +198,13 @@ fn judge_message(edition: Edition, case: &Case, index: usize, message: &[u8]) ->
                 index,
                 place,
                 breaches: bytes_of(&breaches_of(case, &plan)),
+                rewritten: newest_plan(&plan),
             },
             Finding::Accepted { surplus, message } => Line::Accepted {
                 index,
                 surplus,
                 message,
+                rewritten: newest_plan(&plan),
             },
         },
     }

@@ -4,7 +4,7 @@ use std::io::{self, Read, Write};
 use std::process::{Command, Stdio};
 use std::thread;
 
-use crate::batch::{run, Line};
+use crate::batch::{join, run, Line};
 use crate::census::Census;
 use crate::form::Form;
 use crate::generate::batches::{random_batch, random_size};
@@ -99,11 +99,38 @@ fn is_done(settings: &Settings, next: u64, census: &Census) -> bool {
     }
 }
 
-/// Batches that go to the product together.
+/// Batches that go to the product together: each of the seed and, behind it, its messages in the
+/// newest edition.
 struct Chunk {
-    first_batch: u64,
+    /// Of each batch, its number among those of the seed.
+    numbers: Vec<u64>,
     batches: Vec<Vec<u8>>,
     lines: Vec<Vec<Line>>,
+}
+
+impl Chunk {
+    fn add(&mut self, number: u64, batch: Vec<u8>, lines: Vec<Line>) {
+        self.numbers.push(number);
+        self.batches.push(batch);
+        self.lines.push(lines);
+    }
+}
+
+/// The messages of a batch that pass reading, written in the newest edition.
+fn rewritten_batch(lines: &[Line]) -> Vec<u8> {
+    let messages: Vec<&[u8]> = lines.iter().filter_map(Line::rewritten).collect();
+    join(&messages)
+}
+
+/// "the written pair's verdict is the old pair's, place included", and every breach with it.
+fn verdicts(lines: &[Line]) -> Vec<Option<(i128, &[u8])>> {
+    let of_pair = |line| match line {
+        &Line::Accepted { surplus, .. } => Some(Some((surplus, &[][..]))),
+        Line::Broken { breaches, .. } => Some(Some((0, &breaches[..]))),
+        Line::Case { .. } => Some(None),
+        Line::Refused { .. } | Line::Framing { .. } => None,
+    };
+    lines.iter().filter_map(of_pair).collect()
 }
 
 fn next_chunk(settings: &Settings, next: &mut u64, census: &mut Census) -> Chunk {
@@ -114,7 +141,7 @@ fn next_chunk(settings: &Settings, next: &mut u64, census: &mut Census) -> Chunk
         ..
     } = settings;
     let mut chunk = Chunk {
-        first_batch: *next,
+        numbers: Vec::new(),
         batches: Vec::new(),
         lines: Vec::new(),
     };
@@ -126,9 +153,16 @@ fn next_chunk(settings: &Settings, next: &mut u64, census: &mut Census) -> Chunk
         let batch = numbered_batch(form, seed, *next, plans_per_batch);
         let lines = run(form, &batch);
         census.add(&lines);
-        bytes += batch.len();
-        chunk.batches.push(batch);
-        chunk.lines.push(lines);
+        let rewritten = rewritten_batch(&lines);
+        let judged_again = run(form, &rewritten);
+        assert_eq!(
+            verdicts(&judged_again),
+            verdicts(&lines),
+            "batch {next} of seed {seed} is judged otherwise in the newest edition"
+        );
+        bytes += batch.len() + rewritten.len();
+        chunk.add(*next, batch, lines);
+        chunk.add(*next, rewritten, judged_again);
         *next += 1;
     }
     chunk
@@ -168,7 +202,7 @@ impl Chunk {
         let shows_alone = line_alone.is_some();
         let line = line_alone.unwrap_or(in_chunk);
         Ok(Difference {
-            batch: self.first_batch + k as u64,
+            batch: self.numbers[k],
             line: line.number,
             expected: line.expected,
             given: line.given,

@@ -926,7 +926,9 @@ const FILES: &str = "\
   of paper 01; directly after each accepted plan a line `completion BYTES CRC` with the length of
   its completion message and the CRC-32 of it (as zlib's), in decimal; directly after each broken
   plan a line `breaches N CRC` with the number of its breaches and the CRC-32 of their list, four
-  bytes each (rule, interval, device, window), in the order of A.5.
+  bytes each (rule, interval, device, window), in the order of A.5. Behind these, and directly after
+  the line of a case that passes reading, a line `rewritten BYTES CRC` with the length and the CRC-32
+  of that case or plan written in the newest edition (A.9).
 ";
 
 const NUMBERS_NOTE: &str = "\

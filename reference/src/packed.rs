@@ -4,7 +4,9 @@
 //! output is, for batch K from 0, a line `batch K`, then the batch program's lines; directly after
 //! each accepted plan comes `completion BYTES CRC`, the length and the CRC-32 of its completion
 //! message, and directly after each broken one `breaches N CRC`, the length of the list of its
-//! breaches (A.5) and the CRC-32 of the list's 4·N bytes.
+//! breaches (A.5) and the CRC-32 of the list's 4·N bytes. Behind these, and directly after the line
+//! of a case that passes reading, comes `rewritten BYTES CRC`, the length and the CRC-32 of the
+//! message in the newest edition (A.9).
 
 use std::fmt::Write;
 
@@ -63,7 +65,11 @@ pub fn append_output(output: &mut String, number: usize, lines: &[Line]) {
                 let count = breaches.len() / BREACH_BYTES;
                 print(&format_args!("breaches {count} {}", crc32(breaches)));
             }
-            _ => {}
+            Line::Case { .. } | Line::Refused { .. } | Line::Framing { .. } => {}
+        }
+        if let Some(message) = line.rewritten() {
+            let bytes = message.len();
+            print(&format_args!("rewritten {bytes} {}", crc32(message)));
         }
     }
 }

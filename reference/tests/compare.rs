@@ -1,5 +1,6 @@
 //! The long run, against products that agree and products that do not.
 
+use reference::batch::messages;
 use reference::compare::{compare, output_of_program, Difference, Settings, Until};
 use reference::form::Form;
 use reference::packed::{output, unpack};
@@ -114,6 +115,48 @@ fn lists_of_breaches_are_compared() {
     }
 }
 
+/// A message in the newest edition with another length or other bytes is told at its line.
+#[test]
+fn messages_in_the_newest_edition_are_compared() {
+    for change in [(" ", " 1"), ("\n", "1\n")] {
+        let difference = difference_when(|output| {
+            let mut lines: Vec<String> = output.split_inclusive('\n').map(String::from).collect();
+            let is_one = |line: &String| line.starts_with("rewritten ");
+            let first = lines.iter().position(is_one).expect("a case passes");
+            lines[first] = lines[first].replacen(change.0, change.1, 1);
+            lines.concat()
+        });
+        let expected = difference.and_then(|difference| difference.expected);
+        assert!(expected.is_some_and(|line| line.starts_with("rewritten ")));
+    }
+}
+
+/// Behind each batch its messages go to the product in the newest edition, whatever theirs is.
+#[test]
+fn written_pairs_are_judged() {
+    let mut written = 0;
+    let mut product = |packed: &[u8]| {
+        let batches = unpack(packed).expect("batches are packed");
+        for pair in batches.chunks(2) {
+            let [_, rewritten] = pair else {
+                panic!("a batch and its messages in the newest edition");
+            };
+            for message in messages(rewritten) {
+                assert_eq!(message[0] & 15, 5);
+                written += 1;
+            }
+        }
+        Ok(output(Form::BATCH, &batches).into_bytes())
+    };
+    let settings = settings(Until::Batches(60));
+    let (census, difference) = compare(&settings, &mut product, |_| {}).expect("nothing fails");
+    assert_eq!(difference, None);
+    assert!(
+        written > 60 && written <= census.cases + census.plans(),
+        "{census}"
+    );
+}
+
 #[test]
 fn lines_that_miss_or_exceed_are_differences() {
     let missing = difference_when(|output| {
@@ -143,8 +186,9 @@ fn a_difference_that_needs_others_stores_them_all() {
     let (_, difference) = compare(&settings, &mut product, |_| {}).expect("nothing fails");
     let difference = difference.expect("a surplus is changed");
     assert!(!difference.shows_alone);
+    // Twenty, and each in the newest edition.
     assert_eq!(
         unpack(&difference.packed).map(|batches| batches.len()),
-        Ok(20)
+        Ok(40)
     );
 }

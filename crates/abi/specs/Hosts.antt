@@ -11,7 +11,10 @@ use Rattle.tellings.specs.declared.Told.{Told}
 use Rattle.model.specs.declared.Inspected.{Inspected}
 use Rattle.plan_unit.specs.Judges.{Judges}
 use Rattle.case_inspection.specs.Inspection.{Inspects}
-use Rattle.tellings.specs.Told.{toldOf, toldCase, toldList, figuresOf}
+use Rattle.tellings.specs.Told.{toldOf, toldCase, toldList, toldWriting, figuresOf}
+use Rattle.writing.specs.declared.Writing.{Writing}
+use Rattle.rewrites.specs.Steps.{RewritesCase}
+use Rattle.rewrite_unit.specs.Plans.{RewritesPlan}
 use Rattle.breach_unit.specs.Breaches.{ListsBreaches}
 
 -- four numbers stored at the front of a lent slice; nothing is done, and 5 is answered, where it has fewer places
@@ -26,6 +29,14 @@ pub record HostInspects (cs figures told : List ℕ) (r : ℕ) : Type 0 where
 pub record HostLists (cs ps before after figures told : List ℕ) (r : ℕ) : Type 0 where
   pub short : length figures < 4 → (r ≡ 5) × (after ≡ before) × (told ≡ figures)
   pub lists : 4 ≤ length figures → (x : Listing) × ListsBreaches host cs ps before after x × (r ≡ toldList x .word) × (told ≡ figuresOf (toldList x) ++ drop 4 figures)
+
+pub record HostWritesCase (cs before after figures told : List ℕ) (r : ℕ) : Type 0 where
+  pub short : length figures < 4 → (r ≡ 5) × (after ≡ before) × (told ≡ figures)
+  pub writes : 4 ≤ length figures → (x : Writing) × RewritesCase host cs before after x × (r ≡ toldWriting x .word) × (told ≡ figuresOf (toldWriting x) ++ drop 4 figures)
+
+pub record HostWritesPlan (cs ps before after figures told : List ℕ) (r : ℕ) : Type 0 where
+  pub short : length figures < 4 → (r ≡ 5) × (after ≡ before) × (told ≡ figures)
+  pub writes : 4 ≤ length figures → (x : Writing) × RewritesPlan host cs ps before after x × (r ≡ toldWriting x .word) × (told ≡ figuresOf (toldWriting x) ++ drop 4 figures)
 
 -- ---- from what the code answers
 
@@ -49,6 +60,28 @@ module _ (cs ps before figures : List ℕ) where
   lists-told x h j e f = record {
     short = λ k. absurd (omega (arith, h, k));
     lists = λ _. (x, j, ap (λ (x : Told). x .word) e, f ∙ ap (λ (x : Told). figuresOf x ++ drop 4 figures) e);
+  }
+
+module _ (cs before figures : List ℕ) where
+  pub case-short : length figures < 4 → HostWritesCase cs before before figures figures 5
+  case-short h = record { short = λ _. (refl, refl, refl); writes = λ k. absurd (omega (arith, h, k)) }
+
+  pub case-told : {after told : List ℕ} {t : Told} (x : Writing) → 4 ≤ length figures → RewritesCase host cs before after x → t ≡ toldWriting x
+      → told ≡ figuresOf t ++ drop 4 figures → HostWritesCase cs before after figures told (t .word)
+  case-told x h j e f = record {
+    short = λ k. absurd (omega (arith, h, k));
+    writes = λ _. (x, j, ap (λ (x : Told). x .word) e, f ∙ ap (λ (x : Told). figuresOf x ++ drop 4 figures) e);
+  }
+
+module _ (cs ps before figures : List ℕ) where
+  pub plan-short : length figures < 4 → HostWritesPlan cs ps before before figures figures 5
+  plan-short h = record { short = λ _. (refl, refl, refl); writes = λ k. absurd (omega (arith, h, k)) }
+
+  pub plan-told : {after told : List ℕ} {t : Told} (x : Writing) → 4 ≤ length figures → RewritesPlan host cs ps before after x → t ≡ toldWriting x
+      → told ≡ figuresOf t ++ drop 4 figures → HostWritesPlan cs ps before after figures told (t .word)
+  plan-told x h j e f = record {
+    short = λ k. absurd (omega (arith, h, k));
+    writes = λ _. (x, j, ap (λ (x : Told). x .word) e, f ∙ ap (λ (x : Told). figuresOf x ++ drop 4 figures) e);
   }
 
 module _ (cs figures : List ℕ) where

@@ -4,7 +4,8 @@ use tellings::store;
 use tellings::tell;
 use tellings::tell_case;
 use tellings::tell_list;
-ghost use Rattle.abi.specs.Hosts.{HostJudges, HostInspects, HostLists};
+use tellings::tell_writing;
+ghost use Rattle.abi.specs.Hosts.{HostJudges, HostInspects, HostLists, HostWritesCase, HostWritesPlan};
 ghost use Rattle.tellings.specs.Splitting.{HostSplits};
 
 // `judge` for hosts: the word and the figures of the verdict; 5, with nothing done, where `figures` has fewer than four places.
@@ -57,6 +58,41 @@ pub extern "C" fn kadunfo_breaches(
     }
     let x = breach_unit::breaches(case, plan, list);
     let t = tell_list(x);
+    let word = t.word;
+    store(figures, t);
+    word
+}
+
+// `rewrite_case` for hosts: 0 and how many bytes were written, or the refusal; 5, with nothing done, where `figures` has fewer than four places.
+#[no_mangle]
+pub extern "C" fn kadunfo_write_case(case: &[u8], result: &mut [u8], figures: &mut [u64]) -> u64
+    ensures { λ r. ⌜ HostWritesCase (now (case .entry)) (now (result .entry)) (now (result .exit)) (now (figures .entry)) (now (figures .exit)) r ⌝ }
+{
+    if figures.len() < 4 {
+        return 5;
+    }
+    let x = rewrite_unit::rewrite_case(case, result);
+    let t = tell_writing(x);
+    let word = t.word;
+    store(figures, t);
+    word
+}
+
+// `rewrite_plan` for hosts, likewise.
+#[no_mangle]
+pub extern "C" fn kadunfo_write_plan(
+    case: &[u8],
+    plan: &[u8],
+    result: &mut [u8],
+    figures: &mut [u64],
+) -> u64
+    ensures { λ r. ⌜ HostWritesPlan (now (case .entry)) (now (plan .entry)) (now (result .entry)) (now (result .exit)) (now (figures .entry)) (now (figures .exit)) r ⌝ }
+{
+    if figures.len() < 4 {
+        return 5;
+    }
+    let x = rewrite_unit::rewrite_plan(case, plan, result);
+    let t = tell_writing(x);
     let word = t.word;
     store(figures, t);
     word

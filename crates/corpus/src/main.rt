@@ -1,4 +1,5 @@
-// Runs the batches of a corpus, each behind a 32-bit byte length, with a line on each completion's bytes and on each list of breaches.
+// Runs the batches of a corpus, each behind a 32-bit byte length, with a line on each completion's bytes, on each list of breaches and on each message in the
+// newest edition.
 use answers::CELLS;
 use answers::DEVICES;
 use answers::INTERVALS;
@@ -14,12 +15,14 @@ use row_places::Front;
 use row_places::MinimaRow;
 use row_places::SettingRow;
 use row_places::ZoneRow;
+use writing::Writing;
 ghost use mathlib.Core.Path.{_≡_};
 ghost use Prim.Native.Nat.{_^_, _≤_, _<_};
 ghost use lib.ListN.{length};
 ghost use Rattle.model.specs.Editions.{batch};
 ghost use Rattle.decoded_cases.specs.Decoded.{Decoded, Work};
 ghost use Rattle.frames.specs.Frames.{frameRoom};
+ghost use Rattle.plan_header.specs.Plans.{PlanRoom};
 
 fn least(a: u64, b: u64) -> u64
     ensures { λ r. ⌜ (r ≤ a) × (r ≤ b) ⌝ }
@@ -65,12 +68,59 @@ fn print(word: &[u8], n: u64, end: &[u8]) {
     io::write_all(STDOUT_FILENO, end);
 }
 
-// The length and the checksum of the completion that the result holds.
-fn print_completion(needed: u64, result: &[u8]) {
-    let n = least(needed, result.len() as u64) as usize;
-    let bytes = &result[0..n];
-    print(b"completion ", n as u64, b" ");
+// The length and the checksum of the message at the front of a buffer.
+fn print_message(word: &[u8], length: u64, buffer: &[u8]) {
+    let n = least(length, buffer.len() as u64) as usize;
+    let bytes = &buffer[0..n];
+    print(word, n as u64, b" ");
     print(b"", crc(bytes) as u64, b"\n");
+}
+
+// The completion that the result holds.
+fn print_completion(needed: u64, result: &[u8]) {
+    print_message(b"completion ", needed, result);
+}
+
+// A message written in the newest edition; nothing of one that is refused.
+fn print_writing(x: Writing, buffer: &[u8]) {
+    match x {
+        Writing::Written(n) => print_message(b"rewritten ", n, buffer),
+        Writing::Refused(_, _) => {}
+    }
+}
+
+// The most bytes that a case takes in the newest edition, at 16 devices and 48 intervals.
+const WRITTEN: usize = 43743;
+
+fn written_buffer() -> [u8; WRITTEN] {
+    [0u8; WRITTEN]
+}
+
+// The case of a frame in the newest edition, with tables of its own to read it into.
+fn print_case(frame: &[u8]) {
+    let message = layouts::message_at(frame, 0, LIMIT);
+    let mut halves = [0u32; INTERVALS];
+    let zone = row_places::blank_zone();
+    let mut zones = [zone; ZONES];
+    let least = row_places::blank_minima();
+    let mut minima = [least; MINIMA];
+    let device = row_places::blank_device();
+    let mut devices = [device; DEVICES];
+    let cell = row_places::blank_cell();
+    let mut cells = [cell; CELLS];
+    let mut buffer = written_buffer();
+    let x = rewrites::rewrite_case_by(
+        message,
+        DEVICES as u32,
+        INTERVALS as u32,
+        &mut halves,
+        &mut zones,
+        &mut minima,
+        &mut devices,
+        &mut cells,
+        &mut buffer,
+    );
+    print_writing(x, &buffer);
 }
 
 // The most bytes that a list of breaches takes at 16 devices and 48 intervals.
@@ -135,6 +185,55 @@ fn print_breaches(
     }
 }
 
+// A frame's plan in the newest edition; nothing of one that is refused.
+fn print_plan(
+    edition: u32,
+    devices: usize,
+    intervals: usize,
+    settings: &mut [SettingRow],
+    frame: &[u8],
+)
+    requires { ⌜ PlanRoom devices intervals (now settings) ⌝ }
+{
+    let message = layouts::message_at(frame, 0, LIMIT);
+    let mut buffer = written_buffer();
+    let x = rewrites::rewrite_plan_by(message, edition, devices, intervals, settings, &mut buffer);
+    print_writing(x, &buffer);
+}
+
+// What stands behind the line of a frame's plan and its completion.
+fn print_further(
+    accepted: bool,
+    front: Front,
+    halves: &[u32],
+    zones: &[ZoneRow],
+    minima: &[MinimaRow],
+    devices: &[DeviceRow],
+    cells: &[CellRow],
+    settings: &mut [SettingRow],
+    starts: &mut [u32],
+    powers: &mut [u32],
+    frame: &[u8],
+)
+    requires { ⌜ Decoded front (now halves) (now zones) (now minima) (now devices) (now cells)
+        × Work (now halves) (now devices) (now settings) (now starts) (now powers) ⌝ }
+{
+    print_breaches(
+        accepted,
+        front,
+        halves,
+        zones,
+        minima,
+        devices,
+        cells,
+        settings,
+        starts,
+        powers,
+        frame,
+    );
+    print_plan(front.edition, devices.len(), halves.len(), settings, frame);
+}
+
 // The plans of a batch of which `left` bytes are not read yet; answers how many were not read.
 fn run_plans(
     front: Front,
@@ -180,7 +279,7 @@ fn run_plans(
         if !turn.more {
             return turn.rest;
         }
-        print_breaches(
+        print_further(
             turn.accepted,
             front,
             halves,
@@ -197,6 +296,41 @@ fn run_plans(
         index += 1;
     }
     rest
+}
+
+// A batch behind its case's line: the case in the newest edition, then its plans.
+fn run_rest(
+    front: Front,
+    halves: &[u32],
+    zones: &[ZoneRow],
+    minima: &[MinimaRow],
+    devices: &[DeviceRow],
+    cells: &[CellRow],
+    settings: &mut [SettingRow],
+    starts: &mut [u32],
+    powers: &mut [u32],
+    frame: &mut [u8],
+    left: u64,
+) -> u64
+    requires { ⌜ Decoded front (now halves) (now zones) (now minima) (now devices) (now cells)
+        × Work (now halves) (now devices) (now settings) (now starts) (now powers) × (length (now devices) ≤ batch .devices) × (length (now halves) ≤ batch .intervals) ⌝ }
+    requires { ⌜ (length (now frame) ≡ frameRoom) × (left < 2 ^ 32) ⌝ }
+    ensures { λ r. ⌜ r < 2 ^ 32 ⌝ }
+{
+    print_case(frame);
+    run_plans(
+        front,
+        halves,
+        zones,
+        minima,
+        devices,
+        cells,
+        settings,
+        starts,
+        powers,
+        frame,
+        left,
+    )
 }
 
 // A batch of `left` bytes; answers how many were not read. It owns the tables of a case of up to 16 devices and 48 intervals.
@@ -236,7 +370,7 @@ fn run_batch(left: u64) -> u64
         let k = n * m;
         let j = z * m;
         let e = m + 1;
-        run_plans(
+        run_rest(
             front,
             &halves[..m],
             &zones[..z],

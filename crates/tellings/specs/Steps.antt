@@ -14,7 +14,9 @@ use Rattle.model.specs.declared.Listing.{Listing}
 use Rattle.model.specs.declared.Listing.the-variants as L
 use Rattle.model.specs.declared.Inspected.{Inspected}
 use Rattle.model.specs.declared.Inspected.the-variants as I
-use Rattle.tellings.specs.Told.{wordOf, toldOf, toldCase, toldList, toldFrame}
+use Rattle.writing.specs.declared.Writing.{Writing}
+use Rattle.writing.specs.declared.Writing.the-variants as W
+use Rattle.tellings.specs.Told.{wordOf, toldOf, toldCase, toldList, toldWriting, toldFrame}
 
 -- the verdicts
 pub told-accepted : {v : Verdict} {z : ℤ} {n : ℕ} → v ≡ Accepted z → n ≡ toTwos 64 z → record { word = 0; first = n; second = 0; third = 0; fourth = 0 } ≡ toldOf v
@@ -27,6 +29,10 @@ told-refused e g h k = rw (e, g, h, k) refl
 pub told-unlisted : {x : Listing} {s : Subject} {f : Fault} {w n m : ℕ} → x ≡ L.Refused s f → w ≡ wordOf s → n ≡ numberOf f → m ≡ returnedBy f
     → record { word = w; first = n; second = m; third = 0; fourth = 0 } ≡ toldList x
 told-unlisted e g h k = rw (e, g, h, k) refl
+
+pub told-unwritten : {x : Writing} {s : Subject} {f : Fault} {w n m : ℕ} → x ≡ W.Refused s f → w ≡ wordOf s → n ≡ numberOf f → m ≡ returnedBy f
+    → record { word = w; first = n; second = m; third = 0; fourth = 0 } ≡ toldWriting x
+told-unwritten e g h k = rw (e, g, h, k) refl
 
 pub told-fault : {x : Inspected} {f : Fault} {n m : ℕ} → x ≡ I.Refused f → n ≡ numberOf f → m ≡ returnedBy f → record { word = 2; first = n; second = m; third = 0; fourth = 0 } ≡ toldCase x
 told-fault e h k = rw (e, h, k) refl

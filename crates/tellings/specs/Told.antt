@@ -1,5 +1,5 @@
--- What hosts in other languages are told: a word and four numbers for each verdict, for each case that is inspected, for each list of breaches, and for each
--- message that a splitter finds.
+-- What hosts in other languages are told: a word and four numbers for each verdict, for each case that is inspected, for each list of breaches, for each message
+-- that is written, and for each that a splitter finds.
 use mathlib.Core.List.{List, [], _∷_}
 use Prim.Native.Nat.{ℕ}
 use Rattle.layouts.specs.Faults.{numberOf, returnedBy}
@@ -15,6 +15,8 @@ use Rattle.model.specs.declared.Listing.the-variants as L
 use Rattle.tellings.specs.declared.Told.{Told}
 use Rattle.model.specs.declared.Inspected.{Inspected}
 use Rattle.model.specs.declared.Inspected.the-variants as I
+use Rattle.writing.specs.declared.Writing.{Writing}
+use Rattle.writing.specs.declared.Writing.the-variants as W
 
 -- 2 a refused case, 3 a refused plan, 4 a lent buffer too short
 abbrev pub wordOf : Subject → ℕ
@@ -37,6 +39,11 @@ toldCase (I.Refused f) = record { word = 2; first = numberOf f; second = returne
 abbrev pub toldList : Listing → Told
 toldList (L.Listed n) = record { word = 0; first = n; second = 0; third = 0; fourth = 0 }
 toldList (L.Refused s f) = record { word = wordOf s; first = numberOf f; second = returnedBy f; third = 0; fourth = 0 }
+
+-- 0 written: how many bytes; 2 to 4 refused: number, bit or bytes
+abbrev pub toldWriting : Writing → Told
+toldWriting (W.Written n) = record { word = 0; first = n; second = 0; third = 0; fourth = 0 }
+toldWriting (W.Refused s f) = record { word = wordOf s; first = numberOf f; second = returnedBy f; third = 0; fourth = 0 }
 
 -- 0 a message: its first byte and the one behind its last; 1 the end; 2 refused: number, bit
 abbrev pub toldFrame : Framed → Told

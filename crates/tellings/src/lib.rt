@@ -4,12 +4,13 @@ use model::Inspected;
 use model::Listing;
 use model::Subject;
 use model::Verdict;
+use writing::Writing;
 ghost use mathlib.Core.Path.{_≡_};
 ghost use mathlib.Core.List.{_++_};
 ghost use Prim.Native.Nat.{_≤_};
 ghost use lib.ListN.{length, drop};
 ghost use Rattle.tellings.specs.Splitting.{HostSplits};
-ghost use Rattle.tellings.specs.Told.{wordOf, toldOf, toldCase, toldList, toldFrame, figuresOf};
+ghost use Rattle.tellings.specs.Told.{wordOf, toldOf, toldCase, toldList, toldWriting, toldFrame, figuresOf};
 
 pub struct Told {
     pub word: u64,
@@ -107,6 +108,33 @@ pub fn tell_list(x: Listing) -> Told
             fourth: 0,
         },
         Listing::Refused(s, f) => {
+            let word = word_of(s);
+            let number = layouts::number_of(f);
+            let returned = layouts::returned_by(f);
+            Told {
+                word,
+                first: number,
+                second: returned,
+                third: 0,
+                fourth: 0,
+            }
+        }
+    }
+}
+
+// A message written in the newest edition.
+pub fn tell_writing(x: Writing) -> Told
+    ensures { λ r. ⌜ r ≡ toldWriting x ⌝ }
+{
+    match x {
+        Writing::Written(bytes) => Told {
+            word: 0,
+            first: bytes,
+            second: 0,
+            third: 0,
+            fourth: 0,
+        },
+        Writing::Refused(s, f) => {
             let word = word_of(s);
             let number = layouts::number_of(f);
             let returned = layouts::returned_by(f);

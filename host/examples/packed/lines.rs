@@ -1,7 +1,11 @@
 //! The batch program's lines, from what the exported functions answer: behind an accepted plan with
-//! its completion's length and CRC-32, behind a broken one with those of the list of its breaches.
+//! its completion's length and CRC-32, behind a broken one with those of the list of its breaches,
+//! and behind each case and plan that passes reading with those of it in the newest edition.
 
-use host::{breaches, inspect, judge, messages, word, Told, LONGEST_LIST};
+use host::{
+    breaches, inspect, judge, messages, word, write_case, write_plan, Told, LONGEST_CASE,
+    LONGEST_LIST,
+};
 use reference::breaches::BREACH_BYTES;
 use reference::crc::crc32;
 
@@ -31,10 +35,24 @@ fn case_line(index: usize, case: &[u8]) -> (String, bool) {
     let told = inspect(case);
     let [first, second, third, _] = told.figures;
     match told.word {
-        word::INSPECTED => (format!("{index} case {first} {second} {third}\n"), true),
+        word::INSPECTED => {
+            let mut room = vec![0; LONGEST_CASE];
+            let rewritten = rewritten_line(write_case(case, &mut room), &room);
+            (
+                format!("{index} case {first} {second} {third}\n{rewritten}"),
+                true,
+            )
+        }
         word::CASE_REFUSED => (format!("{index} refused {first} {second}\n"), false),
         other => panic!("a case is answered with {other}"),
     }
+}
+
+/// The line of a message that was written to the front of some room.
+fn rewritten_line(told: Told, room: &[u8]) -> String {
+    assert_eq!(told.word, word::WRITTEN, "what passes reading is written");
+    let bytes = told.figures[0] as usize;
+    format!("rewritten {bytes} {}\n", crc32(&room[..bytes]))
 }
 
 /// A case, and the room that is lent with its plans.
@@ -71,15 +89,22 @@ impl<'a> Judging<'a> {
             word::ACCEPTED => {
                 let (surplus, bytes) = (first as i64, self.completion.len());
                 let crc = crc32(&self.completion);
-                format!("{index} accepted {surplus}\ncompletion {bytes} {crc}\n")
+                let rewritten = self.rewritten_line(plan);
+                format!("{index} accepted {surplus}\ncompletion {bytes} {crc}\n{rewritten}")
             }
             word::BROKEN => {
                 let list = self.list_line(plan);
-                format!("{index} broken {first} {second} {third} {fourth}\n{list}")
+                let rewritten = self.rewritten_line(plan);
+                format!("{index} broken {first} {second} {third} {fourth}\n{list}{rewritten}")
             }
             word::PLAN_REFUSED => format!("{index} refused {first} {second}\n"),
             other => panic!("a plan is answered with {other}"),
         }
+    }
+
+    fn rewritten_line(&mut self, plan: &[u8]) -> String {
+        let told = write_plan(self.case, plan, &mut self.list);
+        rewritten_line(told, &self.list)
     }
 
     fn list_line(&mut self, plan: &[u8]) -> String {

@@ -14,13 +14,15 @@ use std::process::ExitCode;
 use host::day::Day;
 use host::describe::describe;
 use host::explain::{explain, Breach};
+use host::files::{is_same_file, Draft};
 use host::message::read_case;
-use host::{breaches, inspect, judge, word, Told};
+use host::{breaches, inspect, judge, word, write_case, write_plan, Told};
 
 const HELP: &str = "\
 usage: desk judge CASE PLAN [--result FILE]
        desk breaches CASE PLAN
        desk inspect CASE
+       desk renew CASE OUT [PLAN OUT]
        desk --help
 
 CASE and PLAN are files that hold one message each.
@@ -30,12 +32,15 @@ judge     prints 'accepted SURPLUS' or 'broken RULE INTERVAL DEVICE WINDOW';
 breaches  prints one line for each broken rule: RULE INTERVAL DEVICE WINDOW, then
           the rule in words with the figures on both sides; or 'no breaches'
 inspect   prints what a case holds
+renew     writes a case in the newest edition to OUT, and with PLAN that plan to
+          the OUT behind it; prints how many bytes each takes. Each OUT is written
+          whole or not at all, and may be neither CASE nor PLAN nor the other OUT
 
 A refused message is told on standard error: 'refused NUMBER BIT', the message
 and what the number means.
 
 Exit status:
-  0  accepted, no breaches, or inspected
+  0  accepted, no breaches, inspected, or written
   1  broken
   2  a message is refused
   3  wrong usage, or a file cannot be read or written
@@ -56,6 +61,12 @@ enum Command {
     },
     Inspect {
         case: PathBuf,
+    },
+    Renew {
+        case: PathBuf,
+        new_case: PathBuf,
+        /// A plan, and where it goes.
+        plan: Option<[PathBuf; 2]>,
     },
 }
 
@@ -184,9 +195,15 @@ fn parse(mut words: Vec<OsString>) -> Result<Command, Trouble> {
             plan: file(1),
         }),
         ("inspect", 1, None) => Ok(Command::Inspect { case: file(0) }),
+        ("renew", 2 | 4, None) => Ok(Command::Renew {
+            case: file(0),
+            new_case: file(1),
+            plan: (files.len() == 4).then(|| [file(2), file(3)]),
+        }),
         ("judge", ..) => wrong_use("judge CASE PLAN [--result FILE]"),
         ("breaches", ..) => wrong_use("breaches CASE PLAN"),
         ("inspect", ..) => wrong_use("inspect CASE"),
+        ("renew", ..) => wrong_use("renew CASE OUT [PLAN OUT]"),
         _ => Err(Trouble::Usage(format!("unknown verb {verb}"))),
     }
 }
@@ -218,6 +235,16 @@ fn perform(command: Command) -> Result<Answer, Trouble> {
         }
         Command::Breaches { case, plan } => list_files(&Pair::read(case, plan)?),
         Command::Inspect { case } => inspect_file(&case),
+        Command::Renew {
+            case,
+            new_case,
+            plan: None,
+        } => renew_case(&case, &new_case),
+        Command::Renew {
+            case,
+            new_case,
+            plan: Some([plan, new_plan]),
+        } => renew_pair(&Pair::read(case, plan)?, &new_case, &new_plan),
     }
 }
 
@@ -271,6 +298,91 @@ fn with_buffer(call: impl Fn(&mut [u8]) -> Told) -> (Told, Vec<u8>) {
     }
     let mut buffer = vec![0; told.figures[1] as usize];
     (call(&mut buffer), buffer)
+}
+
+/// Refuses an output that is an input, which is there, or another output.
+fn hold_apart(inputs: &[&Path], outputs: &[&Path]) -> Result<(), Trouble> {
+    let same =
+        |one: &Path, other: &Path| is_same_file(one, other).map_err(file_trouble("write", other));
+    for (index, output) in outputs.iter().enumerate() {
+        for input in inputs {
+            if same(input, output)? {
+                let output = output.display();
+                return Err(Trouble::Usage(format!("{output} is an input")));
+            }
+        }
+        for other in &outputs[..index] {
+            if same(other, output)? {
+                let output = output.display();
+                return Err(Trouble::Usage(format!("{output} is written twice")));
+            }
+        }
+    }
+    Ok(())
+}
+
+/// The bytes written of a message, as many as the plan unit says, or what is wrong.
+fn written(
+    told: Told,
+    bytes: Vec<u8>,
+    trouble: impl FnOnce(Told) -> Trouble,
+) -> Result<Vec<u8>, Trouble> {
+    match told.word {
+        word::WRITTEN if told.figures[0] == bytes.len() as u64 => Ok(bytes),
+        word::WRITTEN => {
+            let what = "the plan unit's message is not as long as it says";
+            Err(Trouble::Defect(what.to_string()))
+        }
+        _ => Err(trouble(told)),
+    }
+}
+
+fn renewed_case(case: &[u8], path: &Path) -> Result<Vec<u8>, Trouble> {
+    let (told, bytes) = with_buffer(|buffer| write_case(case, buffer));
+    written(told, bytes, |told| match told.word {
+        word::CASE_REFUSED => refused("case", path, told),
+        other => Trouble::Defect(format!("the plan unit answered {other}")),
+    })
+}
+
+/// Writes messages to their places: all beside them first, so that what cannot be written leaves
+/// every place as it was.
+fn put_all(messages: &[(&Path, &[u8])]) -> Result<(), Trouble> {
+    let mut drafts = Vec::new();
+    for (place, bytes) in messages {
+        let draft = Draft::write(place, bytes).map_err(file_trouble("write", place))?;
+        drafts.push((place, draft));
+    }
+    for (place, draft) in drafts {
+        draft.put().map_err(file_trouble("write", place))?;
+    }
+    Ok(())
+}
+
+fn renew_case(path: &Path, place: &Path) -> Result<Answer, Trouble> {
+    let message = read(path)?;
+    hold_apart(&[path], &[place])?;
+    let case = renewed_case(&message, path)?;
+    put_all(&[(place, &case)])?;
+    Ok(Answer {
+        text: format!("case {}\n", case.len()),
+        broken: false,
+    })
+}
+
+fn renew_pair(pair: &Pair, case_place: &Path, plan_place: &Path) -> Result<Answer, Trouble> {
+    hold_apart(
+        &[&pair.case_path, &pair.plan_path],
+        &[case_place, plan_place],
+    )?;
+    let case = renewed_case(&pair.case, &pair.case_path)?;
+    let (told, bytes) = with_buffer(|buffer| write_plan(&pair.case, &pair.plan, buffer));
+    let plan = written(told, bytes, |told| pair.trouble(told))?;
+    put_all(&[(case_place, &case), (plan_place, &plan)])?;
+    Ok(Answer {
+        text: format!("case {}\nplan {}\n", case.len(), plan.len()),
+        broken: false,
+    })
 }
 
 fn judge_files(pair: &Pair, result: Option<&Path>) -> Result<Answer, Trouble> {

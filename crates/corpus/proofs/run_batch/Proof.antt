@@ -57,14 +57,14 @@ add-e c = omega (arith, c .before .before .before .before .before .before .befor
 array-share-prefix-halves : tie.Need-array-share-prefix-halves
 array-share-prefix-halves c = omega (arith, c .before .before .before .before .before .before .before .before .before .before .start .ensures .1 (c .before .if1 .taken) .few-intervals)
 
-slice-aggregate-run-plans : tie.Need-slice-aggregate-run-plans
-slice-aggregate-run-plans c = sym (c .before .before .before .before .before .before .before .before .before .before .before .start .ensures .1 (c .before .before .if1 .taken) .long .halves-long)
+slice-aggregate-run-rest : tie.Need-slice-aggregate-run-rest
+slice-aggregate-run-rest c = sym (c .before .before .before .before .before .before .before .before .before .before .before .start .ensures .1 (c .before .before .if1 .taken) .long .halves-long)
 
 array-share-prefix-zones : tie.Need-array-share-prefix-zones
 array-share-prefix-zones c = omega (arith, c .before .before .before .before .before .before .before .before .before .before .before .start .ensures .1 (c .before .before .if1 .taken) .few-zones)
 
-slice-aggregate-run-plans-2 : tie.Need-slice-aggregate-run-plans-2
-slice-aggregate-run-plans-2 c = sym (c .before .before .before .before .before .before .before .before .before .before .before .before .start .ensures .1
+slice-aggregate-run-rest-2 : tie.Need-slice-aggregate-run-rest-2
+slice-aggregate-run-rest-2 c = sym (c .before .before .before .before .before .before .before .before .before .before .before .before .start .ensures .1
     (c .before .before .before .if1 .taken) .long .zones-long)
 
 array-share-prefix-minima : tie.Need-array-share-prefix-minima
@@ -73,32 +73,32 @@ array-share-prefix-minima c = omega (
   few-minima (c .before .before .before .before .before .before .before .before .before .before .before .before .start .ensures .1 (c .before .before .before .if1 .taken)),
 )
 
-slice-aggregate-run-plans-3 : tie.Need-slice-aggregate-run-plans-3
-slice-aggregate-run-plans-3 c = let earlier : _ = c .before .before .before .before .before .before .before .before .before .before .before .before in
+slice-aggregate-run-rest-3 : tie.Need-slice-aggregate-run-rest-3
+slice-aggregate-run-rest-3 c = let earlier : _ = c .before .before .before .before .before .before .before .before .before .before .before .before in
     let at-start : _ = earlier .before in sym (at-start .start .ensures .1 (c .before .before .before .before .if1 .taken) .long .minima-long)
 
 array-share-prefix-devices : tie.Need-array-share-prefix-devices
 array-share-prefix-devices c = let earlier : _ = c .before .before .before .before .before .before .before .before .before .before .before .before in
     let at-start : _ = earlier .before in omega (arith, at-start .start .ensures .1 (c .before .before .before .before .if1 .taken) .few-devices)
 
-slice-aggregate-run-plans-4 : tie.Need-slice-aggregate-run-plans-4
-slice-aggregate-run-plans-4 c = let earlier : _ = c .before .before .before .before .before .before .before .before .before .before .before .before in
+slice-aggregate-run-rest-4 : tie.Need-slice-aggregate-run-rest-4
+slice-aggregate-run-rest-4 c = let earlier : _ = c .before .before .before .before .before .before .before .before .before .before .before .before in
     let at-start : _ = earlier .before .before in sym (at-start .start .ensures .1 (c .before .before .before .before .before .if1 .taken) .long .devices-long)
 
 array-share-prefix-cells : tie.Need-array-share-prefix-cells
 array-share-prefix-cells c = let earlier : _ = c .before .before .before .before .before .before .before .before .before .before .before .before in
     let at-start : _ = earlier .before .before in omega (arith, few-cells (at-start .start .ensures .1 (c .before .before .before .before .before .if1 .taken)))
 
-slice-aggregate-run-plans-5 : tie.Need-slice-aggregate-run-plans-5
-slice-aggregate-run-plans-5 c = let earlier : _ = c .before .before .before .before .before .before .before .before .before .before .before .before in
+slice-aggregate-run-rest-5 : tie.Need-slice-aggregate-run-rest-5
+slice-aggregate-run-rest-5 c = let earlier : _ = c .before .before .before .before .before .before .before .before .before .before .before .before in
     let at-start : _ = earlier .before .before .before in sym (at-start .start .ensures .1 (c .before .before .before .before .before .before .if1 .taken) .long .cells-long)
 
 array-borrow-prefix-settings : tie.Need-array-borrow-prefix-settings
 array-borrow-prefix-settings c = let earlier : _ = c .before .before .before .before .before .before .before .before .before .before .before .before in
     let at-start : _ = earlier .before .before .before in omega (arith, few-cells (at-start .start .ensures .1 (c .before .before .before .before .before .before .if1 .taken)))
 
-slice-aggregate-run-plans-6 : tie.Need-slice-aggregate-run-plans-6
-slice-aggregate-run-plans-6 c = let earlier : _ = c .before .before .before .before .before .before .before .before .before .before .before .before in
+slice-aggregate-run-rest-6 : tie.Need-slice-aggregate-run-rest-6
+slice-aggregate-run-rest-6 c = let earlier : _ = c .before .before .before .before .before .before .before .before .before .before .before .before in
     let at-start : _ = earlier .before .before .before .before in
     taken _ 768 _ (omega (arith, few-cells (at-start .start .ensures .1 (c .before .before .before .before .before .before .before .if1 .taken))))
 
@@ -106,8 +106,8 @@ array-borrow-prefix-starts : tie.Need-array-borrow-prefix-starts
 array-borrow-prefix-starts c = let earlier : _ = c .before .before .before .before .before .before .before .before .before .before .before .before in
     let at-start : _ = earlier .before .before .before .before in omega (arith, at-start .start .ensures .1 (c .before .before .before .before .before .before .before .if1 .taken) .few-intervals)
 
-slice-aggregate-run-plans-7 : tie.Need-slice-aggregate-run-plans-7
-slice-aggregate-run-plans-7 c = let earlier : _ = c .before .before .before .before .before .before .before .before .before .before .before .before in
+slice-aggregate-run-rest-7 : tie.Need-slice-aggregate-run-rest-7
+slice-aggregate-run-rest-7 c = let earlier : _ = c .before .before .before .before .before .before .before .before .before .before .before .before in
     let at-start : _ = earlier .before .before .before .before .before in
     taken _ 49 _ (omega (arith, at-start .start .ensures .1 (c .before .before .before .before .before .before .before .before .if1 .taken) .few-intervals))
 
@@ -116,16 +116,16 @@ array-borrow-prefix-powers c = let earlier : _ = c .before .before .before .befo
     let at-start : _ = earlier .before .before .before .before .before in
     omega (arith, few-cells (at-start .start .ensures .1 (c .before .before .before .before .before .before .before .before .if1 .taken)))
 
-slice-aggregate-run-plans-8 : tie.Need-slice-aggregate-run-plans-8
-slice-aggregate-run-plans-8 c = let earlier : _ = c .before .before .before .before .before .before .before .before .before .before .before .before in
+slice-aggregate-run-rest-8 : tie.Need-slice-aggregate-run-rest-8
+slice-aggregate-run-rest-8 c = let earlier : _ = c .before .before .before .before .before .before .before .before .before .before .before .before in
     let at-start : _ = earlier .before .before .before .before .before .before in
     taken _ 768 _ (omega (arith, few-cells (at-start .start .ensures .1 (c .before .before .before .before .before .before .before .before .before .if1 .taken))))
 
-slice-aggregate-run-plans-9 : tie.Need-slice-aggregate-run-plans-9
-slice-aggregate-run-plans-9 c = search needs
+slice-aggregate-run-rest-9 : tie.Need-slice-aggregate-run-rest-9
+slice-aggregate-run-rest-9 c = search needs
 
-run-plans-requires : tie.Need-run-plans-requires
-run-plans-requires c κs = let earlier : _ = c .before .before .before .before .before .before .before .before .before .before .before .before in
+run-rest-requires : tie.Need-run-rest-requires
+run-rest-requires c κs = let earlier : _ = c .before .before .before .before .before .before .before .before .before .before .before .before in
     let at-start : _ = earlier .before .before .before .before .before .before .before in
     let entry : _ = at-start .before .before .before .before .before .before .before .before .before .before .before .before in
     let d = at-start .start .ensures .1 (c .before .before .before .before .before .before .before .before .before .before .if1 .taken) in
@@ -150,7 +150,7 @@ returns-2 c = let earlier : _ = c .before .before .before .before .before .befor
 pub run-batch-spec : {M : Type 1} → statement M
 run-batch-spec = tie.close (tie.spec frame-buffer-requires blank-zone-requires blank-minima-requires blank-device-requires blank-cell-requires
     slice-aggregate-start slice-aggregate-start-2 slice-aggregate-start-3 slice-aggregate-start-4 slice-aggregate-start-5 slice-aggregate-start-6 start-requires
-    blank-setting-requires mul-k mul-j add-e array-share-prefix-halves slice-aggregate-run-plans array-share-prefix-zones slice-aggregate-run-plans-2
-    array-share-prefix-minima slice-aggregate-run-plans-3 array-share-prefix-devices slice-aggregate-run-plans-4 array-share-prefix-cells
-    slice-aggregate-run-plans-5 array-borrow-prefix-settings slice-aggregate-run-plans-6 array-borrow-prefix-starts slice-aggregate-run-plans-7
-    array-borrow-prefix-powers slice-aggregate-run-plans-8 slice-aggregate-run-plans-9 run-plans-requires returns returns-2)
+    blank-setting-requires mul-k mul-j add-e array-share-prefix-halves slice-aggregate-run-rest array-share-prefix-zones slice-aggregate-run-rest-2
+    array-share-prefix-minima slice-aggregate-run-rest-3 array-share-prefix-devices slice-aggregate-run-rest-4 array-share-prefix-cells
+    slice-aggregate-run-rest-5 array-borrow-prefix-settings slice-aggregate-run-rest-6 array-borrow-prefix-starts slice-aggregate-run-rest-7
+    array-borrow-prefix-powers slice-aggregate-run-rest-8 slice-aggregate-run-rest-9 run-rest-requires returns returns-2)

@@ -92,8 +92,8 @@ returns c = let earlier : _ = c .before .before .before .before .before .before 
     let turn : _ = earlier .before .before .before .before .before .before in
     omega (arith, c .before .before .before .before .before .before .before .before .before .before .before .next .ensures .0, turn .loop .inv .0)
 
-print-breaches-requires : tie.Need-print-breaches-requires Inv-loop μ-loop
-print-breaches-requires c κs = let told : _ = c .before .before .before .before .before .before .before .before .before .before in
+print-further-requires : tie.Need-print-further-requires Inv-loop μ-loop
+print-further-requires c κs = let told : _ = c .before .before .before .before .before .before .before .before .before .before in
     let answered : _ = told .before .before .before .before .before in let turn : _ = answered .before .before .before .before .before .before .before in
     let k : _ = answered .next .kept .1 .1 .1 .1 .1 .1 in (turn .before .before .before .before .before .before .before .pre .0 .0, work-kept (turn .loop .inv .3) (k .0) (k .1 .0) (k .1 .1 .0))
 
@@ -111,7 +111,7 @@ loop-again : tie.Need-loop-again Inv-loop μ-loop
 loop-again c = let told : _ = c .before .before .before .before .before .before .before .before .before .before in
     let answered : _ = told .before .before .before .before .before .before .before .before .before .before .before in
     let turn : _ = answered .before .before .before .before .before .before .before in
-    let k : _ = answered .next .kept .1 .1 .1 .1 .1 .1 in let l : _ = c .before .before .before .before .before .print-breaches .kept .1 .1 .1 .1 .1 .1 .1 in (
+    let k : _ = answered .next .kept .1 .1 .1 .1 .1 .1 in let l : _ = c .before .before .before .before .before .print-further .kept .1 .1 .1 .1 .1 .1 .1 in (
       (
         omega (arith, answered .next .ensures .1 (not-false _ (told .if2 .left)), turn .loop .inv .0),
         omega (arith, answered .next .ensures .0, turn .loop .inv .0),
@@ -138,5 +138,5 @@ returns-2 c = omega (arith, c .before .loop .inv .0)
 
 pub run-plans-spec : {M : Type 1} → statement M
 run-plans-spec = tie.close (tie.spec Inv-loop μ-loop completion-bytes-requires result-buffer-requires loop-holds slice-aggregate-next next-requires
-    slice-aggregate-print-completion print-completion-requires same-length same-length-2 same-length-3 same-length-4 returns print-breaches-requires add-index loop-less loop-again
+    slice-aggregate-print-completion print-completion-requires same-length same-length-2 same-length-3 same-length-4 returns print-further-requires add-index loop-less loop-again
     same-length-5 same-length-6 same-length-7 same-length-8 returns-2)
