@@ -8,7 +8,6 @@ use borrow.Author.Tests.{leb-true, leb-false}
 use lib.Dec.{leb}
 use lib.ListN.{length}
 use Rattle.layouts.specs.declared.Fault.{Fault}
-use Rattle.layouts.specs.declared.Fault.the-variants.{TooShort}
 use Rattle.layouts.specs.Layout.{Whole, passes, fails}
 use Rattle.model.specs.declared.Subject.{Subject}
 use Rattle.model.specs.declared.Subject.the-variants as S
@@ -100,9 +99,6 @@ listed-count a b = cc
 not-listed : {P : Type 0} {r : Listing} {s : Subject} {f : Fault} {n : ℕ} → r ≡ L.Refused s f → r ≡ L.Listed n → P
 not-listed a b = apart (cc)
 
-short-by : {r : Listing} {s : Subject} {f : Fault} {k room : ℕ} → r ≡ L.Refused S.Result (TooShort k) → r ≡ L.Refused s f → room < k → Short k room s f
-short-by {r} {s} {f} {k} a e h = let g : TooShort k ≡ f = cc in record { message = cc; number = rw (sym g) refl; returned = rw (sym g) refl; truly = h }
-
 module _ (x : Stated) (p : Plan) (before : List ℕ) (r : Listings) (m : Lists x p before r) where
   abbrev needed : ℕ
   needed = length (listBytes (breaches (x .case .system) p))
@@ -114,14 +110,14 @@ module _ (x : Stated) (p : Plan) (before : List ℕ) (r : Listings) (m : Lists x
       go true h =
           let f = m .fits (leb-true _ _ h) in
           record { entries = breaches (x .case .system) p; count = listed-count (f .0) e; bytes = f .1; fail = m .entry; all = m .every; order = m .order }
-      go false h = not-listed (m .too-long (leb-false _ _ h) .0) e
+      go false h = not-listed (m .too-long (leb-false _ _ h) .answer) e
 
   as-short : (s : Subject) (f : Fault) → r .answer ≡ L.Refused s f → Short needed (length before) s f × (r .list ≡ before)
   as-short s f e = go (leb needed (length before)) refl
     where
       go : (b : Bool) → leb needed (length before) ≡ b → Short needed (length before) s f × (r .list ≡ before)
       go true h = not-listed e (m .fits (leb-true _ _ h) .0)
-      go false h = let k = leb-false _ _ h in let t = m .too-long k in (short-by (t .0) e k, t .1)
+      go false h = (m .only-long s f e, m .too-long (leb-false _ _ h) .untouched)
 
 module _ (l : Largest) (most : l .devices ≤ mostDevices) (long : l .intervals ≤ mostIntervals) where
   audited : (cs ps before : List ℕ) → Audited l cs ps before (judgement l cs ps before)
