@@ -224,7 +224,7 @@ fn corpus_agrees_in_every_message_written() {
         }
     });
     println!("{cases} cases and {plans} plans written, {own} pairs as they stood");
-    assert!(cases > 1_000 && plans > 1_500 && own > 200);
+    assert!(cases > 700 && plans > 3_000 && own > 500);
 }
 
 /// The larger days as the output beside them has them, line for line.

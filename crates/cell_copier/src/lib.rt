@@ -1,9 +1,11 @@
 // A device's cells copied bit by bit into a message of the newest edition.
 ghost use Rattle.bits.specs.Pick.{pick};
 ghost use Rattle.layouts.specs.Since.{has};
-ghost use Rattle.writing.specs.Splice.{keep, add, by, _⨾_, times};
+ghost use Prim.Native.Nat.{_^_, _<_};
+ghost use Rattle.writing.specs.Splice.{keep, add, _⨾_, times};
 ghost use Rattle.writing.specs.CaseSplices.{blockSplice, cellSplice};
 ghost use Rattle.bit_copier.specs.Moves.{Set, Moves};
+ghost use Rattle.cell_copier.specs.Runs.{offerSplice};
 use bit_copier::Copier;
 use bit_copier::add_field;
 use bit_copier::keep_field;
@@ -11,17 +13,19 @@ use bit_copier::keep_run;
 use bit_copier::keep_since;
 use bit_copier::next_field;
 
-// The widths of a cell's fields: status; pmin and pmax; the count of blocks, each with cap, floor and price; eight reserve prices; then reactive limits and
+// The widths of a cell's fields: status, pmin and pmax; the count of blocks, each with cap, floor and price; eight reserve prices, then reactive limits and
 // prices.
 const STATUS_BITS: u64 = 2;
 
 const KW_BITS: u64 = 17;
 
-const LIMITS_BITS: u64 = 2 * KW_BITS;
+const HEAD_BITS: u64 = STATUS_BITS + 2 * KW_BITS;
 
 const COUNT_BITS: u64 = 3;
 
 const PRICE_BITS: u64 = 15;
+
+const BLOCK_BITS: u64 = 2 * KW_BITS + PRICE_BITS;
 
 const RESERVES_BITS: u64 = 8 * 14;
 
@@ -30,6 +34,8 @@ const REACTIVE_LIMITS_BITS: u64 = 2 * 18;
 const REACTIVE_PRICES_BITS: u64 = 2 * 14;
 
 const REACTIVE_BITS: u64 = REACTIVE_LIMITS_BITS + REACTIVE_PRICES_BITS;
+
+const REST_BITS: u64 = RESERVES_BITS + REACTIVE_BITS;
 
 // The editions with which reactive power and floors came.
 const REACTIVE_EDITION: u32 = 2;
@@ -60,16 +66,6 @@ fn copy_each_block(s: &[u8], buf: &mut [u8], q: Copier, edition: u32, n: u64) ->
     t
 }
 
-// "blocks 3 (0..4)", and that many.
-fn copy_blocks(s: &[u8], buf: &mut [u8], q: Copier, edition: u32) -> Copier
-    requires { ⌜ Set (now s) q ⌝ }
-    ensures { λ r. ⌜ Moves (by 3 3 (λ n. times n (blockSplice edition ⨾ keep 15))) (now (s .entry)) (now (buf .entry)) (now (buf .exit)) q r ⌝ }
-{
-    let n = next_field(s, q, COUNT_BITS);
-    let q = keep_field(s, buf, q, COUNT_BITS);
-    copy_each_block(s, buf, q, edition, n)
-}
-
 // What a cell has of reactive power, since edition 2: neutral figures are all 0.
 fn copy_reactive(s: &[u8], buf: &mut [u8], q: Copier, edition: u32) -> Copier
     requires { ⌜ Set (now s) q ⌝ }
@@ -82,16 +78,29 @@ fn copy_reactive(s: &[u8], buf: &mut [u8], q: Copier, edition: u32) -> Copier
     keep_run(s, buf, q, REACTIVE_BITS)
 }
 
-// A device in one interval.
+// What stands behind the count of blocks: since edition 3 as it stands in the newest.
+fn copy_offer(s: &[u8], buf: &mut [u8], q: Copier, edition: u32, n: u64) -> Copier
+    requires { ⌜ Set (now s) q × (n < 2 ^ 3) ⌝ }
+    ensures { λ r. ⌜ Moves (offerSplice edition n) (now (s .entry)) (now (buf .entry)) (now (buf .exit)) q r ⌝ }
+{
+    if edition < FLOOR_EDITION {
+        let q = copy_each_block(s, buf, q, edition, n);
+        let q = keep_run(s, buf, q, RESERVES_BITS);
+        return copy_reactive(s, buf, q, edition);
+    }
+    let blocks = n * BLOCK_BITS;
+    keep_run(s, buf, q, blocks + REST_BITS)
+}
+
+// A device in one interval: status and limits, "blocks 3 (0..4)", and the rest.
 fn copy_cell(s: &[u8], buf: &mut [u8], q: Copier, edition: u32) -> Copier
     requires { ⌜ Set (now s) q ⌝ }
     ensures { λ r. ⌜ Moves (cellSplice edition) (now (s .entry)) (now (buf .entry)) (now (buf .exit)) q r ⌝ }
 {
-    let q = keep_field(s, buf, q, STATUS_BITS);
-    let q = keep_field(s, buf, q, LIMITS_BITS);
-    let q = copy_blocks(s, buf, q, edition);
-    let q = keep_run(s, buf, q, RESERVES_BITS);
-    copy_reactive(s, buf, q, edition)
+    let q = keep_field(s, buf, q, HEAD_BITS);
+    let n = next_field(s, q, COUNT_BITS);
+    let q = keep_field(s, buf, q, COUNT_BITS);
+    copy_offer(s, buf, q, edition, n)
 }
 
 // A device's cells.
