@@ -1,5 +1,5 @@
-//! The batch program while its input is not ready: it sleeps between two tries, and answers as it
-//! does to input that is. It is the program that `rt check batch` builds into `target/bin` of the
+//! The batch program while its input is not ready: it sleeps between two tries, so that fifty take
+//! half a second and not some microseconds, and answers as it does to input that is. It is the program that `rt check batch` builds into `target/bin` of the
 //! repository.
 
 use std::fs;
@@ -9,25 +9,25 @@ use std::os::fd::OwnedFd;
 use std::os::unix::net::UnixStream;
 use std::process::{Command, Stdio};
 use std::thread::sleep;
-use std::time::Duration;
+use std::time::{Duration, Instant};
 
 const PROGRAM: &str = concat!(env!("CARGO_MANIFEST_DIR"), "/../target/bin/batch");
 const INPUT: &str = concat!(env!("CARGO_MANIFEST_DIR"), "/../crates/batch/stdin");
 const OUTPUT: &str = concat!(env!("CARGO_MANIFEST_DIR"), "/../crates/batch/stdout");
 
-/// How long the program waits, and the most of it that it may spend on a processor: a hundred
-/// tries take some milliseconds, one try after the other takes the whole second.
-const WAIT: Duration = Duration::from_secs(1);
-const MOST_TICKS: u64 = 20;
+/// How long the program sleeps between two tries, and how many tries the input stays away for.
+const PAUSE: Duration = Duration::from_millis(10);
+const TRIES: u32 = 50;
 
-/// Hundredths of a second that a process has spent on a processor, for itself and in the system:
-/// figures 14 and 15 of its `stat`. The name, which is the second, stands in parentheses.
-fn ticks(process: u32) -> u64 {
-    let stat = fs::read_to_string(format!("/proc/{process}/stat")).expect("the process runs");
-    let (_, behind_name) = stat.rsplit_once(") ").expect("a name");
-    let figures: Vec<&str> = behind_name.split(' ').collect();
-    let figure = |number: usize| figures[number - 3].parse::<u64>().expect("a figure");
-    figure(14) + figure(15)
+/// Reads among them that have nothing to do with waiting: the system's when it loads the program,
+/// and the program's of what is there.
+const OTHER_READS: u32 = 15;
+
+/// How many reads a process has made, those that found nothing included: `syscr` of its `io`.
+fn reads(process: u32) -> u32 {
+    let io = fs::read_to_string(format!("/proc/{process}/io")).expect("the process runs");
+    let line = io.lines().find_map(|line| line.strip_prefix("syscr: "));
+    line.expect("a count").parse().expect("a number")
 }
 
 #[test]
@@ -46,8 +46,12 @@ fn waiting_sleeps() {
 
     let (begun, rest) = input.split_at(input.len() / 2);
     sender.write_all(begun).expect("the first half is sent");
-    sleep(WAIT);
-    let spent = ticks(program.id());
+    let since = Instant::now();
+    let last = reads(program.id()) + TRIES;
+    while reads(program.id()) < last {
+        sleep(Duration::from_millis(1));
+    }
+    let waited = since.elapsed();
     sender.write_all(rest).expect("the second half is sent");
     sender.shutdown(Shutdown::Write).expect("the input ends");
 
@@ -56,5 +60,5 @@ fn waiting_sleeps() {
     output.read_to_end(&mut answers).expect("the output ends");
     program.wait().expect("the program ends");
     assert_eq!(answers, expected);
-    assert!(spent <= MOST_TICKS, "{spent} hundredths of a second");
+    assert!(waited >= PAUSE * (TRIES - OTHER_READS), "{waited:?}");
 }

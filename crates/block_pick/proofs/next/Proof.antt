@@ -1,56 +1,25 @@
--- What was found is the next of the blocks passed.
-use mathlib.Core.Path.{_≡_, refl, _∙_}
-use mathlib.Core.Logic.{⊎-elim}
-use Prim.Native.Nat.{_≤_, _-_}
+-- A full offer has four blocks.
+use mathlib.Core.Path.{sym, ap, _∙_}
+use Prim.Native.Nat.{ℕ}
 use native.Mathlib.Omega.{arith}
-use borrow.Author.Tests.{not-true, not-false}
 use lib.Dec.{eqb}
-use Rattle.block_pick.specs.Order.{aheadIn}
-use Rattle.block_pick.specs.Picks.{nextUpTo, found-below, found-same, found-better, picks-of}
+use borrow.Author.Needs.{needs}
+use Rattle.block_pick.specs.Picks.{nextOf, picks-of}
 use Rattle.block_pick.proofs.next.Statement.{statement}
 use Rattle.block_pick.proofs.next.Tie as tie
 
-abbrev Inv-loop : tie.InvT-loop
-Inv-loop side prices blocks picked found₀ k₀ found k = (k ≤ blocks) × (found ≡ nextUpTo (aheadIn (eqb side 1) prices) picked k)
+next-among-requires : tie.Need-next-among-requires
+next-among-requires c κs = omega arith
 
-abbrev μ-loop : tie.MeasureT-loop
-μ-loop side prices blocks picked found₀ k₀ found k = blocks - k
+returns : tie.Need-returns
+returns c = let a : _ = c .before .before .args in
+    picks-of (eqb (a .side) 1) (a .prices) (a .blocks) (a .picked) (c .next-among .ensures ∙ ap (λ (n : ℕ). nextOf (eqb (a .side) 1) (a .prices) n (a .picked)) (sym (c .before .if1 .taken)))
 
-loop-holds : tie.Need-loop-holds Inv-loop μ-loop
-unfolding nextUpTo
-loop-holds c = (omega arith, refl)
+next-among-requires-2 : tie.Need-next-among-requires-2
+next-among-requires-2 c κs = search needs
 
-array-read-if1 : tie.Need-array-read-if1 Inv-loop μ-loop
-array-read-if1 c = omega arith
-
-better-of-requires : tie.Need-better-of-requires Inv-loop μ-loop
-better-of-requires c κs =
-    let at-loop : _ = c .before .before in
-    let a : _ = at-loop .before .args in
-    (omega arith, found-below (eqb (a .side) 1) (a .prices) (a .t4) (at-loop .loop .k) (at-loop .loop .inv .1))
-
-add-k : tie.Need-add-k Inv-loop μ-loop
-add-k c = omega arith
-
-loop-less : tie.Need-loop-less Inv-loop μ-loop
-loop-less c = omega arith
-
-loop-again : tie.Need-loop-again Inv-loop μ-loop
-loop-again c =
-    let at-loop : _ = c .before .before in
-    let a : _ = at-loop .before .args in
-    let e : _ = at-loop .loop .inv .1 in
-    ⊎-elim
-    (λ w. (omega arith, w .2 ∙ found-better (eqb (a .side) 1) (a .prices) (a .t4) (at-loop .loop .k) e (not-true _ (w .0 .taken)) (w .1 .ensures)))
-    (λ w. (omega arith, w .1 ∙ found-same (eqb (a .side) 1) (a .prices) (a .t4) (at-loop .loop .k) e (not-false _ (w .0 .left))))
-    (c .if1 .came)
-
-returns : tie.Need-returns Inv-loop μ-loop
-returns c =
-    let at-loop : _ = c .before in
-    let a : _ = at-loop .before .args in
-    let e : at-loop .loop .k ≡ a .blocks = omega arith in
-    picks-of (eqb (a .side) 1) (a .prices) (a .blocks) (a .t4) (rw e at (at-loop .loop .inv .1))
+returns-2 : tie.Need-returns-2
+returns-2 c = let a : _ = c .before .before .args in picks-of (eqb (a .side) 1) (a .prices) (a .blocks) (a .picked) (c .next-among2 .ensures)
 
 pub next-spec : {M : Type 1} → statement M
-next-spec = tie.close (tie.spec Inv-loop μ-loop loop-holds array-read-if1 better-of-requires add-k loop-less loop-again returns)
+next-spec = tie.close (tie.spec next-among-requires returns next-among-requires-2 returns-2)
