@@ -111,8 +111,8 @@ fn the_first_breach_may_differ() {
     assert_eq!(list, [[16, 2, 1, 0], [19, 2, 1, 0], [5, 2, 2, 0]]);
 }
 
-/// Of edition 1 with an energy window on either set: 19 bits, two intervals of two devices of 73
-/// bits and a mismatch of 23, an overrun for each set, the surplus.
+/// Of edition 1 with energy windows on both sets: 22 bits, two intervals of two devices of 73
+/// bits and a mismatch of 23, one overrun of set 1 and two of set 2, the surplus.
 #[test]
 fn the_worked_completion_swapped_by_its_bits() {
     let window = |energy| EnergyWindow {
@@ -137,8 +137,8 @@ fn the_worked_completion_swapped_by_its_bits() {
     };
     let (old, new) = (accepted(&day), accepted(&renumbered(&swap(), &day)));
     assert_eq!(old.len(), new.len());
-    assert_eq!(bits(&old, 0, 19), bits(&new, 0, 19));
-    for interval in [19, 19 + 2 * 73 + 23] {
+    assert_eq!(bits(&old, 0, 22), bits(&new, 0, 22));
+    for interval in [22, 22 + 2 * 73 + 23] {
         assert_eq!(bits(&old, interval, 73), bits(&new, interval + 73, 73));
         assert_eq!(bits(&old, interval + 73, 73), bits(&new, interval, 73));
         assert_eq!(
@@ -147,11 +147,11 @@ fn the_worked_completion_swapped_by_its_bits() {
         );
     }
     // In interval 1 both sets have 30 kW in their first block; in interval 2 set 1 starts.
-    assert_ne!(bits(&old, 188, 73), bits(&new, 188, 73));
-    let overruns = |bytes: &[u8]| [0, 1, 2].map(|k| bits(bytes, 357 + 32 * k, 32));
+    assert_ne!(bits(&old, 191, 73), bits(&new, 191, 73));
+    let overruns = |bytes: &[u8]| [0, 1, 2].map(|k| bits(bytes, 360 + 32 * k, 32));
     assert_eq!(overruns(&old), [1_000, 10, 0]);
     assert_eq!(overruns(&new), [10, 0, 1_000]);
-    assert_eq!(bits(&old, 453, 64), bits(&new, 453, 64));
+    assert_eq!(bits(&old, 456, 64), bits(&new, 456, 64));
     assert_eq!(swap().message(day.edition, &day.case, &old), new);
 }
 
