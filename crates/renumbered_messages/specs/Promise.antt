@@ -1,9 +1,8 @@
 -- "Renumbering sets" on messages: what judging and listing the bytes of two pairs of a case and a plan give back, if the devices of the second are those of the first, rearranged.
-use mathlib.Core.Path.{_≡_, refl, sym, _∙_, ap}
+use mathlib.Core.Path.{_≡_, sym, _∙_, ap}
 use mathlib.Core.Logic.{_↔_}
-use mathlib.Core.List.{List, [], _∷_, _++_}
+use mathlib.Core.List.{List, _++_}
 use Prim.Native.Nat.{ℕ, _*_, _≤_}
-use native.Mathlib.Omega.{arith}
 use lib.Dec.{leb}
 use lib.ListN.{length, take, drop}
 use lib.IntN.{ℤ}
@@ -11,7 +10,6 @@ use Rattle.bits.specs.Pick.{pick}
 use Rattle.layouts.specs.Layout.{passes, readWhole}
 use Rattle.layouts.specs.declared.Fault.the-variants.{TooShort}
 use Rattle.model.specs.declared.Breach.{Breach}
-use Rattle.model.specs.declared.Verdict.{Verdict}
 use Rattle.model.specs.declared.Verdict.the-variants.{Accepted}
 use Rattle.model.specs.declared.Subject.the-variants as S
 use Rattle.model.specs.declared.Listing.the-variants.{Listed, Refused}
