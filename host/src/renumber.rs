@@ -3,9 +3,7 @@
 
 use std::ops::Range;
 
-use crate::message::{
-    read_case, read_placed_case, read_placed_plan, read_plan, Case, Plan, Row, Setting,
-};
+use crate::message::{read_case, read_placed_case, read_placed_plan, read_plan, Case, Plan, Row};
 
 /// An order of a case's devices.
 #[derive(Clone, PartialEq, Eq, Debug)]
@@ -48,7 +46,7 @@ impl Order {
         let (plan, places) = read_placed_plan(case, message)?;
         let renumbered = self.bits(message, &places);
         let row = |row: &Row| Row {
-            settings: self.of::<Setting>(&row.settings),
+            settings: self.of(&row.settings),
             flow: row.flow,
         };
         let expected = Plan {
