@@ -188,9 +188,7 @@ fn parse(mut words: Vec<OsString>) -> Result<Command, Trouble> {
     if words.iter().any(|word| word == "--help" || word == "-h") {
         return Ok(Command::Help);
     }
-    let result = take_option(&mut words, "--result", "a file")?;
-    let order = take_option(&mut words, "--order", "an order")?;
-    let folder = take_option(&mut words, "--out", "a folder")?;
+    let options = Options::take(&mut words)?;
     let is_option = |word: &&OsString| word.as_encoded_bytes().starts_with(b"--");
     if let Some(option) = words.iter().find(is_option) {
         let option = option.display();
@@ -199,8 +197,11 @@ fn parse(mut words: Vec<OsString>) -> Result<Command, Trouble> {
     let Some((verb, files)) = words.split_first() else {
         return Err(Trouble::Usage("no verb".to_string()));
     };
-    let verb = verb.to_string_lossy();
-    match (&*verb, files, result, order, folder) {
+    parse_verb(&verb.to_string_lossy(), files, options)
+}
+
+fn parse_verb(verb: &str, files: &[OsString], options: Options) -> Result<Command, Trouble> {
+    match (verb, files, options.result, options.order, options.folder) {
         ("judge", [case, plan], result, None, None) => Ok(Command::Judge {
             case: case.into(),
             plan: plan.into(),
@@ -229,17 +230,37 @@ fn parse(mut words: Vec<OsString>) -> Result<Command, Trouble> {
                 folder: folder.into(),
             })
         }
-        ("judge", ..) => wrong_use("judge CASE PLAN [--result FILE]"),
-        ("breaches", ..) => wrong_use("breaches CASE PLAN"),
-        ("inspect", ..) => wrong_use("inspect CASE"),
-        ("renew", ..) => wrong_use("renew CASE OUT [PLAN OUT]"),
-        ("renumber", ..) => wrong_use("renumber CASE PLAN.. --order ORDER --out FOLDER"),
-        _ => Err(Trouble::Usage(format!("unknown verb {verb}"))),
+        _ => Err(Trouble::Usage(wrong_use(verb))),
     }
 }
 
-fn wrong_use(right: &str) -> Result<Command, Trouble> {
-    Err(Trouble::Usage(format!("usage: desk {right}")))
+fn wrong_use(verb: &str) -> String {
+    let right = match verb {
+        "judge" => "judge CASE PLAN [--result FILE]",
+        "breaches" => "breaches CASE PLAN",
+        "inspect" => "inspect CASE",
+        "renew" => "renew CASE OUT [PLAN OUT]",
+        "renumber" => "renumber CASE PLAN.. --order ORDER --out FOLDER",
+        _ => return format!("unknown verb {verb}"),
+    };
+    format!("usage: desk {right}")
+}
+
+/// The options, each with what stands behind it.
+struct Options {
+    result: Option<OsString>,
+    order: Option<OsString>,
+    folder: Option<OsString>,
+}
+
+impl Options {
+    fn take(words: &mut Vec<OsString>) -> Result<Options, Trouble> {
+        Ok(Options {
+            result: take_option(words, "--result", "a file")?,
+            order: take_option(words, "--order", "an order")?,
+            folder: take_option(words, "--out", "a folder")?,
+        })
+    }
 }
 
 /// Takes an option and what stands behind it.
