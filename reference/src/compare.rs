@@ -109,6 +109,7 @@ fn is_done(settings: &Settings, next: u64, census: &Census) -> bool {
 
 /// Batches that go to the product together: each of the seed and, behind it, its messages in the
 /// newest edition, then its messages with their devices in another order.
+#[derive(Default)]
 struct Chunk {
     /// Of each batch, its number among those of the seed.
     numbers: Vec<u64>,
@@ -117,6 +118,33 @@ struct Chunk {
 }
 
 impl Chunk {
+    /// Adds a batch of the seed with those behind it; how many bytes they have.
+    fn add_numbered(&mut self, settings: &Settings, number: u64, census: &mut Census) -> usize {
+        let &Settings { form, seed, .. } = settings;
+        let batch = numbered_batch(form, seed, number, settings.plans_per_batch);
+        let lines = run(form, &batch);
+        census.add(&lines);
+        let rewritten = rewritten_batch(&lines);
+        let judged_again = run(form, &rewritten);
+        assert_eq!(
+            verdicts(&judged_again),
+            verdicts(&lines),
+            "batch {number} of seed {seed} is judged otherwise in the newest edition"
+        );
+        let mut rng = Rng::numbered(!seed, number);
+        let (renumbered, carried) = renumbered(form, &mut rng, &batch, &lines);
+        assert_eq!(
+            run(form, &renumbered),
+            carried,
+            "batch {number} of seed {seed} is judged otherwise with its devices in another order"
+        );
+        let bytes = batch.len() + rewritten.len() + renumbered.len();
+        self.add(number, batch, lines);
+        self.add(number, rewritten, judged_again);
+        self.add(number, renumbered, carried);
+        bytes
+    }
+
     fn add(&mut self, number: u64, batch: Vec<u8>, lines: Vec<Line>) {
         self.numbers.push(number);
         self.batches.push(batch);
@@ -217,43 +245,13 @@ fn renumbered(form: Form, rng: &mut Rng, batch: &[u8], lines: &[Line]) -> (Vec<u
 }
 
 fn next_chunk(settings: &Settings, next: &mut u64, census: &mut Census) -> Chunk {
-    let &Settings {
-        form,
-        seed,
-        plans_per_batch,
-        ..
-    } = settings;
-    let mut chunk = Chunk {
-        numbers: Vec::new(),
-        batches: Vec::new(),
-        lines: Vec::new(),
-    };
+    let mut chunk = Chunk::default();
     let mut bytes = 0;
     while !is_done(settings, *next, census)
         && chunk.batches.len() < CHUNK_BATCHES
         && bytes < CHUNK_BYTES
     {
-        let batch = numbered_batch(form, seed, *next, plans_per_batch);
-        let lines = run(form, &batch);
-        census.add(&lines);
-        let rewritten = rewritten_batch(&lines);
-        let judged_again = run(form, &rewritten);
-        assert_eq!(
-            verdicts(&judged_again),
-            verdicts(&lines),
-            "batch {next} of seed {seed} is judged otherwise in the newest edition"
-        );
-        let mut rng = Rng::numbered(!seed, *next);
-        let (renumbered, carried) = renumbered(form, &mut rng, &batch, &lines);
-        assert_eq!(
-            run(form, &renumbered),
-            carried,
-            "batch {next} of seed {seed} is judged otherwise with its devices in another order"
-        );
-        bytes += batch.len() + rewritten.len() + renumbered.len();
-        chunk.add(*next, batch, lines);
-        chunk.add(*next, rewritten, judged_again);
-        chunk.add(*next, renumbered, carried);
+        bytes += chunk.add_numbered(settings, *next, census);
         *next += 1;
     }
     chunk
