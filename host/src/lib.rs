@@ -9,6 +9,7 @@ pub mod files;
 mod frames;
 pub mod message;
 mod reactive;
+pub mod renumber;
 
 pub use frames::{messages, Fault, Messages};
 

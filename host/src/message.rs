@@ -4,6 +4,8 @@
 //! reading's alone, and `None` means that the two readings differ. Each field is read at one place,
 //! in the order of the message; what a later edition adds goes there, by `Fields::edition`.
 
+use std::ops::Range;
+
 const CASE: i64 = 1;
 const PLAN: i64 = 2;
 /// The newest edition whose fields stand here.
@@ -311,6 +313,20 @@ impl<'a> Fields<'a> {
         (0..count).map(|_| item(self)).collect()
     }
 
+    /// The same, and where each item's bits stand.
+    fn placed<T>(
+        &mut self,
+        count: usize,
+        mut item: impl FnMut(&mut Self) -> Option<T>,
+    ) -> Option<(Vec<T>, Vec<Range<usize>>)> {
+        let placed = self.list(count, |fields| {
+            let start = fields.place;
+            let item = item(fields)?;
+            Some((item, start..fields.place))
+        })?;
+        Some(placed.into_iter().unzip())
+    }
+
     /// Passes over bits of which no word is made.
     fn pass(&mut self, bits: usize) {
         self.place += bits;
@@ -331,6 +347,11 @@ impl<'a> Fields<'a> {
 
 /// The figures of a case that passed reading.
 pub fn read_case(message: &[u8]) -> Option<Case> {
+    Some(read_placed_case(message)?.0)
+}
+
+/// The same, and where each device's bits stand.
+pub fn read_placed_case(message: &[u8]) -> Option<(Case, Vec<Range<usize>>)> {
     let mut fields = Fields::of(message, CASE)?;
     let (devices, intervals) = fields.counts()?;
     let zones = fields.count(COUNT)?;
@@ -338,17 +359,19 @@ pub fn read_case(message: &[u8]) -> Option<Case> {
     let overrun_price = fields.take(14)?;
     let link_limit = fields.since(BARS, 0, |fields| fields.take(POWER))?;
     let times = read_intervals(&mut fields, intervals)?;
+    let zones = fields.list(zones, |fields| read_zone(fields, intervals))?;
+    let (devices, places) = fields.placed(devices, |fields| read_device(fields, intervals))?;
     let case = Case {
         edition: fields.edition,
-        zones: fields.list(zones, |fields| read_zone(fields, intervals))?,
+        zones,
         mismatch_price,
         overrun_price,
         link_limit,
         intervals: times,
-        devices: fields.list(devices, |fields| read_device(fields, intervals))?,
+        devices,
     };
     fields.end()?;
-    Some(case)
+    Some((case, places))
 }
 
 /// One behind the other, from minute 0; a message holds half of each duration.
@@ -465,20 +488,25 @@ fn read_blocks(fields: &mut Fields) -> Option<Vec<Block>> {
 
 /// The figures of a plan that passed reading for `case`.
 pub fn read_plan(case: &Case, message: &[u8]) -> Option<Plan> {
+    Some(read_placed_plan(case, message)?.0)
+}
+
+/// The same, and where each setting's bits stand, by interval.
+pub fn read_placed_plan(case: &Case, message: &[u8]) -> Option<(Plan, Vec<Vec<Range<usize>>>)> {
     let mut fields = Fields::of(message, PLAN)?;
     let (devices, intervals) = fields.counts()?;
     let fits = (fields.edition, devices, intervals)
         == (case.edition, case.devices.len(), case.intervals.len());
-    let rows = fields.list(intervals, |fields| read_row(fields, devices))?;
+    let placed = fields.list(intervals, |fields| read_row(fields, devices))?;
     fields.end()?;
-    fits.then_some(Plan { rows })
+    let (rows, places) = placed.into_iter().unzip();
+    fits.then_some((Plan { rows }, places))
 }
 
-fn read_row(fields: &mut Fields, devices: usize) -> Option<Row> {
-    Some(Row {
-        settings: fields.list(devices, read_setting)?,
-        flow: fields.since(BARS, 0, Fields::signed_power)?,
-    })
+fn read_row(fields: &mut Fields, devices: usize) -> Option<(Row, Vec<Range<usize>>)> {
+    let (settings, places) = fields.placed(devices, read_setting)?;
+    let flow = fields.since(BARS, 0, Fields::signed_power)?;
+    Some((Row { settings, flow }, places))
 }
 
 fn read_setting(fields: &mut Fields) -> Option<Setting> {

@@ -7,15 +7,18 @@ use std::fs;
 use std::path::{Path, PathBuf};
 use std::process::Command;
 
-use common::each_pair;
+use common::{each_case, each_pair};
 use reference::breaches::breaches_of;
 use reference::case::{
     read_case, Device, Link, LinkLine, ReactiveReserves, Reserves, Side, StartWindow, Status,
     Terms, Zone,
 };
 use reference::edition::Edition;
+use reference::encode::encode_plan;
 use reference::judge::judge;
 use reference::plan::{read_plan, Plan, Setting};
+use reference::renumber::Order;
+use reference::rewrite::{newest_case, newest_plan};
 use reference::worked_day::{
     floor_days, lettered_days, link_days, reactive_days, two_set_day, Day, ToldDay,
 };
@@ -1075,9 +1078,10 @@ fn output_that_cannot_be_written_is_told() {
 const JUDGE: &str = "usage: desk judge CASE PLAN [--result FILE]";
 const BREACHES: &str = "usage: desk breaches CASE PLAN";
 const INSPECT: &str = "usage: desk inspect CASE";
+const RENUMBER: &str = "usage: desk renumber CASE PLAN.. --order ORDER --out FOLDER";
 
 /// Wrong words, and what is complained of.
-const WRONG: [(&str, &str); 14] = [
+const WRONG: [(&str, &str); 25] = [
     ("", "no verb"),
     ("solve c p", "unknown verb solve"),
     ("judge", JUDGE),
@@ -1092,6 +1096,26 @@ const WRONG: [(&str, &str); 14] = [
     ("inspect", INSPECT),
     ("inspect c p", INSPECT),
     ("inspect c --result f", INSPECT),
+    ("inspect c --order 1", INSPECT),
+    ("judge c p --out f", JUDGE),
+    ("renumber --order 1 --out f", RENUMBER),
+    ("renumber c p --order 1", RENUMBER),
+    ("renumber c p --out f", RENUMBER),
+    ("renumber c p --order 1 --out f --result r", RENUMBER),
+    ("renumber c p --out f --order", "--order needs an order"),
+    ("renumber c p --order 1 --out", "--out needs a folder"),
+    (
+        "renumber c --out f --order 2,2",
+        "--order 2,2 does not name each set once",
+    ),
+    (
+        "renumber c --out f --order 0,1",
+        "--order 0,1 does not name each set once",
+    ),
+    (
+        "renumber c --out f --order 1,,2",
+        "--order 1,,2 does not name each set once",
+    ),
 ];
 
 #[test]
@@ -1367,4 +1391,165 @@ fn renew_writes_whole_files_or_none() {
             "desk: usage: desk renew CASE OUT [PLAN OUT] (see desk --help)"
         );
     }
+}
+
+/// The words of a renumbering of a case and plans, to a folder.
+fn renumber_words<'a>(files: &[&'a str], order: &'a str, folder: &'a str) -> Vec<&'a str> {
+    let options = ["--order", order, "--out", folder];
+    [&["renumber"], files, &options].concat()
+}
+
+impl Scratch {
+    /// A folder in it, and a file there.
+    fn folder(&self, name: &str) -> (String, impl Fn(&str) -> String) {
+        let folder = self.0.join(name);
+        fs::create_dir(&folder).expect("a folder");
+        let path = folder.to_str().expect("text").to_string();
+        (path, move |name| {
+            folder.join(name).to_str().expect("text").to_string()
+        })
+    }
+}
+
+/// Plans (a), (b) and one that two sets break, of the worked day in edition 1; and back again.
+#[test]
+fn renumber_writes_the_sets_in_another_order() {
+    let scratch = Scratch::new("renumber");
+    let (case, a) = lettered('a').messages();
+    let (_, b) = lettered('b').messages();
+    let mut both = lettered('b');
+    both.plan.intervals[1][1].online_power = 201;
+    let files = [
+        ("case", &case),
+        ("a", &a),
+        ("b", &b),
+        ("both", &both.messages().1),
+    ];
+    let inputs = files.map(|(name, bytes)| scratch.file(name, bytes));
+    let inputs: Vec<&str> = inputs.iter().map(String::as_str).collect();
+    let (folder, there) = scratch.folder("out");
+    let lines = "case 258\nplan 111\nplan 111\nplan 111\n";
+    let words = renumber_words(&inputs, "2,1", &folder);
+    assert_eq!(answer(&words, 0), lines);
+    let swap = Order::new(vec![1, 0]).expect("both places");
+    let bytes = |path: String| fs::read(path).expect("it is written");
+    assert_eq!(bytes(there("case")), newest_case(&swap.case(&both.case)));
+    assert_eq!(bytes(there("both")), newest_plan(&swap.plan(&both.plan)));
+    for (plan, verdict, status) in [
+        ("a", "accepted 167860\n", 0),
+        ("b", "broken 5 2 2 0\n", 1),
+        ("both", "broken 16 2 1 0\n", 1),
+    ] {
+        let words = ["judge", &there("case"), &there(plan)];
+        assert_eq!(answer(&words, status), verdict);
+    }
+    // Back, over files that are there: the newest edition of what it was.
+    let (folder, again) = scratch.folder("again");
+    fs::write(again("case"), b"x").expect("a file");
+    let outputs = ["case", "a", "b", "both"].map(&there);
+    let outputs: Vec<&str> = outputs.iter().map(String::as_str).collect();
+    assert_eq!(answer(&renumber_words(&outputs, "2,1", &folder), 0), lines);
+    assert_eq!(bytes(again("case")), newest_case(&both.case));
+    assert_eq!(bytes(again("both")), newest_plan(&both.plan));
+    // A case alone; and nothing is left beside what is written.
+    let (folder, _) = scratch.folder("alone");
+    let words = renumber_words(&inputs[..1], "1,2", &folder);
+    assert_eq!(answer(&words, 0), "case 258\n");
+    for (folder, count) in [("out", 4), ("again", 4), ("alone", 1)] {
+        let left = fs::read_dir(scratch.0.join(folder)).expect("the directory");
+        assert_eq!(left.count(), count);
+    }
+}
+
+/// An output that is an input or another output, an order of other counts, a refused message, a
+/// folder that is not there: nothing is written.
+#[test]
+fn renumber_writes_whole_files_or_none() {
+    let scratch = Scratch::new("renumber-none");
+    let [case, plan] = scratch.day(&lettered('a'));
+    let own = scratch.path("");
+    let line = complaint(&renumber_words(&[&case, &plan], "2,1", &own), 3);
+    assert_eq!(line, format!("desk: {case} is an input (see desk --help)"));
+    let (folder, there) = scratch.folder("out");
+    let (_, elsewhere) = scratch.folder("elsewhere");
+    fs::copy(&plan, elsewhere("plan")).expect("a copy");
+    let other = elsewhere("plan");
+    let words = [&case, &plan, &other].map(String::as_str);
+    let line = complaint(&renumber_words(&words, "2,1", &folder), 3);
+    let twice = there("plan");
+    assert_eq!(
+        line,
+        format!("desk: {twice} is written twice (see desk --help)")
+    );
+    let line = complaint(&renumber_words(&[&case, &plan], "2,1,3", &folder), 3);
+    let complains = "desk: --order names 3 sets, the case has 2 (see desk --help)";
+    assert_eq!(line, complains);
+    let cut = scratch.file("cut", &fs::read(&plan).expect("it is there")[..1]);
+    let line = complaint(&renumber_words(&[&case, &plan, &cut], "2,1", &folder), 2);
+    assert!(
+        line.starts_with(&format!("refused 1 8: plan {cut}: ")),
+        "{line}"
+    );
+    let line = complaint(&renumber_words(&[&cut, &plan], "2,1", &folder), 2);
+    assert!(
+        line.starts_with(&format!("refused 2 0: case {cut}: ")),
+        "{line}"
+    );
+    let absent = scratch.path("absent");
+    let line = complaint(&renumber_words(&[&case, &absent], "2,1", &folder), 3);
+    assert!(
+        line.starts_with(&format!("desk: cannot read {absent}: ")),
+        "{line}"
+    );
+    let nowhere = scratch.path("no-such-folder");
+    let line = complaint(&renumber_words(&[&case, &plan], "2,1", &nowhere), 3);
+    assert!(
+        line.starts_with(&format!("desk: cannot write {nowhere}/case: ")),
+        "{line}"
+    );
+    assert_eq!(fs::read_dir(&folder).expect("the directory").count(), 0);
+}
+
+/// Every so many of the corpora's cases is renumbered with its plans that pass reading.
+const EVERY_CASE: usize = 12;
+
+/// Reversed, of every edition and size: what the reference writes of the rearranged figures.
+#[test]
+fn renumbered_cases_of_the_corpus_are_the_references() {
+    let scratch = Scratch::new("renumber-corpus");
+    let (folder, there) = scratch.folder("out");
+    let (mut cases, mut runs, mut plans_written) = (0, 0, 0);
+    each_case(|case_message, plan_messages| {
+        let Ok((edition, case)) = read_case(case_message) else {
+            return;
+        };
+        cases += 1;
+        if cases % EVERY_CASE != 0 {
+            return;
+        }
+        let devices = case.devices.len();
+        let reversed = Order::new((0..devices).rev().collect()).expect("each place");
+        let numbers: Vec<String> = (1..=devices).rev().map(|n| n.to_string()).collect();
+        let plans: Vec<Plan> = plan_messages
+            .iter()
+            .filter_map(|message| read_plan(edition, &case, message).ok())
+            .collect();
+        let mut files = vec![scratch.file("case", case_message)];
+        for (k, plan) in plans.iter().enumerate() {
+            let message = encode_plan(edition, plan).bytes;
+            files.push(scratch.file(&format!("plan-{k}"), &message));
+        }
+        let files: Vec<&str> = files.iter().map(String::as_str).collect();
+        answer(&renumber_words(&files, &numbers.join(","), &folder), 0);
+        let bytes = |name: &str| fs::read(there(name)).expect("it is written");
+        assert_eq!(bytes("case"), newest_case(&reversed.case(&case)));
+        for (k, plan) in plans.iter().enumerate() {
+            let expected = newest_plan(&reversed.plan(plan));
+            assert_eq!(bytes(&format!("plan-{k}")), expected);
+        }
+        runs += 1;
+        plans_written += plans.len();
+    });
+    println!("{runs} of {cases} cases, {plans_written} plans");
+    assert!(runs > 20 && plans_written > 100);
 }

@@ -179,7 +179,8 @@ pub fn run(form: Form, batch: &[u8]) -> Vec<Line> {
     }
 }
 
-fn case_line(index: usize, edition: Edition, case: &Case) -> Line {
+/// The line of a case that passes reading.
+pub fn case_line(index: usize, edition: Edition, case: &Case) -> Line {
     Line::Case {
         index,
         edition,

@@ -53,6 +53,19 @@ pub fn bytes_of(breaches: &[Place]) -> Vec<u8> {
     breaches.iter().flat_map(breach_bytes).collect()
 }
 
+/// The breaches of a list's bytes.
+pub fn breaches_in(list: &[u8]) -> Vec<Place> {
+    let (entries, rest) = list.as_chunks::<BREACH_BYTES>();
+    assert!(rest.is_empty(), "four bytes each");
+    let place = |&[rule, interval, device, window]: &[u8; BREACH_BYTES]| Place {
+        rule,
+        interval: usize::from(interval),
+        device: usize::from(device),
+        window: usize::from(window),
+    };
+    entries.iter().map(place).collect()
+}
+
 fn breach_bytes(place: &Place) -> [u8; BREACH_BYTES] {
     let byte = |number: usize| u8::try_from(number).expect("a place's numbers fit their bytes");
     [

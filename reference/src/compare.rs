@@ -4,12 +4,20 @@ use std::io::{self, Read, Write};
 use std::process::{Command, Stdio};
 use std::thread;
 
-use crate::batch::{join, run, Line};
+use crate::batch::{case_line, join, messages, run, Line};
+use crate::breaches::{breaches_in, bytes_of};
+use crate::case::{read_case_in, Case};
 use crate::census::Census;
+use crate::edition::Edition;
+use crate::encode::{encode_case, encode_plan};
 use crate::form::Form;
 use crate::generate::batches::{random_batch, random_size};
+use crate::generate::order::random_order;
 use crate::generate::shape::Size;
 use crate::packed::{append_batch, append_output, pack};
+use crate::plan::{read_plan, Plan};
+use crate::renumber::Order;
+use crate::rewrite::newest_plan;
 use crate::rng::Rng;
 
 /// What a run compares.
@@ -100,7 +108,8 @@ fn is_done(settings: &Settings, next: u64, census: &Census) -> bool {
 }
 
 /// Batches that go to the product together: each of the seed and, behind it, its messages in the
-/// newest edition.
+/// newest edition, then its messages with their devices in another order.
+#[derive(Default)]
 struct Chunk {
     /// Of each batch, its number among those of the seed.
     numbers: Vec<u64>,
@@ -109,6 +118,33 @@ struct Chunk {
 }
 
 impl Chunk {
+    /// Adds a batch of the seed with those behind it; how many bytes they have.
+    fn add_numbered(&mut self, settings: &Settings, number: u64, census: &mut Census) -> usize {
+        let &Settings { form, seed, .. } = settings;
+        let batch = numbered_batch(form, seed, number, settings.plans_per_batch);
+        let lines = run(form, &batch);
+        census.add(&lines);
+        let rewritten = rewritten_batch(&lines);
+        let judged_again = run(form, &rewritten);
+        assert_eq!(
+            verdicts(&judged_again),
+            verdicts(&lines),
+            "batch {number} of seed {seed} is judged otherwise in the newest edition"
+        );
+        let mut rng = Rng::numbered(!seed, number);
+        let (renumbered, carried) = renumbered(form, &mut rng, &batch, &lines);
+        assert_eq!(
+            run(form, &renumbered),
+            carried,
+            "batch {number} of seed {seed} is judged otherwise with its devices in another order"
+        );
+        let bytes = batch.len() + rewritten.len() + renumbered.len();
+        self.add(number, batch, lines);
+        self.add(number, rewritten, judged_again);
+        self.add(number, renumbered, carried);
+        bytes
+    }
+
     fn add(&mut self, number: u64, batch: Vec<u8>, lines: Vec<Line>) {
         self.numbers.push(number);
         self.batches.push(batch);
@@ -133,36 +169,89 @@ fn verdicts(lines: &[Line]) -> Vec<Option<(i128, &[u8])>> {
     lines.iter().filter_map(of_pair).collect()
 }
 
-fn next_chunk(settings: &Settings, next: &mut u64, census: &mut Census) -> Chunk {
-    let &Settings {
-        form,
-        seed,
-        plans_per_batch,
-        ..
-    } = settings;
-    let mut chunk = Chunk {
-        numbers: Vec::new(),
-        batches: Vec::new(),
-        lines: Vec::new(),
+/// A batch's messages that pass reading with their devices in another order, and what must be told
+/// of them: the answers to the batch, carried along.
+struct Renumbered {
+    edition: Edition,
+    case: Case,
+    order: Order,
+    batch: Vec<Vec<u8>>,
+    lines: Vec<Line>,
+}
+
+impl Renumbered {
+    /// The case alone.
+    fn of_case(edition: Edition, case: Case, order: Order) -> Renumbered {
+        let renumbered = order.case(&case);
+        Renumbered {
+            batch: vec![encode_case(edition, &renumbered).bytes],
+            lines: vec![case_line(0, edition, &renumbered)],
+            edition,
+            case,
+            order,
+        }
+    }
+
+    fn add_plan(&mut self, plan: &Plan, answer: &Line) {
+        let renumbered = self.order.plan(plan);
+        let line = self.carried(answer, newest_plan(&renumbered));
+        self.batch
+            .push(encode_plan(self.edition, &renumbered).bytes);
+        self.lines.push(line);
+    }
+
+    /// "the surplus is equal, zone shortfalls and mismatches are equal, and each device's part of
+    /// the completion goes with it", or the breaches, "with device numbers carried along".
+    fn carried(&self, answer: &Line, rewritten: Vec<u8>) -> Line {
+        let index = self.lines.len();
+        match answer {
+            Line::Accepted {
+                surplus, message, ..
+            } => Line::Accepted {
+                index,
+                surplus: *surplus,
+                message: self.order.message(self.edition, &self.case, message),
+                rewritten,
+            },
+            Line::Broken { breaches, .. } => {
+                let breaches = self.order.breaches(&breaches_in(breaches));
+                Line::Broken {
+                    index,
+                    place: breaches[0],
+                    breaches: bytes_of(&breaches),
+                    rewritten,
+                }
+            }
+            _ => panic!("a plan that passes reading is accepted or broken"),
+        }
+    }
+}
+
+/// A batch of which the case is refused gives an empty one.
+fn renumbered(form: Form, rng: &mut Rng, batch: &[u8], lines: &[Line]) -> (Vec<u8>, Vec<Line>) {
+    let messages = messages(batch);
+    let case = messages.first().map(|message| read_case_in(form, message));
+    let Some(Ok((edition, case))) = case else {
+        return (Vec::new(), Vec::new());
     };
+    let order = random_order(rng, case.devices.len());
+    let mut renumbered = Renumbered::of_case(edition, case, order);
+    for (message, line) in messages.iter().zip(lines).skip(1) {
+        if let Ok(plan) = read_plan(edition, &renumbered.case, message) {
+            renumbered.add_plan(&plan, line);
+        }
+    }
+    (join(&renumbered.batch), renumbered.lines)
+}
+
+fn next_chunk(settings: &Settings, next: &mut u64, census: &mut Census) -> Chunk {
+    let mut chunk = Chunk::default();
     let mut bytes = 0;
     while !is_done(settings, *next, census)
         && chunk.batches.len() < CHUNK_BATCHES
         && bytes < CHUNK_BYTES
     {
-        let batch = numbered_batch(form, seed, *next, plans_per_batch);
-        let lines = run(form, &batch);
-        census.add(&lines);
-        let rewritten = rewritten_batch(&lines);
-        let judged_again = run(form, &rewritten);
-        assert_eq!(
-            verdicts(&judged_again),
-            verdicts(&lines),
-            "batch {next} of seed {seed} is judged otherwise in the newest edition"
-        );
-        bytes += batch.len() + rewritten.len();
-        chunk.add(*next, batch, lines);
-        chunk.add(*next, rewritten, judged_again);
+        bytes += chunk.add_numbered(settings, *next, census);
         *next += 1;
     }
     chunk

@@ -41,22 +41,34 @@ pub struct DeviceChoices {
 
 const SHORTFALL_BITS: usize = 33;
 const MISMATCH_BITS: usize = 23;
+/// A device's choices in one interval.
+pub const DEVICE_BITS: usize = 1 + 1 + 3 + MOST_ITEMS * 17;
+pub const OVERRUN_BITS: usize = 32;
+pub const SURPLUS_BITS: usize = 64;
+
+/// What stands ahead of the intervals: kind, edition and counts.
+pub fn header_bits(edition: Edition) -> usize {
+    let counts = [edition.devices(), edition.intervals(), edition.zones()];
+    4 + 4 + counts.iter().map(|count| count.width).sum::<usize>()
+}
+
+/// What stands behind an interval's devices: shortfalls and mismatches.
+pub fn needs_bits(edition: Edition, case: &Case) -> usize {
+    case.zones.len() * edition.shortfalls() * SHORTFALL_BITS + edition.mismatches() * MISMATCH_BITS
+}
 
 /// The size in bits of a completion for a case of an edition, fill bits left out.
 pub fn completion_bits(edition: Edition, case: &Case) -> usize {
-    let counts = [edition.devices(), edition.intervals(), edition.zones()];
-    let header = 4 + 4 + counts.iter().map(|count| count.width).sum::<usize>();
-    let per_device = 1 + 1 + 3 + MOST_ITEMS * 17;
-    let per_zone = edition.shortfalls() * SHORTFALL_BITS;
-    let per_interval = case.devices.len() * per_device
-        + case.zones.len() * per_zone
-        + edition.mismatches() * MISMATCH_BITS;
+    let per_interval = case.devices.len() * DEVICE_BITS + needs_bits(edition, case);
     let energy_windows: usize = case
         .devices
         .iter()
         .map(|device| device.energy_windows.len())
         .sum();
-    header + case.intervals() * per_interval + energy_windows * 32 + 64
+    header_bits(edition)
+        + case.intervals() * per_interval
+        + energy_windows * OVERRUN_BITS
+        + SURPLUS_BITS
 }
 
 /// The completion message, in its case's edition.
@@ -76,9 +88,9 @@ pub fn completion_bytes(
         put_interval(&mut message, edition, interval);
     }
     for &overrun in completion.overruns.iter().flatten() {
-        message.put(32, overrun);
+        message.put(OVERRUN_BITS, overrun);
     }
-    message.put_signed(64, surplus);
+    message.put_signed(SURPLUS_BITS, surplus);
     message.into_bytes()
 }
 

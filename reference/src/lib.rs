@@ -1,8 +1,8 @@
 //! An independent reading of paper 01, "Plan unit: judging a day's commitment", with requests A.4
 //! (three startup states), A.3 (energy by the minute), A.5 (every broken rule), A.1 (reactive
 //! power: edition 2), A.6 (take-or-pay blocks: edition 3), A.8 (sixty-four sets, ninety-six
-//! intervals: edition 4), A.12 (two busbars and a DC link: edition 5) and A.9 (writing in the newest
-//! edition) of paper 02.
+//! intervals: edition 4), A.12 (two busbars and a DC link: edition 5), A.9 (writing in the newest
+//! edition) and A.11 (renumbering sets) of paper 02.
 //!
 //! Written from the papers alone, it shares no code and no tables with the product that it is held
 //! against. Every figure is an `i128` and arithmetic is checked in every profile, so that nothing
@@ -21,6 +21,7 @@
 //! - [`judge`], [`batch`]: the judgement, the splitter, the batch program's lines.
 //! - [`breaches`]: every broken rule of a plan, as A.5 lists them.
 //! - [`rewrite`]: cases and plans in the newest edition, as A.9 writes them.
+//! - [`renumber`]: devices in another order, and what goes with them, by A.11.
 //! - [`meets`]: what it is for any completion to meet every rule, and its surplus, stated again
 //!   without any of the modules above but the case, the plan and the completion as data.
 //!
@@ -64,6 +65,7 @@ pub mod ours;
 pub mod packed;
 pub mod plan;
 pub mod reactive;
+pub mod renumber;
 pub mod rewrite;
 pub mod rivals;
 pub mod rng;

@@ -1,6 +1,7 @@
 //! The long run, against products that agree and products that do not.
 
 use reference::batch::messages;
+use reference::case::read_case;
 use reference::compare::{compare, output_of_program, Difference, Settings, Until};
 use reference::form::Form;
 use reference::packed::{output, unpack};
@@ -137,9 +138,9 @@ fn written_pairs_are_judged() {
     let mut written = 0;
     let mut product = |packed: &[u8]| {
         let batches = unpack(packed).expect("batches are packed");
-        for pair in batches.chunks(2) {
-            let [_, rewritten] = pair else {
-                panic!("a batch and its messages in the newest edition");
+        for three in batches.chunks(3) {
+            let [_, rewritten, _] = three else {
+                panic!("a batch, its messages in the newest edition and in another order");
             };
             for message in messages(rewritten) {
                 assert_eq!(message[0] & 15, 5);
@@ -155,6 +156,75 @@ fn written_pairs_are_judged() {
         written > 60 && written <= census.cases + census.plans(),
         "{census}"
     );
+}
+
+/// Behind these its pairs go to the product with their devices in another order, and must be
+/// answered as before, carried along: what is told of them alone is a difference.
+#[test]
+fn renumbered_pairs_are_judged() {
+    for word in [
+        "accepted ",
+        "broken ",
+        "completion ",
+        "breaches ",
+        "rewritten ",
+    ] {
+        let mut product = |packed: &[u8]| {
+            let batches = unpack(packed).expect("batches are packed");
+            let output = output(Form::BATCH, &batches);
+            let changed = change_in_thirds(&output, word);
+            assert!(batches.len() == 1 || changed != output, "{word}");
+            Ok(changed.into_bytes())
+        };
+        let settings = settings(Until::Batches(60));
+        let (_, difference) = compare(&settings, &mut product, |_| {}).expect("nothing fails");
+        let difference = difference.expect("a line is changed");
+        assert!(difference.expected.is_some_and(|line| line.contains(word)));
+        assert!(!difference.shows_alone);
+    }
+}
+
+/// A 1 behind the first such word in the output for every third batch.
+fn change_in_thirds(output: &str, word: &str) -> String {
+    let mut batch = 0;
+    let mut is_done = false;
+    let change = |line: &str| {
+        if let Some(number) = line.trim_end().strip_prefix("batch ") {
+            batch = number.parse().expect("a number");
+        }
+        if batch % 3 != 2 || is_done || !line.contains(word) {
+            return line.to_string();
+        }
+        is_done = true;
+        line.replacen(word, &format!("{word}1"), 1)
+    };
+    output.split_inclusive('\n').map(change).collect()
+}
+
+/// Most batches come back with the same devices in another order, and their plans with them.
+#[test]
+fn renumbered_pairs_have_the_same_devices() {
+    let (mut cases, mut moved) = (0, 0);
+    let mut product = |packed: &[u8]| {
+        let batches = unpack(packed).expect("batches are packed");
+        for three in batches.chunks(3) {
+            let [old, written, new] = [three[0], three[1], three[2]].map(messages);
+            assert_eq!(written.len(), new.len());
+            if let Some(case) = new.first() {
+                let (_, new_case) = read_case(case).expect("it passes reading");
+                let (_, old_case) = read_case(old[0]).expect("it passes reading");
+                cases += 1;
+                moved += usize::from(new_case.devices != old_case.devices);
+                let has_it = |device| old_case.devices.contains(device);
+                assert!(new_case.devices.iter().all(has_it));
+            }
+        }
+        Ok(output(Form::BATCH, &batches).into_bytes())
+    };
+    let settings = settings(Until::Batches(60));
+    let (_, difference) = compare(&settings, &mut product, |_| {}).expect("nothing fails");
+    assert_eq!(difference, None);
+    assert!(cases > 45 && moved > 35, "{moved} of {cases}");
 }
 
 #[test]
@@ -186,9 +256,9 @@ fn a_difference_that_needs_others_stores_them_all() {
     let (_, difference) = compare(&settings, &mut product, |_| {}).expect("nothing fails");
     let difference = difference.expect("a surplus is changed");
     assert!(!difference.shows_alone);
-    // Twenty, and each in the newest edition.
+    // Twenty, and each in the newest edition and with its devices in another order.
     assert_eq!(
         unpack(&difference.packed).map(|batches| batches.len()),
-        Ok(40)
+        Ok(60)
     );
 }

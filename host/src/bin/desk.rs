@@ -8,6 +8,7 @@ use std::ffi::OsString;
 use std::fmt;
 use std::fs;
 use std::io::{self, Write};
+use std::iter;
 use std::path::{Path, PathBuf};
 use std::process::ExitCode;
 
@@ -15,7 +16,8 @@ use host::day::Day;
 use host::describe::describe;
 use host::explain::{explain, Breach};
 use host::files::{is_same_file, Draft};
-use host::message::read_case;
+use host::message::{read_case, Case};
+use host::renumber::Order;
 use host::{breaches, inspect, judge, word, write_case, write_plan, Told};
 
 const HELP: &str = "\
@@ -23,6 +25,7 @@ usage: desk judge CASE PLAN [--result FILE]
        desk breaches CASE PLAN
        desk inspect CASE
        desk renew CASE OUT [PLAN OUT]
+       desk renumber CASE PLAN.. --order ORDER --out FOLDER
        desk --help
 
 CASE and PLAN are files that hold one message each.
@@ -35,6 +38,11 @@ inspect   prints what a case holds
 renew     writes a case in the newest edition to OUT, and with PLAN that plan to
           the OUT behind it; prints how many bytes each takes. Each OUT is written
           whole or not at all, and may be neither CASE nor PLAN nor the other OUT
+renumber  puts the sets of CASE and of each PLAN in another order and writes them,
+          in the newest edition, under their own names to FOLDER, all or none;
+          prints how many bytes each takes. ORDER has the old numbers in the new
+          order: with 2,1,3 the first two change places. Each plan must be told
+          as before, the sets' numbers carried along
 
 A refused message is told on standard error: 'refused NUMBER BIT', the message
 and what the number means.
@@ -44,7 +52,8 @@ Exit status:
   1  broken
   2  a message is refused
   3  wrong usage, or a file cannot be read or written
-  4  this program does not bear out what the plan unit says: a defect
+  4  this program does not bear out what the plan unit says, or renumbered sets
+     are not told as before: a defect
 ";
 
 /// What is asked for.
@@ -67,6 +76,12 @@ enum Command {
         new_case: PathBuf,
         /// A plan, and where it goes.
         plan: Option<[PathBuf; 2]>,
+    },
+    Renumber {
+        case: PathBuf,
+        plans: Vec<PathBuf>,
+        order: Order,
+        folder: PathBuf,
     },
 }
 
@@ -173,7 +188,7 @@ fn parse(mut words: Vec<OsString>) -> Result<Command, Trouble> {
     if words.iter().any(|word| word == "--help" || word == "-h") {
         return Ok(Command::Help);
     }
-    let result = take_result(&mut words)?;
+    let options = Options::take(&mut words)?;
     let is_option = |word: &&OsString| word.as_encoded_bytes().starts_with(b"--");
     if let Some(option) = words.iter().find(is_option) {
         let option = option.display();
@@ -182,46 +197,94 @@ fn parse(mut words: Vec<OsString>) -> Result<Command, Trouble> {
     let Some((verb, files)) = words.split_first() else {
         return Err(Trouble::Usage("no verb".to_string()));
     };
-    let file = |index: usize| PathBuf::from(&files[index]);
-    let verb = verb.to_string_lossy();
-    match (&*verb, files.len(), result) {
-        ("judge", 2, result) => Ok(Command::Judge {
-            case: file(0),
-            plan: file(1),
-            result,
+    parse_verb(&verb.to_string_lossy(), files, options)
+}
+
+fn parse_verb(verb: &str, files: &[OsString], options: Options) -> Result<Command, Trouble> {
+    match (verb, files, options.result, options.order, options.folder) {
+        ("judge", [case, plan], result, None, None) => Ok(Command::Judge {
+            case: case.into(),
+            plan: plan.into(),
+            result: result.map(PathBuf::from),
         }),
-        ("breaches", 2, None) => Ok(Command::Breaches {
-            case: file(0),
-            plan: file(1),
+        ("breaches", [case, plan], None, None, None) => Ok(Command::Breaches {
+            case: case.into(),
+            plan: plan.into(),
         }),
-        ("inspect", 1, None) => Ok(Command::Inspect { case: file(0) }),
-        ("renew", 2 | 4, None) => Ok(Command::Renew {
-            case: file(0),
-            new_case: file(1),
-            plan: (files.len() == 4).then(|| [file(2), file(3)]),
+        ("inspect", [case], None, None, None) => Ok(Command::Inspect { case: case.into() }),
+        ("renew", [case, new_case], None, None, None) => Ok(Command::Renew {
+            case: case.into(),
+            new_case: new_case.into(),
+            plan: None,
         }),
-        ("judge", ..) => wrong_use("judge CASE PLAN [--result FILE]"),
-        ("breaches", ..) => wrong_use("breaches CASE PLAN"),
-        ("inspect", ..) => wrong_use("inspect CASE"),
-        ("renew", ..) => wrong_use("renew CASE OUT [PLAN OUT]"),
-        _ => Err(Trouble::Usage(format!("unknown verb {verb}"))),
+        ("renew", [case, new_case, plan, new_plan], None, None, None) => Ok(Command::Renew {
+            case: case.into(),
+            new_case: new_case.into(),
+            plan: Some([plan.into(), new_plan.into()]),
+        }),
+        ("renumber", [case, plans @ ..], None, Some(order), Some(folder)) => {
+            Ok(Command::Renumber {
+                case: case.into(),
+                plans: plans.iter().map(PathBuf::from).collect(),
+                order: parse_order(&order)?,
+                folder: folder.into(),
+            })
+        }
+        _ => Err(Trouble::Usage(wrong_use(verb))),
     }
 }
 
-fn wrong_use(right: &str) -> Result<Command, Trouble> {
-    Err(Trouble::Usage(format!("usage: desk {right}")))
+fn wrong_use(verb: &str) -> String {
+    let right = match verb {
+        "judge" => "judge CASE PLAN [--result FILE]",
+        "breaches" => "breaches CASE PLAN",
+        "inspect" => "inspect CASE",
+        "renew" => "renew CASE OUT [PLAN OUT]",
+        "renumber" => "renumber CASE PLAN.. --order ORDER --out FOLDER",
+        _ => return format!("unknown verb {verb}"),
+    };
+    format!("usage: desk {right}")
 }
 
-/// Takes `--result` and the file behind it.
-fn take_result(words: &mut Vec<OsString>) -> Result<Option<PathBuf>, Trouble> {
-    let Some(at) = words.iter().position(|word| word == "--result") else {
+/// The options, each with what stands behind it.
+struct Options {
+    result: Option<OsString>,
+    order: Option<OsString>,
+    folder: Option<OsString>,
+}
+
+impl Options {
+    fn take(words: &mut Vec<OsString>) -> Result<Options, Trouble> {
+        Ok(Options {
+            result: take_option(words, "--result", "a file")?,
+            order: take_option(words, "--order", "an order")?,
+            folder: take_option(words, "--out", "a folder")?,
+        })
+    }
+}
+
+/// Takes an option and what stands behind it.
+fn take_option(
+    words: &mut Vec<OsString>,
+    option: &str,
+    needed: &str,
+) -> Result<Option<OsString>, Trouble> {
+    let Some(at) = words.iter().position(|word| word == option) else {
         return Ok(None);
     };
     if at + 1 == words.len() {
-        return Err(Trouble::Usage("--result needs a file".to_string()));
+        return Err(Trouble::Usage(format!("{option} needs {needed}")));
     }
     words.remove(at);
-    Ok(Some(PathBuf::from(words.remove(at))))
+    Ok(Some(words.remove(at)))
+}
+
+fn parse_order(text: &OsString) -> Result<Order, Trouble> {
+    let order = text.to_str().and_then(Order::parse);
+    order.ok_or_else(|| {
+        let text = text.display();
+        Trouble::Usage(format!("--order {text} does not name each set once"))
+    })
 }
 
 fn perform(command: Command) -> Result<Answer, Trouble> {
@@ -245,6 +308,12 @@ fn perform(command: Command) -> Result<Answer, Trouble> {
             new_case,
             plan: Some([plan, new_plan]),
         } => renew_pair(&Pair::read(case, plan)?, &new_case, &new_plan),
+        Command::Renumber {
+            case,
+            plans,
+            order,
+            folder,
+        } => renumber_files(case, plans, &order, &folder),
     }
 }
 
@@ -301,24 +370,27 @@ fn with_buffer(call: impl Fn(&mut [u8]) -> Told) -> (Told, Vec<u8>) {
 }
 
 /// Refuses an output that is an input, which is there, or another output.
-fn hold_apart(inputs: &[&Path], outputs: &[&Path]) -> Result<(), Trouble> {
-    let same =
-        |one: &Path, other: &Path| is_same_file(one, other).map_err(file_trouble("write", other));
+fn hold_apart(inputs: &[impl AsRef<Path>], outputs: &[impl AsRef<Path>]) -> Result<(), Trouble> {
     for (index, output) in outputs.iter().enumerate() {
-        for input in inputs {
-            if same(input, output)? {
-                let output = output.display();
-                return Err(Trouble::Usage(format!("{output} is an input")));
-            }
+        if is_among(inputs, output.as_ref())? {
+            let output = output.as_ref().display();
+            return Err(Trouble::Usage(format!("{output} is an input")));
         }
-        for other in &outputs[..index] {
-            if same(other, output)? {
-                let output = output.display();
-                return Err(Trouble::Usage(format!("{output} is written twice")));
-            }
+        if is_among(&outputs[..index], output.as_ref())? {
+            let output = output.as_ref().display();
+            return Err(Trouble::Usage(format!("{output} is written twice")));
         }
     }
     Ok(())
+}
+
+fn is_among(files: &[impl AsRef<Path>], output: &Path) -> Result<bool, Trouble> {
+    for file in files {
+        if is_same_file(file.as_ref(), output).map_err(file_trouble("write", output))? {
+            return Ok(true);
+        }
+    }
+    Ok(false)
 }
 
 /// The bytes written of a message, as many as the plan unit says, or what is wrong.
@@ -343,6 +415,11 @@ fn renewed_case(case: &[u8], path: &Path) -> Result<Vec<u8>, Trouble> {
         word::CASE_REFUSED => refused("case", path, told),
         other => Trouble::Defect(format!("the plan unit answered {other}")),
     })
+}
+
+fn renewed_plan(pair: &Pair) -> Result<Vec<u8>, Trouble> {
+    let (told, bytes) = with_buffer(|buffer| write_plan(&pair.case, &pair.plan, buffer));
+    written(told, bytes, |told| pair.trouble(told))
 }
 
 /// Writes messages to their places: all beside them first, so that what cannot be written leaves
@@ -376,13 +453,134 @@ fn renew_pair(pair: &Pair, case_place: &Path, plan_place: &Path) -> Result<Answe
         &[case_place, plan_place],
     )?;
     let case = renewed_case(&pair.case, &pair.case_path)?;
-    let (told, bytes) = with_buffer(|buffer| write_plan(&pair.case, &pair.plan, buffer));
-    let plan = written(told, bytes, |told| pair.trouble(told))?;
+    let plan = renewed_plan(pair)?;
     put_all(&[(case_place, &case), (plan_place, &plan)])?;
     Ok(Answer {
         text: format!("case {}\nplan {}\n", case.len(), plan.len()),
         broken: false,
     })
+}
+
+fn renumber_files(
+    case_path: PathBuf,
+    plan_paths: Vec<PathBuf>,
+    order: &Order,
+    folder: &Path,
+) -> Result<Answer, Trouble> {
+    let paths = [vec![case_path.clone()], plan_paths.clone()].concat();
+    let places = places_in(folder, &paths)?;
+    let message = read(&case_path)?;
+    let mut pairs = Vec::new();
+    for plan_path in plan_paths {
+        pairs.push(Pair {
+            plan: read(&plan_path)?,
+            case: message.clone(),
+            case_path: case_path.clone(),
+            plan_path,
+        });
+    }
+    hold_apart(&paths, &places)?;
+    let messages = renumbered(&message, &case_path, &pairs, order)?;
+    let placed: Vec<(&Path, &[u8])> = places
+        .iter()
+        .zip(&messages)
+        .map(|(place, message)| (place.as_path(), message.as_slice()))
+        .collect();
+    put_all(&placed)?;
+    let kinds = iter::once("case").chain(iter::repeat("plan"));
+    let line = |(kind, message): (&str, &Vec<u8>)| format!("{kind} {}\n", message.len());
+    Ok(Answer {
+        text: kinds.zip(&messages).map(line).collect(),
+        broken: false,
+    })
+}
+
+/// A case and its plans with their devices in another order.
+fn renumbered(
+    message: &[u8],
+    path: &Path,
+    pairs: &[Pair],
+    order: &Order,
+) -> Result<Vec<Vec<u8>>, Trouble> {
+    let (figures, case) = renumbered_case(message, path, order)?;
+    let mut messages = vec![case];
+    for pair in pairs {
+        messages.push(renumbered_plan(pair, &figures, &messages[0], order)?);
+    }
+    Ok(messages)
+}
+
+/// Files of the same names in a folder.
+fn places_in(folder: &Path, paths: &[PathBuf]) -> Result<Vec<PathBuf>, Trouble> {
+    let place = |path: &PathBuf| match path.file_name() {
+        Some(name) => Ok(folder.join(name)),
+        None => Err(Trouble::Usage(format!("{} is no file", path.display()))),
+    };
+    paths.iter().map(place).collect()
+}
+
+/// The case's figures in the newest edition, and the message with its devices in another order.
+fn renumbered_case(message: &[u8], path: &Path, order: &Order) -> Result<(Case, Vec<u8>), Trouble> {
+    let newest = renewed_case(message, path)?;
+    let case = read_case(&newest).ok_or_else(differs)?;
+    let (named, there) = (order.devices(), case.devices.len());
+    if named != there {
+        let complaint = format!("--order names {named} sets, the case has {there}");
+        return Err(Trouble::Usage(complaint));
+    }
+    let renumbered = order.case(&newest).ok_or_else(differs)?;
+    Ok((case, renumbered))
+}
+
+/// The plan with its devices in another order, if it is told as before with the new case.
+fn renumbered_plan(
+    pair: &Pair,
+    figures: &Case,
+    new_case: &[u8],
+    order: &Order,
+) -> Result<Vec<u8>, Trouble> {
+    let newest = renewed_plan(pair)?;
+    let renumbered = order.plan(figures, &newest).ok_or_else(differs)?;
+    let old = finding(&pair.case, &pair.plan);
+    let new = finding(new_case, &renumbered);
+    if old.is_none() || new != old.map(|old| old.renumbered(order)) {
+        let plan = pair.plan_path.display();
+        let what = format!("with its sets renumbered {plan} is not told as before");
+        return Err(Trouble::Defect(what));
+    }
+    Ok(renumbered)
+}
+
+/// What the plan unit tells of a pair, wherever its sets stand.
+#[derive(PartialEq, Eq)]
+enum Finding {
+    Accepted { surplus: i64 },
+    Broken(Vec<[u8; 4]>),
+}
+
+impl Finding {
+    fn renumbered(self, order: &Order) -> Finding {
+        match self {
+            Finding::Broken(list) => Finding::Broken(order.breaches(&list)),
+            accepted => accepted,
+        }
+    }
+}
+
+/// The surplus of a pair, or every broken rule; `None` where it is neither.
+fn finding(case: &[u8], plan: &[u8]) -> Option<Finding> {
+    let (told, _) = with_buffer(|buffer| judge(case, plan, buffer));
+    match told.word {
+        word::ACCEPTED => Some(Finding::Accepted {
+            surplus: told.figures[0] as i64,
+        }),
+        word::BROKEN => {
+            let (told, list) = with_buffer(|buffer| breaches(case, plan, buffer));
+            let list = list.as_chunks::<4>().0.to_vec();
+            (told.word == word::LISTED).then_some(Finding::Broken(list))
+        }
+        _ => None,
+    }
 }
 
 fn judge_files(pair: &Pair, result: Option<&Path>) -> Result<Answer, Trouble> {

@@ -11,6 +11,7 @@
 //! - [`breaks`]: plans broken at a chosen rule.
 //! - [`damage`]: messages damaged in every way that numbers 1 to 6 name.
 //! - [`extreme`]: days with the greatest figures that messages can say.
+//! - [`order`]: other orders of a case's devices.
 //! - [`batches`]: batches of all of these.
 
 pub mod bars;
@@ -20,6 +21,7 @@ pub mod damage;
 pub mod device;
 pub mod extreme;
 pub mod floors;
+pub mod order;
 pub mod plans;
 pub mod reactive;
 pub mod sample;

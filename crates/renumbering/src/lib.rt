@@ -1,0 +1,1 @@
+// Theorems on renumbering devices, on contents; no code.
