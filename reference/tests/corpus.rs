@@ -108,16 +108,16 @@ fn another_seed_makes_another_corpus_within_bounds() {
 fn output_has_the_lines_of_the_example() {
     let lines = output(Form::BATCH, &[Vec::new(), example_batch()]);
     let lines: Vec<&str> = lines.lines().collect();
-    assert_eq!(
-        lines[..4],
-        ["batch 0", "batch 1", "0 case 2 2 0", "1 accepted 167860"]
-    );
-    assert!(lines[4].starts_with("completion 53 "));
+    assert_eq!(lines[..3], ["batch 0", "batch 1", "0 case 2 2 0"]);
+    // In edition 5 the case has 258 bytes and each plan 111.
+    assert!(lines[3].starts_with("rewritten 258 "));
+    assert_eq!(lines[4], "1 accepted 167860");
+    assert!(lines[5].starts_with("completion 53 "));
+    assert!(lines[6].starts_with("rewritten 111 "));
     // The list of plan (b) is one breach, the bytes 5, 2, 1, 0.
-    assert_eq!(
-        lines[5..],
-        ["2 broken 5 2 1 0", "breaches 1 201705985", "3 refused 1 8"]
-    );
+    assert_eq!(lines[7..9], ["2 broken 5 2 1 0", "breaches 1 201705985"]);
+    assert!(lines[9].starts_with("rewritten 111 "));
+    assert_eq!(lines[10..], ["3 refused 1 8"]);
 }
 
 #[test]
