@@ -10,7 +10,7 @@ use reference::encode::{encode_case, encode_plan, Field};
 use reference::worked_day::{two_set_day, Day};
 
 use crate::answers::{answers, batch_for_program, choice_answer, program_text};
-use crate::day::{edition, Sheet, Told};
+use crate::day::{edition, in_newest, Asked, Sheet, Told};
 use crate::names::{document, root};
 use crate::text::{blocks, is_numbered, printed, tables, unfenced, with_a_number_changed};
 use crate::{no_errors, sums, FIGURES, LAST_GROUP, REPLY};
@@ -263,6 +263,37 @@ fn messages_cut_and_run_on_are_refused_where_the_reply_says() {
             }
         }
     }
+}
+
+/// Every verdict and every list is the same of messages written in the newest edition; written again
+/// they are the same bytes.
+#[test]
+fn figures_have_the_same_answers_in_the_newest_edition() {
+    let days = Days::read();
+    let mut count = 0;
+    for figure in figures().iter().filter(|figure| figure.choice.is_none()) {
+        let sheet = figure.sheet(&days).expect("a day");
+        let has_room = !matches!(sheet.asked, Asked::Verdict(Some(_)));
+        let judged = matches!(sheet.asked, Asked::Verdict(_) | Asked::List(_));
+        let Ok(newest) = sheet.clone().with("newest edition") else {
+            continue;
+        };
+        let (case, plan) = newest.messages();
+        assert_eq!(
+            in_newest(&case, &plan),
+            Ok((case, plan)),
+            "{}",
+            figure.place
+        );
+        if judged && has_room {
+            let (old, new) = (answers(&sheet), answers(&newest));
+            assert_eq!(new.library, old.library, "{}", figure.place);
+            assert_eq!(new.batch, old.batch, "{}", figure.place);
+            count += 1;
+        }
+    }
+    println!("{count} figures in the newest edition");
+    assert!(count > 100);
 }
 
 /// The batch program prints what the second program does, where it is built.
