@@ -124,6 +124,7 @@ impl Sheet {
                 self.set_intervals(all);
             }
             ["add", n, "devices"] => (0..size(n)?).for_each(|_| self.add_idle_device()),
+            ["devices", "in", "order", numbers @ ..] => return self.rearrange(numbers),
             ["mismatch", "price", v] => self.day.case.mismatch_price = number(v)?,
             ["overrun", "price", v] => self.day.case.overrun_price = number(v)?,
             ["DC", "limit", v] => self.day.case.link_limit = number(v)?,
@@ -178,6 +179,22 @@ impl Sheet {
         for settings in &mut self.day.plan.intervals {
             settings.last_mut().expect("one was added").on = true;
         }
+    }
+
+    /// The devices of case and plan in the order in which their old numbers are named.
+    fn rearrange(&mut self, numbers: &[&str]) -> Told<()> {
+        let old: Vec<usize> = numbers.iter().map(|n| place(n)).collect::<Told<_>>()?;
+        let mut each = old.clone();
+        each.sort();
+        if !each.into_iter().eq(0..self.day.case.devices.len()) {
+            return Err("each device once".into());
+        }
+        let Day { case, plan, .. } = &mut self.day;
+        case.devices = old.iter().map(|i| case.devices[*i].clone()).collect();
+        for settings in &mut plan.intervals {
+            *settings = old.iter().map(|i| settings[*i].clone()).collect();
+        }
+        Ok(())
     }
 
     fn zone_change(&mut self, z: usize, words: &[&str]) -> Told<()> {
@@ -357,6 +374,11 @@ impl Sheet {
             });
         }
         Ok(join(&messages))
+    }
+
+    /// Whether nothing is done to the bytes of the messages.
+    pub fn is_unedited(&self) -> bool {
+        self.plan_edition.is_none() && self.case_edits.is_empty() && self.plan_edits.is_empty()
     }
 
     /// The bytes of the case and of the plan, with what is done to them.
