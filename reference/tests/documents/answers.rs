@@ -10,13 +10,11 @@ use reference::form::Form;
 use reference::judge::{judge, Refusal, Verdict};
 use reference::meets::{meets, surplus_of};
 use reference::ours::complete;
+use reference::rewrite::{rewrite_case, rewrite_plan};
 use reference::rules::Place;
 
-use crate::day::{among, place, Asked, Sheet, Told, ZONE_PRODUCTS};
+use crate::day::{among, place, Asked, Message, Sheet, Told, ROOM, ZONE_PRODUCTS};
 use crate::text::{number, numbers, printed};
-
-/// Room for every completion and every list of the days here.
-const ROOM: usize = 1 << 20;
 
 /// The answers of the library and, where it has one, of the batch program.
 pub struct Answers {
@@ -70,6 +68,21 @@ pub fn answers(sheet: &Sheet) -> Answers {
                     format!("list refused by 7 with {}", printed(bytes_needed as i128))
                 }
                 Err(other) => verdict(Verdict::Refused(other)),
+            };
+            Answers {
+                library,
+                batch: None,
+            }
+        }
+        Asked::Writing(message, room) => {
+            let mut buffer = vec![0; room.unwrap_or(ROOM)];
+            let found = match message {
+                Message::Case => rewrite_case(&case, &mut buffer),
+                Message::Plan => rewrite_plan(&case, &plan, &mut buffer),
+            };
+            let library = match found {
+                Ok(bytes) => format!("written in {} bytes", printed(bytes as i128)),
+                Err(refusal) => verdict(Verdict::Refused(refusal)),
             };
             Answers {
                 library,

@@ -9,6 +9,7 @@ use reference::case::{
 use reference::edition::Edition;
 use reference::encode::{encode_case, encode_plan};
 use reference::plan::{Plan, Setting};
+use reference::rewrite::{rewrite_case, rewrite_plan};
 use reference::worked_day::Day;
 
 use crate::text::{number, numbers};
@@ -20,6 +21,9 @@ const PRODUCTS: [&str; 8] = [
 ];
 const SHORTFALLS: [&str; 8] = ["rgu", "rgd", "scr", "nsc", "rru", "rrd", "qru", "qrd"];
 const MINIMA: [&str; 4] = ["rru", "rrd", "qru", "qrd"];
+
+/// Room for every completion, list and message of the days here.
+pub const ROOM: usize = 1 << 20;
 
 /// What is done to the bytes of a message.
 #[derive(Clone)]
@@ -38,6 +42,15 @@ pub enum Asked {
     List(Option<usize>),
     /// The lines of the batch program for this batch.
     Lines(Vec<u8>),
+    /// The case, or the plan with its case, written in the newest edition, in a buffer of so many
+    /// bytes if it is said.
+    Writing(Message, Option<usize>),
+}
+
+#[derive(Clone, Copy, PartialEq)]
+pub enum Message {
+    Case,
+    Plan,
 }
 
 /// A day with its changes.
@@ -47,6 +60,8 @@ pub struct Sheet {
     plan_edition: Option<Edition>,
     case_edits: Vec<Edit>,
     plan_edits: Vec<Edit>,
+    /// Whether both messages are written in the newest edition.
+    newest: bool,
     pub asked: Asked,
 }
 
@@ -70,6 +85,7 @@ impl Sheet {
             plan_edition: None,
             case_edits: Vec::new(),
             plan_edits: Vec::new(),
+            newest: false,
             asked: Asked::Verdict(None),
         }
     }
@@ -80,6 +96,9 @@ impl Sheet {
             let words: Vec<&str> = change.split_whitespace().collect();
             self.change(&words).map_err(|e| format!("{change}: {e}"))?;
         }
+        if self.newest {
+            self.told_messages()?;
+        }
         Ok(self)
     }
 
@@ -87,7 +106,9 @@ impl Sheet {
         match words {
             ["device", d, rest @ ..] => self.device_change(place(d)?, rest),
             ["zone", z, rest @ ..] => self.zone_change(place(z)?, rest),
-            ["plan" | "case" | "result" | "list" | "batch", ..] => self.message_change(words),
+            ["plan" | "case" | "result" | "list" | "batch" | "write" | "newest", ..] => {
+                self.message_change(words)
+            }
             _ => self.day_change(words),
         }
     }
@@ -103,6 +124,7 @@ impl Sheet {
                 self.set_intervals(all);
             }
             ["add", n, "devices"] => (0..size(n)?).for_each(|_| self.add_idle_device()),
+            ["devices", "in", "order", numbers @ ..] => return self.rearrange(numbers),
             ["mismatch", "price", v] => self.day.case.mismatch_price = number(v)?,
             ["overrun", "price", v] => self.day.case.overrun_price = number(v)?,
             ["DC", "limit", v] => self.day.case.link_limit = number(v)?,
@@ -157,6 +179,22 @@ impl Sheet {
         for settings in &mut self.day.plan.intervals {
             settings.last_mut().expect("one was added").on = true;
         }
+    }
+
+    /// The devices of case and plan in the order in which their old numbers are named.
+    fn rearrange(&mut self, numbers: &[&str]) -> Told<()> {
+        let old: Vec<usize> = numbers.iter().map(|n| place(n)).collect::<Told<_>>()?;
+        let mut each = old.clone();
+        each.sort();
+        if !each.into_iter().eq(0..self.day.case.devices.len()) {
+            return Err("each device once".into());
+        }
+        let Day { case, plan, .. } = &mut self.day;
+        case.devices = old.iter().map(|i| case.devices[*i].clone()).collect();
+        for settings in &mut plan.intervals {
+            *settings = old.iter().map(|i| settings[*i].clone()).collect();
+        }
+        Ok(())
     }
 
     fn zone_change(&mut self, z: usize, words: &[&str]) -> Told<()> {
@@ -302,6 +340,11 @@ impl Sheet {
             ["result", n, "bytes"] => self.asked = Asked::Verdict(Some(size(n)?)),
             ["list"] => self.asked = Asked::List(None),
             ["list", n, "bytes"] => self.asked = Asked::List(Some(size(n)?)),
+            ["newest", "edition"] => self.newest = true,
+            ["write", which] => self.asked = Asked::Writing(message(which)?, None),
+            ["write", which, n, "bytes"] => {
+                self.asked = Asked::Writing(message(which)?, Some(size(n)?))
+            }
             ["batch", "of", rest @ ..] => self.asked = Asked::Lines(self.batch_of(rest)?),
             ["batch", "cut", n] => match &mut self.asked {
                 Asked::Lines(batch) => batch.truncate(size(n)?),
@@ -333,8 +376,17 @@ impl Sheet {
         Ok(join(&messages))
     }
 
+    /// Whether nothing is done to the bytes of the messages.
+    pub fn is_unedited(&self) -> bool {
+        self.plan_edition.is_none() && self.case_edits.is_empty() && self.plan_edits.is_empty()
+    }
+
     /// The bytes of the case and of the plan, with what is done to them.
     pub fn messages(&self) -> (Vec<u8>, Vec<u8>) {
+        self.told_messages().expect("what is done can be done")
+    }
+
+    fn told_messages(&self) -> Told<(Vec<u8>, Vec<u8>)> {
         let Day {
             edition,
             case,
@@ -342,8 +394,30 @@ impl Sheet {
         } = &self.day;
         let case = encode_case(*edition, case).bytes;
         let plan = encode_plan(self.plan_edition.unwrap_or(*edition), plan).bytes;
-        let told = |bytes, edits| edited(bytes, edits).expect("the edit lies in the message");
-        (told(case, &self.case_edits), told(plan, &self.plan_edits))
+        let case = edited(case, &self.case_edits)?;
+        let plan = edited(plan, &self.plan_edits)?;
+        if self.newest {
+            return in_newest(&case, &plan);
+        }
+        Ok((case, plan))
+    }
+}
+
+/// A case and its plan, written in the newest edition.
+pub fn in_newest(case: &[u8], plan: &[u8]) -> Told<(Vec<u8>, Vec<u8>)> {
+    let (mut new_case, mut new_plan) = (vec![0; ROOM], vec![0; ROOM]);
+    let case_bytes = rewrite_case(case, &mut new_case).map_err(|e| format!("{e:?}"))?;
+    let plan_bytes = rewrite_plan(case, plan, &mut new_plan).map_err(|e| format!("{e:?}"))?;
+    new_case.truncate(case_bytes);
+    new_plan.truncate(plan_bytes);
+    Ok((new_case, new_plan))
+}
+
+fn message(word: &str) -> Told<Message> {
+    match word {
+        "case" => Ok(Message::Case),
+        "plan" => Ok(Message::Plan),
+        _ => Err(format!("{word}: no message")),
     }
 }
 

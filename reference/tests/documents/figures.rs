@@ -1,16 +1,17 @@
 //! Every worked figure of FIGURES and every example of REPLY.
 
-use std::collections::BTreeMap;
+use std::collections::{BTreeMap, BTreeSet};
 use std::io::Write;
 use std::process::{Command, Stdio};
 
+use reference::breaches::breaches;
 use reference::completion::completion_bits;
 use reference::edition::Edition;
 use reference::encode::{encode_case, encode_plan, Field};
 use reference::worked_day::{two_set_day, Day};
 
 use crate::answers::{answers, batch_for_program, choice_answer, program_text};
-use crate::day::{edition, Sheet, Told};
+use crate::day::{edition, in_newest, Asked, Sheet, Told, ROOM};
 use crate::names::{document, root};
 use crate::text::{blocks, is_numbered, printed, tables, unfenced, with_a_number_changed};
 use crate::{no_errors, sums, FIGURES, LAST_GROUP, REPLY};
@@ -263,6 +264,83 @@ fn messages_cut_and_run_on_are_refused_where_the_reply_says() {
             }
         }
     }
+}
+
+/// Every verdict and every list is the same of messages written in the newest edition; written again
+/// they are the same bytes.
+#[test]
+fn figures_have_the_same_answers_in_the_newest_edition() {
+    let days = Days::read();
+    let mut count = 0;
+    for figure in figures().iter().filter(|figure| figure.choice.is_none()) {
+        let sheet = figure.sheet(&days).expect("a day");
+        let has_room = !matches!(sheet.asked, Asked::Verdict(Some(_)));
+        let judged = matches!(sheet.asked, Asked::Verdict(_) | Asked::List(_));
+        let Ok(newest) = sheet.clone().with("newest edition") else {
+            continue;
+        };
+        let (case, plan) = newest.messages();
+        assert_eq!(
+            in_newest(&case, &plan),
+            Ok((case, plan)),
+            "{}",
+            figure.place
+        );
+        if judged && has_room {
+            let (old, new) = (answers(&sheet), answers(&newest));
+            assert_eq!(new.library, old.library, "{}", figure.place);
+            assert_eq!(new.batch, old.batch, "{}", figure.place);
+            count += 1;
+        }
+    }
+    println!("{count} figures in the newest edition");
+    assert!(count > 100);
+}
+
+/// Every surplus is the same with the devices in the opposite order, and every list of breaches has the
+/// same entries, the device numbers carried along; a plan is broken exactly when before.
+#[test]
+fn figures_go_along_with_the_opposite_order_of_the_devices() {
+    let days = Days::read();
+    let mut count = 0;
+    for figure in figures().iter().filter(|figure| figure.choice.is_none()) {
+        let sheet = figure.sheet(&days).expect("a day");
+        if !sheet.is_unedited() || !matches!(sheet.asked, Asked::Verdict(None) | Asked::List(None))
+        {
+            continue;
+        }
+        let devices = sheet.day.case.devices.len();
+        let order: Vec<String> = (1..=devices).rev().map(|i| i.to_string()).collect();
+        let change = format!("devices in order {}", order.join(" "));
+        let turned = sheet.clone().with(&change).expect("an order");
+        let (old, new) = (entries(&sheet), entries(&turned));
+        let carried = old.map(|list| {
+            let along = |[rule, interval, device, window]: [u8; 4]| match device {
+                0 => [rule, interval, 0, window],
+                _ => [rule, interval, devices as u8 + 1 - device, window],
+            };
+            list.into_iter().map(along).collect::<BTreeSet<_>>()
+        });
+        let new = new.map(BTreeSet::from_iter);
+        assert_eq!(new, carried, "{}", figure.place);
+        if carried.is_some_and(|list| list.is_empty()) {
+            let (old, new) = (answers(&sheet), answers(&turned));
+            assert_eq!(new.library, old.library, "{}", figure.place);
+            assert_eq!(new.batch, old.batch, "{}", figure.place);
+        }
+        count += 1;
+    }
+    println!("{count} figures in the opposite order");
+    assert!(count > 100);
+}
+
+/// The list of breaches of a day, none where reading refuses.
+fn entries(sheet: &Sheet) -> Option<Vec<[u8; 4]>> {
+    let (case, plan) = sheet.messages();
+    let mut buffer = vec![0; ROOM];
+    let count = breaches(&case, &plan, &mut buffer).ok()?;
+    let list = buffer.chunks(4).take(count);
+    Some(list.map(|b| [b[0], b[1], b[2], b[3]]).collect())
 }
 
 /// The batch program prints what the second program does, where it is built.

@@ -1,5 +1,7 @@
 //! Limits and greatest figures of FIGURES, and the numbers in the sentences of REPLY.
 
+use reference::batch::messages;
+use reference::busiest::busiest_batch;
 use reference::case::{Side, MOST_ITEMS, MOST_STATES, MOST_ZONES};
 use reference::clock::spans;
 use reference::completion::{completion_bits, Completion, IntervalChoices};
@@ -10,8 +12,10 @@ use reference::form::{Form, Largest};
 use reference::generate::extreme::{very_high_surplus_day, very_low_surplus_day};
 use reference::judge::{find, Finding};
 use reference::ours::complete;
+use reference::rewrite::{rewrite_case, rewrite_plan};
 use reference::worked_day::Day;
 
+use crate::day::ROOM;
 use crate::figures::rows_of;
 use crate::names::document;
 use crate::sentences::sentences;
@@ -41,6 +45,10 @@ fn limit(name: &str) -> i128 {
         "longest list, library" => longest_list(large, "KADUNFO_LONGEST_LIST"),
         "longest list, 16 devices and 48 intervals" => list_bytes(small),
         "longest completion, library" => longest_completion(),
+        "longest case in the newest edition" => longest_written(large).0,
+        "longest plan in the newest edition" => longest_written(large).1,
+        "longest case in the newest edition, 16 devices and 48 intervals" => written(small).0,
+        "longest plan in the newest edition, 16 devices and 48 intervals" => written(small).1,
         "stack of a call" => of_header("KADUNFO_STACK"),
         _ => return greatest(name),
     };
@@ -64,6 +72,25 @@ fn longest_completion() -> usize {
     let bytes = completion_bits(day.edition, &day.case).div_ceil(8);
     assert_eq!(bytes, of_header("KADUNFO_LONGEST_COMPLETION"));
     bytes
+}
+
+/// The bytes of the busiest case of so many devices and intervals, and of its plan, when written.
+fn written(largest: Largest) -> (usize, usize) {
+    let batch = busiest_batch(Edition::NEWEST, 1, largest.devices, largest.intervals);
+    let [case, plan] = messages(&batch)[..] else {
+        panic!("a case and a plan");
+    };
+    let mut room = vec![0; ROOM];
+    let case_bytes = rewrite_case(case, &mut room).expect("a case");
+    let plan_bytes = rewrite_plan(case, plan, &mut room).expect("a plan");
+    (case_bytes, plan_bytes)
+}
+
+fn longest_written(largest: Largest) -> (usize, usize) {
+    let longest = ["KADUNFO_LONGEST_CASE", "KADUNFO_LONGEST_PLAN"].map(of_header);
+    let (case_bytes, plan_bytes) = written(largest);
+    assert_eq!([case_bytes, plan_bytes], longest);
+    (case_bytes, plan_bytes)
 }
 
 /// A figure of the C header.
@@ -150,7 +177,7 @@ fn numbers_in_the_sentences_are_those_of_the_reading() {
     let of = |fault: Number| fault.figure() as usize;
     let (small, large) = (Edition::Three.largest(), Edition::NEWEST.largest());
     let count = of(Number::Count);
-    let expected: [(&str, Vec<usize>); 13] = [
+    let expected: [(&str, Vec<usize>); 14] = [
         ("1.1", vec![of(Number::Cut)]),
         ("1.2", vec![of(Number::Cut)]),
         ("1.3", vec![of(Number::Kind)]),
@@ -185,6 +212,13 @@ fn numbers_in_the_sentences_are_those_of_the_reading() {
             vec![Form::HOST.longest_message, Form::BATCH.longest_message],
         ),
         ("15.3", vec![of_header("KADUNFO_STACK")]),
+        (
+            "16.7",
+            vec![
+                of_header("KADUNFO_LONGEST_CASE"),
+                of_header("KADUNFO_LONGEST_PLAN"),
+            ],
+        ),
     ];
     for (place, figures) in expected {
         let all = sentences();

@@ -22,8 +22,9 @@ const AUDIT: &str = "docs/AUDIT.md";
 const RULES: &str = "docs/reply/RULES.md";
 const CHANGES: &str = "docs/reply/CHANGES.md";
 
-/// The last group of the reply, that of basis and limits, has no example.
-const LAST_GROUP: usize = 15;
+/// The group of basis and limits, which has no example; behind it each later request has its group.
+const BASIS_GROUP: usize = 15;
+const LAST_GROUP: usize = 17;
 
 fn no_errors(errors: Vec<String>) {
     assert!(errors.is_empty(), "{}", errors.join("\n"));

@@ -2,10 +2,12 @@
 
 use crate::names::document;
 use crate::text::{is_numbered, tables, unfenced};
-use crate::{LAST_GROUP, PROOFS, REPLY};
+use crate::{BASIS_GROUP, LAST_GROUP, PROOFS, REPLY};
 
 const MOST_WORDS: usize = 35;
+/// The most bytes of the reply up to the group of basis and limits, and of each group behind.
 const MOST_BYTES: usize = 15 * 1024;
+const MOST_BYTES_OF_A_REQUEST: usize = 1024;
 
 /// The sentences of REPLY with their numbers.
 pub fn sentences() -> Vec<(String, String)> {
@@ -18,13 +20,30 @@ pub fn sentences() -> Vec<(String, String)> {
         .collect()
 }
 
+/// The reply up to the group of basis and limits, then each group behind with its number.
+fn parts(reply: &str) -> Vec<(usize, &str)> {
+    let mut rest = reply;
+    let mut parts = Vec::new();
+    for group in BASIS_GROUP..LAST_GROUP {
+        let title = format!("\n## {} ", group + 1);
+        let (part, _) = rest.split_once(&title).expect("a group of this number");
+        parts.push((group, part));
+        rest = &rest[part.len()..];
+    }
+    parts.push((LAST_GROUP, rest));
+    parts
+}
+
 #[test]
 fn the_reply_is_short_and_its_sentences_stand_alone() {
-    assert!(
-        document(REPLY).len() <= MOST_BYTES,
-        "{REPLY} has {} bytes",
-        document(REPLY).len()
-    );
+    for (group, part) in parts(&document(REPLY)) {
+        let most = match group {
+            BASIS_GROUP => MOST_BYTES,
+            _ => MOST_BYTES_OF_A_REQUEST,
+        };
+        let bytes = part.len();
+        assert!(bytes <= most, "{REPLY} has {bytes} bytes up to {group}");
+    }
     for (number, sentence) in sentences() {
         let words = sentence.split_whitespace().count();
         assert!(words <= MOST_WORDS, "{number} has {words} words");
@@ -43,7 +62,8 @@ fn sentences_are_numbered_in_turn_and_every_group_has_an_example() {
     let (mut group, mut sentence, mut has_example) = (0, 0, true);
     for line in unfenced(&reply) {
         if let Some(title) = line.strip_prefix("## ") {
-            assert!(has_example, "group {group} has no example");
+            let needs_none = group == BASIS_GROUP;
+            assert!(has_example || needs_none, "group {group} has no example");
             (group, sentence, has_example) = (group + 1, 0, false);
             assert!(title.starts_with(&format!("{group} ")), "{title}");
         } else if line.starts_with("- *Day ") {
@@ -54,6 +74,7 @@ fn sentences_are_numbered_in_turn_and_every_group_has_an_example() {
         }
     }
     assert_eq!(group, LAST_GROUP);
+    assert!(has_example || group == BASIS_GROUP, "{group}");
 }
 
 /// The numbers in the first column of the table of proofs.
