@@ -26,7 +26,7 @@ ghost use Rattle.completions.specs.Windows.{Few, FewWindows, CountedTo};
 ghost use Rattle.completions.specs.Whole.{neededFor, Completes};
 
 // The energy windows of all devices.
-fn count_windows(devices: &[DeviceRow]) -> u64
+pub fn count_windows(devices: &[DeviceRow]) -> u64
     requires { ⌜ FewWindows (now devices) ⌝ }
     ensures { λ r. ⌜ CountedTo (now (devices .entry)) (length (now (devices .entry))) r ⌝ }
 {
