@@ -101,7 +101,8 @@ module _ (x : Stated) (g : Sound x) (ps whole : List ℕ) (room : mostBytes ≤ 
   refused-go before (passes p) s f k v = absurd (go (breaches q p) refl v)
     where
       go : (bs : List Breach) → breaches q p ≡ bs
-          → Y.Refused s f ≡ J.unlessBroken bs (pick (leb (length (completionBytes x p)) (length whole)) (Y.Accepted (ourSurplus (x .case) p)) (Y.Refused S.Result (TooShort (length (completionBytes x p)))))
+          → Y.Refused s f ≡ J.unlessBroken bs (pick (leb (length (completionBytes x p)) (length whole)) (Y.Accepted (ourSurplus (x .case) p)) (Y.Refused S.Result (TooShort
+          (length (completionBytes x p)))))
           → ⊥
       go [] n u =
           let t = le-leb (length (completionBytes x p)) (length whole) (omega (arith, room, completion-bound x g ps p k (none-every q p n))) in
@@ -131,7 +132,8 @@ module _ (x : Stated) (g : Sound x) (ps whole : List ℕ) (room : mostBytes ≤ 
   stands-go after (passes p) z k v r = go (breaches q p) refl v (r ∙ ap (λ (y : Verdict). bufferAfter y (completionBytes x p) whole) (sym v))
     where
       go : (bs : List Breach) → breaches q p ≡ bs
-          → Y.Accepted z ≡ J.unlessBroken bs (pick (leb (length (completionBytes x p)) (length whole)) (Y.Accepted (ourSurplus (x .case) p)) (Y.Refused S.Result (TooShort (length (completionBytes x p)))))
+          → Y.Accepted z ≡ J.unlessBroken bs (pick (leb (length (completionBytes x p)) (length whole)) (Y.Accepted (ourSurplus (x .case) p)) (Y.Refused S.Result (TooShort (length
+          (completionBytes x p)))))
           → after ≡ completionBytes x p ++ drop (length (completionBytes x p)) whole → Stands after
       go [] n u r = record {
         plan = p;
@@ -169,7 +171,12 @@ module _ {front : Front} {halves : List ℕ} {zones minima devices cells : List 
   bytes-long : (p : Plan) → length (completionBytes x p) ≡ neededFor (front .edition) halves zones devices
   unfolding completionBytes
   bytes-long p = written-needed (front .edition) c (ours (x .case) p) (ourSurplus (x .case) p)
-      ∙ rw (Viewed.devices-are halves zones minima devices cells, Viewed.intervals-are halves zones minima devices cells, Viewed.zones-are halves zones minima devices cells, windows-whole (d .rows)) refl
+      ∙ rw (
+        Viewed.devices-are halves zones minima devices cells,
+        Viewed.intervals-are halves zones minima devices cells,
+        Viewed.zones-are halves zones minima devices cells,
+        windows-whole (d .rows),
+      ) refl
 
   pub whole-room : {z : ℤ} → v ≡ Y.Accepted z → neededFor (front .edition) halves zones devices ≤ length after
   whole-room t =
