@@ -33,33 +33,33 @@ use Rattle.renumbered_messages.specs.Cases.{rearrangedBytes, case-there}
 same : (e : ℕ) → e ≤ e
 same e = omega arith
 
--- an interval's part of a plan: so many settings, each of which can be written, and the flow
-abbrev RowFits : ℕ → ℕ → (List Setting × ℤ) → Type 1
-RowFits e devices v = (length (v .0) ≡ devices) × Each (Fit (B.setting e) 206) noSetting (v .0) × Fit (since e 5 noFlow B.flow) 18 (v .1)
+-- an interval's part of a plan: so many settings, of each of which S holds, and the flow, which can be written
+abbrev pub RowHas : (Setting → Type 1) → ℕ → ℕ → (List Setting × ℤ) → Type 1
+RowHas S e devices v = (length (v .0) ≡ devices) × Each S noSetting (v .0) × Fit (since e 5 noFlow B.flow) 18 (v .1)
 
-abbrev noRow : List Setting × ℤ
+abbrev pub noRow : List Setting × ℤ
 noRow = ([], noFlow)
 
--- what is known of a plan that passes reading
-pub record Rows (e devices intervals : ℕ) (p : Plan) : Type 1 where
+-- what is known of a plan that passes reading, where S holds of each setting that is read
+pub record Rows (S : Setting → Type 1) (e devices intervals : ℕ) (p : Plan) : Type 1 where
   pub long : length (p .settings) ≡ intervals
   pub step : length (p .flows) ≡ length (p .settings)
-  pub each : Each (RowFits e devices) noRow (M.pairs (p .settings) (p .flows))
+  pub each : Each (RowHas S e devices) noRow (M.pairs (p .settings) (p .flows))
 
-module _ (e n : ℕ) (h : e ≤ n) (devices intervals : ℕ) (few : devices ≤ mostDevices) where
-  row-reads : Reads (B.planned e devices) Any (RowFits n devices)
+module _ (S : Setting → Type 1) (e n : ℕ) (h : e ≤ n) (read : Reads (B.setting e) Any S) (devices intervals : ℕ) (few : devices ≤ mostDevices) where
+  row-reads : Reads (B.planned e devices) Any (RowHas S n devices)
   row-reads = more-reads _ _ _ _ _
-      (pair-reads _ _ _ _ _ _ (list-reads noSetting (setting-again e n h) (setting-again e n h) devices)
+      (pair-reads _ _ _ _ _ _ (list-reads noSetting read (setting-again e n h) devices)
       (since-again e n h 5 noFlow (fit-int 18 100000 (pos 0) (omega arith) (omega arith)) (any-again (int-again 18 100000 (omega arith)))))
       (λ v ok. tt) (λ v ok r. (ok .0, r .0, r .1))
 
   rows-read : Reads (M.apart (list intervals (B.planned e devices))) (λ v. (length (v .0) ≡ intervals) × (length (v .1) ≡ intervals))
-      (λ v. Each (RowFits n devices) noRow (M.pairs (v .0) (v .1)))
+      (λ v. Each (RowHas S n devices) noRow (M.pairs (v .0) (v .1)))
   unfolding M.apart
   rows-read = held-reads _ _ (list intervals (B.planned e devices)) _ _ _ _ (list-reads noRow row-reads (planned-again e n h devices few) intervals)
       (λ xs l. (rw length-map l, rw length-map l)) (λ xs l. ap (list intervals (B.planned e devices) .write) (pairs-apart xs)) (λ xs l r. rw (pairs-apart xs) r)
 
-  plan-reads : Reads (B.planLayout e devices intervals) Any (Rows n devices intervals)
+  pub plan-reads : Reads (B.planLayout e devices intervals) Any (Rows S n devices intervals)
   unfolding B.planBy
   plan-reads = held-reads _ _ _ _ Any _ _
       (pair-reads _ _ _ _ _ _ (only-reads 4 B.planKind _) (pair-reads _ _ _ _ _ _ (only-reads 4 e _)
@@ -69,6 +69,10 @@ module _ (e n : ℕ) (h : e ≤ n) (devices intervals : ℕ) (few : devices ≤ 
       (λ v ok r. let b = ok .1 .1 .1 .1 in record { long = b .0; step = b .1 ∙ sym (b .0); each = r .1 .1 .1 .1 })
 
 -- ---- rearranged
+
+-- settings that can be written
+abbrev Fits : ℕ → Setting → Type 1
+Fits e = Fit (B.setting e) 206
 
 each-map : {A B : Type 0} (R : A → Type 1) (S : B → Type 1) (d : A) (b : B) (f : A → B) → ((a : A) → R a → S (f a)) → (xs : List A) → Each R d xs → Each S b (map f xs)
 each-map R S d b f h [] r k l = absurd (omega arith)
@@ -92,7 +96,7 @@ module _ {n : ℕ} (r : Renumbering n) where
   seconds-moved (s ∷ ss) [] h = absurd (omega arith)
   seconds-moved (s ∷ ss) (f ∷ fs) h = ap (λ (l : List ℤ). f ∷ l) (seconds-moved ss fs (omega arith))
 
-  row-fits : (e : ℕ) → n ≤ mostDevices → (v : List Setting × ℤ) → RowFits e n v → Fit (B.planned e n) 13202 (moved v)
+  row-fits : (e : ℕ) → n ≤ mostDevices → (v : List Setting × ℤ) → RowHas (Fits e) e n v → Fit (B.planned e n) 13202 (moved v)
   row-fits e few v w = fit-then _ (fit-more (mul-le-mul few (same 206)) fits) (w .2)
     where
       row : List Setting
@@ -100,9 +104,9 @@ module _ {n : ℕ} (r : Renumbering n) where
 
       fits : Fit (list n (B.setting e)) (n * 206) row
       fits = subst (λ (k : ℕ). Fit (list k (B.setting e)) (k * 206) row) (rearranged-long r noSetting (v .0))
-          (fit-each noSetting row (each-rearranged r noSetting (Fit (B.setting e) 206) (v .0) (w .0) (w .1)))
+          (fit-each noSetting row (each-rearranged r noSetting (Fits e) (v .0) (w .0) (w .1)))
 
-  rows-fit : (e intervals : ℕ) → n ≤ mostDevices → intervals ≤ mostIntervals → (p : Plan) → Rows e n intervals p
+  rows-fit : (e intervals : ℕ) → n ≤ mostDevices → intervals ≤ mostIntervals → (p : Plan) → Rows (Fits e) e n intervals p
       → Fit (M.apart (list intervals (B.planned e n))) 1267392 (rearrangedPlan r p .settings, rearrangedPlan r p .flows)
   unfolding M.apart rearrangedPlan
   rows-fit e intervals few short p k =
@@ -114,7 +118,7 @@ module _ {n : ℕ} (r : Renumbering n) where
 
       fits : Fit (list intervals (B.planned e n)) (intervals * 13202) zs
       fits = subst (λ (k : ℕ). Fit (list k (B.planned e n)) (k * 13202) zs) (length-map (M.pairs (p .settings) (p .flows)) moved ∙ pairs-long (p .settings) (p .flows) (k .step) ∙ k .long)
-          (fit-each noRow zs (each-map (RowFits e n) (Fit (B.planned e n) 13202) noRow noRow moved (row-fits e few) (M.pairs (p .settings) (p .flows)) (k .each)))
+          (fit-each noRow zs (each-map (RowHas (Fits e) e n) (Fit (B.planned e n) 13202) noRow noRow moved (row-fits e few) (M.pairs (p .settings) (p .flows)) (k .each)))
 
 -- ---- a pair
 
@@ -141,9 +145,9 @@ module _ (l : Largest) (most : l .devices ≤ mostDevices) (long : l .intervals 
         intervals = omega (arith, t .case .intervals, b .intervals);
       }
 
-  plan-known : Rows n (devices q) (intervals q) p
+  plan-known : Rows (Fits n) n (devices q) (intervals q) p
   unfolding plannedIn
-  plan-known = whole-reads _ Any _ (plan-reads (x .edition) n later (devices q) (intervals q) few) ps p k
+  plan-known = whole-reads _ Any _ (plan-reads (Fits n) (x .edition) n later (setting-again (x .edition) n later) (devices q) (intervals q) few) ps p k
 
   -- the plan with its devices rearranged, in edition n
   unfoldable pub rearrangedPlanBytes : List ℕ
