@@ -5,6 +5,7 @@ ghost use lib.ListN.{length};
 ghost use Rattle.model.specs.Breaches.{cellBreaches, windowBreaches};
 ghost use Rattle.records.specs.Views.{systemIn, planIn, mostWindows, mostDevices, mostIntervals, Ready};
 ghost use Rattle.breach_entries.specs.Noted.{Notes, mostEntries};
+ghost use Rattle.start_windows.specs.Windows.{Timed};
 ghost use Rattle.failing_rules.specs.Parts.{windowsHere};
 ghost use Rattle.breach_notes.specs.Bits.{wordBreaches};
 ghost use Rattle.breach_notes.specs.Day.{NotesAll};
@@ -222,7 +223,7 @@ fn note_windows(
     k: usize,
     list: &mut [u8],
 ) -> usize
-    requires { ⌜ (d .nstarts ≤ mostWindows) × (i < mostDevices) × (length (now settings) ≤ mostIntervals) × (length (now settings) ≤ length (now starts)) ⌝ }
+    requires { ⌜ (d .nstarts ≤ mostWindows) × (i < mostDevices) × Timed (now settings) (now starts) ⌝ }
     requires { ⌜ k + length (windowsHere d (now settings) (now starts) i) ≤ mostEntries ⌝ }
     ensures { λ r. ⌜ Notes k (windowsHere d (now (settings .entry)) (now (starts .entry)) i) (now (list .entry)) (now (list .exit)) r ⌝ }
 {

@@ -10,6 +10,7 @@ ghost use Rattle.records.specs.Views.{systemIn, planIn, mostWindows, mostDevice
 ghost use Rattle.cell_bounds.specs.Word.{numbersIn};
 ghost use Rattle.breaches.specs.First.{first, orElse};
 ghost use Rattle.breaches.specs.Bits.{firstOf};
+ghost use Rattle.start_windows.specs.Windows.{Timed};
 ghost use Rattle.failing_rules.specs.Parts.{windowsHere};
 ghost use Rattle.failing_rules.specs.Day.{intervalCells, intervalBreaches, dayBreaches, dayWindows};
 ghost use Rattle.breaches.specs.Day.{DeviceHolds, HoldTo};
@@ -233,7 +234,7 @@ fn day_rules(
 
 // Rule 20 of a device's windows, from its part of the settings.
 fn device_windows(d: Device, settings: &[SettingRow], starts: &[u32], i: usize) -> Check
-    requires { ⌜ (d .nstarts ≤ mostWindows) × (i < mostDevices) × (length (now settings) ≤ mostIntervals) × (length (now settings) ≤ length (now starts)) ⌝ }
+    requires { ⌜ (d .nstarts ≤ mostWindows) × (i < mostDevices) × Timed (now settings) (now starts) ⌝ }
     ensures { λ r. ⌜ r ≡ first (windowsHere d (now (settings .entry)) (now (starts .entry)) i) ⌝ }
 {
     let all = all_starts(d.on0, settings);

@@ -20,6 +20,7 @@ use Rattle.row_places.specs.Figures.{deviceOf}
 use Rattle.numbers.specs.Parts.{part, part-cut, part-inside, part-long}
 use Rattle.records.specs.Views.{systemIn, planIn, mostWindows, mostDevices, mostIntervals, Ready}
 use Rattle.records.specs.Viewed as W
+use Rattle.records.specs.Ranged.{start-order}
 use Rattle.row_places.specs.Figures.{noStart}
 use Rattle.row_places.specs.declared.Device.{Device}
 use Rattle.row_places.specs.declared.Front.{Front}
@@ -32,7 +33,7 @@ use Rattle.device_rules.specs.Whole.{AllFit, HeldTo}
 use Rattle.reactive_rules.specs.declared.ReactiveBounds.{ReactiveBounds}
 use Rattle.reactive_rules.specs.Rules.{reactiveBoundsOf, reactiveTestsAt, reactive-rise, ReactiveFits, AllReactiveFit, ReactiveHeldTo}
 use Rattle.reactive_rules.specs.Tie.{reactive-tests-here, reactive-fits-here, own-cells}
-use Rattle.start_windows.specs.Windows.{startsAt, starts-are}
+use Rattle.start_windows.specs.Windows.{Timed, startsAt, starts-are}
 
 -- what is made of nothing
 unmapped : {A B : Type 0} (f : A → B) (l : List A) → map f l ≡ [] → l ≡ []
@@ -166,8 +167,15 @@ module _ {front : Front} {halves : List ℕ} {zones minima devices cells setting
   pub windows-are : {d : Device} → d ≡ deviceOf (getD devices i []) → windowsHere d ownSettings starts i ≡ windowBreaches q p i
   windows-are is = rw (is, part-cut m i a settings e) all-here
 
-  pub own-long : length ownSettings ≡ length halves
+  own-long : length ownSettings ≡ length halves
   own-long = rw (part-cut m i a settings e) (part-long m i (length devices) settings l (ready .plan-rows .full))
+
+  pub own-timed : Timed ownSettings starts
+  own-timed = record {
+    few = omega (arith, own-long, ready .case-rows .few-intervals);
+    timed = omega (arith, own-long, ready .forced-rows .starts-full);
+    rising = λ b t h k. start-order ready b t h (omega (arith, own-long));
+  }
 
   pub few-windows : {d : Device} → d ≡ deviceOf (getD devices i []) → d .nstarts ≤ mostWindows
   few-windows is = rw is (ready .case-rows .counted i l .few-starts)

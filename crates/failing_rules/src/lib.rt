@@ -1,4 +1,4 @@
-// Which rules of an interval and device fail, and the breach of a rule at its place: what the first breach, the list of all and a plan's mending read.
+// Which rules of an interval and device fail, and the breach of a rule at its place: what the first breach and the list of all read.
 ghost use mathlib.Core.Path.{_≡_};
 ghost use Prim.Native.Nat.{_*_, _<_};
 ghost use lib.ListN.{length};

@@ -3,7 +3,7 @@ use borrow.Author.Needs.{needs}
 use native.Mathlib.Omega.{arith}
 use lib.ListN.{length}
 use mathlib.Core.Path.{sym}
-use Rattle.failing_rules.specs.Parts.{place, few-windows, own-long, windows-are}
+use Rattle.failing_rules.specs.Parts.{place, few-windows, own-timed, windows-are}
 use Rattle.breach_entries.specs.Noted.{notes-as}
 use Rattle.breach_notes.specs.Day.{room-as}
 use Rattle.breach_notes.proofs.note_device.Statement.{statement}
@@ -37,13 +37,11 @@ part-note-windows-end c = let a : _ = c .before .before .before .before .before 
 
 note-windows-requires : tie.Need-note-windows-requires
 note-windows-requires c κs = let a : _ = c .before .before .before .before .before .before .before .args in
-    let s : _ = c .before .before .before .before .before .before .before .pre .0 in let r : _ = s .0 in let n : _ = own-long r (a .i) (a .a) (s .1) (s .2) in (
+    let s : _ = c .before .before .before .before .before .before .before .pre .0 in let r : _ = s .0 in (
       (
         few-windows r (a .i) (a .a) (s .1) (s .2) (c .before .before .device-at .ensures),
         omega (arith, r .case-rows .few-devices),
-        omega
-            (arith, n, r .case-rows .few-intervals),
-        omega (arith, n, r .forced-rows .starts-full),
+        own-timed r (a .i) (a .a) (s .1) (s .2),
       ),
       room-as (a .k) (sym (windows-are r (a .i) (a .a) (s .1) (s .2) (c .before .before .device-at .ensures))) (c .before .before .before .before .before .before .before .pre .1),
     )

@@ -4,7 +4,7 @@ use mathlib.Core.Path.{refl, sym, ap, _∙_}
 use borrow.Author.Tests.{not-true, not-false}
 use Rattle.numbers.specs.Tests.{never}
 use Rattle.breaches.specs.First.{first, none-first, broken-first}
-use Rattle.failing_rules.specs.Parts.{place, all-fit, all-reactive-fit, none-here, here-held, here-reactive, few-windows, own-long, windows-are}
+use Rattle.failing_rules.specs.Parts.{place, all-fit, all-reactive-fit, none-here, here-held, here-reactive, few-windows, own-timed, windows-are}
 use borrow.Author.Needs.{needs}
 use Rattle.breaches.proofs.device_held.Statement.{statement}
 use Rattle.breaches.proofs.device_held.Tie as tie
@@ -89,8 +89,7 @@ device-windows-requires : tie.Need-device-windows-requires
 device-windows-requires c κs = let there : _ = c .before .before .before .before .before .before .before .before .before in let s : _ = there .before .before .before .before in (
   few-windows (s .pre .0) (s .args .i) (s .args .a) (s .pre .1) (s .pre .2) (there .device-at .ensures),
   omega (arith, s .pre .0 .case-rows .few-devices),
-  omega (arith, own-long (s .pre .0) (s .args .i) (s .args .a) (s .pre .1) (s .pre .2), s .pre .0 .case-rows .few-intervals),
-  omega (arith, own-long (s .pre .0) (s .args .i) (s .args .a) (s .pre .1) (s .pre .2), s .pre .0 .forced-rows .starts-full),
+  own-timed (s .pre .0) (s .args .i) (s .args .a) (s .pre .1) (s .pre .2),
 )
 
 enum-told : tie.Need-enum-told

@@ -29,7 +29,7 @@ element-copy-out-window : tie.Need-element-copy-out-window Inv-loop μ-loop
 element-copy-out-window c = search needs
 
 window-kept-requires : tie.Need-window-kept-requires Inv-loop μ-loop
-window-kept-requires c κs = (c .before .before .before .all-starts .ensures, c .before .before .before .before .before .pre .2, c .before .before .before .before .before .pre .3)
+window-kept-requires c κs = (c .before .before .before .all-starts .ensures, c .before .before .before .before .before .pre .2)
 
 window-breach-requires : tie.Need-window-breach-requires Inv-loop μ-loop
 window-breach-requires c κs = search needs

@@ -2,7 +2,7 @@
 use native.Mathlib.Omega.{arith}
 use mathlib.Core.Path.{ap, _∙_}
 use Rattle.breaches.specs.First.{first}
-use Rattle.failing_rules.specs.Parts.{place, few-windows, own-long, windows-are}
+use Rattle.failing_rules.specs.Parts.{place, few-windows, own-timed, windows-are}
 use borrow.Author.Needs.{needs}
 use Rattle.breaches.proofs.window_check.Statement.{statement}
 use Rattle.breaches.proofs.window_check.Tie as tie
@@ -33,18 +33,8 @@ device-windows-requires c κs = let a : _ = c .before .before .before .before .b
   few-windows (c .before .before .before .before .before .pre .0) (a .i) (a .a) (c .before .before .before .before .before .pre .1)
       (c .before .before .before .before .before .pre .2) (c .before .device-at .ensures),
   omega (arith, r .case-rows .few-devices),
-  omega (
-    arith,
-    own-long (c .before .before .before .before .before .pre .0) (a .i) (a .a) (c .before .before .before .before .before .pre .1)
-        (c .before .before .before .before .before .pre .2),
-    r .case-rows .few-intervals,
-  ),
-  omega (
-    arith,
-    own-long (c .before .before .before .before .before .pre .0) (a .i) (a .a) (c .before .before .before .before .before .pre .1)
-        (c .before .before .before .before .before .pre .2),
-    r .forced-rows .starts-full,
-  ),
+  own-timed (c .before .before .before .before .before .pre .0) (a .i) (a .a) (c .before .before .before .before .before .pre .1)
+      (c .before .before .before .before .before .pre .2),
 )
 
 returns : tie.Need-returns

@@ -1,0 +1,1 @@
+// Small days with one device, each mended as it is by hand; no code.

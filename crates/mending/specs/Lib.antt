@@ -1,0 +1,4 @@
+pub mod Mending
+pub mod Ranks
+pub mod Least
+pub mod Mendings
