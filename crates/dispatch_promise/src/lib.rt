@@ -1,0 +1,1 @@
+// What is promised of a dispatch, and its proof. No code.
