@@ -1,5 +1,6 @@
 -- What hosts in other languages are answered.
 use mathlib.Core.Path.{_≡_, refl, ap, _∙_}
+use mathlib.Core.Bool.{Bool}
 use mathlib.Core.List.{List, _++_}
 use Prim.Native.Nat.{ℕ, _≤_, _<_}
 use native.Mathlib.Omega.{arith}
@@ -11,10 +12,16 @@ use Rattle.tellings.specs.declared.Told.{Told}
 use Rattle.model.specs.declared.Inspected.{Inspected}
 use Rattle.plan_unit.specs.Judges.{Judges}
 use Rattle.case_inspection.specs.Inspection.{Inspects}
-use Rattle.tellings.specs.Told.{toldOf, toldCase, toldList, toldWriting, figuresOf}
+use Rattle.tellings.specs.Told.{toldOf, toldCase, toldList, toldWriting, toldCopy, toldReading, toldMending, figuresOf}
 use Rattle.writing.specs.declared.Writing.{Writing}
 use Rattle.rewrites.specs.Steps.{RewritesCase}
 use Rattle.rewrite_unit.specs.Plans.{RewritesPlan}
+use Rattle.market.specs.declared.Copying.{Copying}
+use Rattle.market_unit.specs.Markets.{CopiesForMarket}
+use Rattle.completion_reading.specs.declared.Reading.{Reading}
+use Rattle.reader_unit.specs.Reads.{Reads}
+use Rattle.mending.specs.declared.Mending.{Mending}
+use Rattle.mend_unit.specs.Mends.{MendsBytes}
 use Rattle.breach_unit.specs.Breaches.{ListsBreaches}
 
 -- four numbers stored at the front of a lent slice; nothing is done, and 5 is answered, where it has fewer places
@@ -37,6 +44,18 @@ pub record HostWritesCase (cs before after figures told : List ℕ) (r : ℕ) : 
 pub record HostWritesPlan (cs ps before after figures told : List ℕ) (r : ℕ) : Type 0 where
   pub short : length figures < 4 → (r ≡ 5) × (after ≡ before) × (told ≡ figures)
   pub writes : 4 ≤ length figures → (x : Writing) × RewritesPlan host cs ps before after x × (r ≡ toldWriting x .word) × (told ≡ figuresOf (toldWriting x) ++ drop 4 figures)
+
+pub record HostCopies (cs ps before after figures told : List ℕ) (r : ℕ) : Type 0 where
+  pub short : length figures < 4 → (r ≡ 5) × (after ≡ before) × (told ≡ figures)
+  pub copies : 4 ≤ length figures → (x : Copying) × CopiesForMarket host cs ps before after x × (r ≡ toldCopy x .word) × (told ≡ figuresOf (toldCopy x) ++ drop 4 figures)
+
+pub record HostReads (desk : Bool) (cs s before after figures told : List ℕ) (r : ℕ) : Type 0 where
+  pub short : length figures < 4 → (r ≡ 5) × (after ≡ before) × (told ≡ figures)
+  pub reads : 4 ≤ length figures → (x : Reading) × Reads host desk cs s before after x × (r ≡ toldReading x .word) × (told ≡ figuresOf (toldReading x) ++ drop 4 figures)
+
+pub record HostMends (cs ps figures told : List ℕ) (r : ℕ) : Type 0 where
+  pub short : length figures < 4 → (r ≡ 5) × (told ≡ figures)
+  pub mends : 4 ≤ length figures → (x : Mending) × MendsBytes host cs ps x × (r ≡ toldMending x .word) × (told ≡ figuresOf (toldMending x) ++ drop 4 figures)
 
 -- ---- from what the code answers
 
@@ -84,6 +103,28 @@ module _ (cs ps before figures : List ℕ) where
     writes = λ _. (x, j, ap (λ (x : Told). x .word) e, f ∙ ap (λ (x : Told). figuresOf x ++ drop 4 figures) e);
   }
 
+module _ (cs ps before figures : List ℕ) where
+  pub copies-short : length figures < 4 → HostCopies cs ps before before figures figures 5
+  copies-short h = record { short = λ _. (refl, refl, refl); copies = λ k. absurd (omega (arith, h, k)) }
+
+  pub copies-told : {after told : List ℕ} {t : Told} (x : Copying) → 4 ≤ length figures → CopiesForMarket host cs ps before after x → t ≡ toldCopy x
+      → told ≡ figuresOf t ++ drop 4 figures → HostCopies cs ps before after figures told (t .word)
+  copies-told x h j e f = record {
+    short = λ k. absurd (omega (arith, h, k));
+    copies = λ _. (x, j, ap (λ (x : Told). x .word) e, f ∙ ap (λ (x : Told). figuresOf x ++ drop 4 figures) e);
+  }
+
+module _ (desk : Bool) (cs s before figures : List ℕ) where
+  pub reads-short : length figures < 4 → HostReads desk cs s before before figures figures 5
+  reads-short h = record { short = λ _. (refl, refl, refl); reads = λ k. absurd (omega (arith, h, k)) }
+
+  pub reads-told : {after told : List ℕ} {t : Told} (x : Reading) → 4 ≤ length figures → Reads host desk cs s before after x → t ≡ toldReading x
+      → told ≡ figuresOf t ++ drop 4 figures → HostReads desk cs s before after figures told (t .word)
+  reads-told x h j e f = record {
+    short = λ k. absurd (omega (arith, h, k));
+    reads = λ _. (x, j, ap (λ (x : Told). x .word) e, f ∙ ap (λ (x : Told). figuresOf x ++ drop 4 figures) e);
+  }
+
 module _ (cs figures : List ℕ) where
   pub inspects-short : length figures < 4 → HostInspects cs figures figures 5
   inspects-short h = record { short = λ _. (refl, refl); inspects = λ k. absurd (omega (arith, h, k)) }
@@ -93,4 +134,15 @@ module _ (cs figures : List ℕ) where
   inspects-told x h i e f = record {
     short = λ k. absurd (omega (arith, h, k));
     inspects = λ _. (x, i, ap (λ (y : Told). y .word) e, f ∙ ap (λ (y : Told). figuresOf y ++ drop 4 figures) e);
+  }
+
+module _ (cs ps figures : List ℕ) where
+  pub mends-short : length figures < 4 → HostMends cs ps figures figures 5
+  mends-short h = record { short = λ _. (refl, refl); mends = λ k. absurd (omega (arith, h, k)) }
+
+  pub mends-told : {told : List ℕ} {t : Told} (x : Mending) → 4 ≤ length figures → MendsBytes host cs ps x → t ≡ toldMending x
+      → told ≡ figuresOf t ++ drop 4 figures → HostMends cs ps figures told (t .word)
+  mends-told x h j e f = record {
+    short = λ k. absurd (omega (arith, h, k));
+    mends = λ _. (x, j, ap (λ (y : Told). y .word) e, f ∙ ap (λ (y : Told). figuresOf y ++ drop 4 figures) e);
   }

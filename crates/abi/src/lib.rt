@@ -1,11 +1,18 @@
 // The judgement for hosts in other languages: a word and four numbers.
+use dispatch_unit::dispatch_told;
+use offers::Offer;
 use tellings::split;
 use tellings::store;
 use tellings::tell;
 use tellings::tell_case;
+use tellings::tell_copy;
 use tellings::tell_list;
+use tellings::tell_mending;
+use tellings::tell_reading;
 use tellings::tell_writing;
-ghost use Rattle.abi.specs.Hosts.{HostJudges, HostInspects, HostLists, HostWritesCase, HostWritesPlan};
+ghost use mathlib.Core.Bool.{true, false};
+ghost use Rattle.abi.specs.Hosts.{HostJudges, HostInspects, HostLists, HostWritesCase, HostWritesPlan, HostCopies, HostReads, HostMends};
+ghost use Rattle.dispatch_tellings.specs.Hosts.{HostDispatches};
 ghost use Rattle.tellings.specs.Splitting.{HostSplits};
 
 // `judge` for hosts: the word and the figures of the verdict; 5, with nothing done, where `figures` has fewer than four places.
@@ -96,6 +103,118 @@ pub extern "C" fn kadunfo_write_plan(
     let word = t.word;
     store(figures, t);
     word
+}
+
+// `market_copy` for hosts: 0 and how many bytes were written, 1 and the broken rule with its place, or the refusal, and never the surplus; 5, with nothing done,
+// where `figures` has fewer than four places.
+#[no_mangle]
+pub extern "C" fn kadunfo_market(
+    case: &[u8],
+    plan: &[u8],
+    result: &mut [u8],
+    figures: &mut [u64],
+) -> u64
+    ensures { λ r. ⌜ HostCopies (now (case .entry)) (now (plan .entry)) (now (result .entry)) (now (result .exit)) (now (figures .entry)) (now (figures .exit)) r ⌝ }
+{
+    if figures.len() < 4 {
+        return 5;
+    }
+    let x = market_unit::market_copy(case, plan, result);
+    let t = tell_copy(x);
+    let word = t.word;
+    store(figures, t);
+    word
+}
+
+// `read_completion` for hosts: 0 and how many numbers stand in the table, or the refusal, of the table by 7 and its bytes; 5, with nothing done, where `figures`
+// has fewer than four places.
+#[no_mangle]
+pub extern "C" fn kadunfo_read_completion(
+    case: &[u8],
+    message: &[u8],
+    table: &mut [u64],
+    figures: &mut [u64],
+) -> u64
+    ensures { λ r. ⌜ HostReads true (now (case .entry)) (now (message .entry)) (now (table .entry)) (now (table .exit)) (now (figures .entry)) (now (figures .exit)) r ⌝ }
+{
+    if figures.len() < 4 {
+        return 5;
+    }
+    let x = reader_unit::read_completion(case, message, table);
+    let t = tell_reading(x);
+    let word = t.word;
+    store(figures, t);
+    word
+}
+
+// `read_market` for hosts, likewise.
+#[no_mangle]
+pub extern "C" fn kadunfo_read_market(
+    case: &[u8],
+    message: &[u8],
+    table: &mut [u64],
+    figures: &mut [u64],
+) -> u64
+    ensures { λ r. ⌜ HostReads false (now (case .entry)) (now (message .entry)) (now (table .entry)) (now (table .exit)) (now (figures .entry)) (now (figures .exit)) r ⌝ }
+{
+    if figures.len() < 4 {
+        return 5;
+    }
+    let x = reader_unit::read_market(case, message, table);
+    let t = tell_reading(x);
+    let word = t.word;
+    store(figures, t);
+    word
+}
+
+// `mend` for hosts: 0 and the surplus, 1 and the interval, device and new online power, 6 where nothing mends the plan, or the refusal; 5, with nothing done, where
+// `figures` has fewer than four places.
+#[no_mangle]
+pub extern "C" fn kadunfo_mend(case: &[u8], plan: &[u8], figures: &mut [u64]) -> u64
+    ensures { λ r. ⌜ HostMends (now (case .entry)) (now (plan .entry)) (now (figures .entry)) (now (figures .exit)) r ⌝ }
+{
+    if figures.len() < 4 {
+        return 5;
+    }
+    let x = mend_unit::mend(case, plan);
+    let t = tell_mending(x);
+    let word = t.word;
+    store(figures, t);
+    word
+}
+
+// `dispatch` for hosts, whose list is taken apart into an array, dispatched and put back: a walk by hand, since no function over a slice of structs is covered.
+// "The caller lends a list of offers, .. and finds it again in merit order", the powers "written over the earlier powers": 0, 2 and the case's fault, or 7 with 8 or 9 and
+// what is returned; 5, with nothing done, where `figures` has fewer than four places.
+#[no_mangle]
+pub extern "C" fn kadunfo_dispatch(
+    case: &[u8],
+    interval: u64,
+    sets: &[u64],
+    powers: &mut [u64],
+    offers: &mut [Offer],
+    target: u64,
+    figures: &mut [u64],
+) -> u64
+    ensures { λ r. ⌜ HostDispatches (now (case .entry)) interval (now (sets .entry)) (now (powers .entry)) (now (powers .exit)) (now (offers .entry)) (now (offers .exit)) target
+        (now (figures .entry)) (now (figures .exit)) r ⌝ }
+{
+    let mut all = offer_tests::no_offers();
+    let count = offers.len();
+    let n = offer_tests::held(count);
+    let mut i = 0;
+    while i < n {
+        all[i] = offers[i];
+        i += 1;
+    }
+    let done = dispatch_told(case, interval, sets, powers, all, count, target, figures);
+    let back = dispatch_tellings::offers_of(done);
+    let mut j = 0;
+    while j < n {
+        offers[j] = back[j];
+        j += 1;
+    }
+    dispatch_tellings::word_of(done)
 }
 
 // The splitter for hosts: 0 and where the message behind the length at byte `at` stands, 1 at the end, or 2 and the refusal; 5, with nothing done, where

@@ -1,7 +1,6 @@
 -- How many bytes, or the refusal.
 use borrow.Author.Needs.{needs}
-use mathlib.Core.Path.{sym, ap}
-use Rattle.tellings.specs.Steps.{told-unwritten}
+use mathlib.Core.Path.{sym, ap, _∙_}
 use Rattle.tellings.specs.Told.{toldWriting}
 use Rattle.tellings.proofs.tell_writing.Statement.{statement}
 use Rattle.tellings.proofs.tell_writing.Tie as tie
@@ -9,32 +8,28 @@ use Rattle.tellings.proofs.tell_writing.Tie as tie
 enum-known-x : tie.Need-enum-known-x
 enum-known-x c = search needs
 
+tell-number-requires : tie.Need-tell-number-requires
+tell-number-requires c κs = search needs
+
 enum-known-x-2 : tie.Need-enum-known-x-2
 enum-known-x-2 c = search needs
 
-word-of-requires : tie.Need-word-of-requires
-word-of-requires c κs = search needs
-
-number-of-requires : tie.Need-number-of-requires
-number-of-requires c κs = search needs
-
-returned-by-requires : tie.Need-returned-by-requires
-returned-by-requires c κs = search needs
+tell-refused-requires : tie.Need-tell-refused-requires
+tell-refused-requires c κs = search needs
 
 returns : tie.Need-returns
-returns c = ap toldWriting (sym (c .before .x .given .1))
+returns c = c .tell-number .ensures ∙ ap toldWriting (sym (c .before .before .x .given .1))
 
 returns-2 : tie.Need-returns-2
-returns-2 c = told-unwritten (c .before .before .before .before .x2 .given .1) (c .before .before .word-of .ensures) (c .before .number-of .ensures) (c .returned-by .ensures)
+returns-2 c = c .tell-refused .ensures ∙ ap toldWriting (sym (c .before .before .x2 .given .1))
 
 pub tell-writing-spec : {M : Type 1} → statement M
 tell-writing-spec =
     tie.close
     (tie.spec
     enum-known-x
+    tell-number-requires
     enum-known-x-2
-    word-of-requires
-    number-of-requires
-    returned-by-requires
+    tell-refused-requires
     returns
     returns-2)
