@@ -1,14 +1,15 @@
 -- One block, and the turns of the loop that reads a cell's blocks.
-use mathlib.Core.Path.{_≡_, refl, sym, _∙_}
+use mathlib.Core.Path.{_≡_, refl, ap, sym, _∙_}
 use mathlib.Core.List.{List}
-use Prim.Native.Nat.{ℕ, zero, suc, _+_, _≤_, _<_}
+use Prim.Native.Nat.{ℕ, zero, suc, _+_, _*_, _/_, _%_, _^_, _≤_, _<_}
 use native.Mathlib.Omega.{arith}
 use lib.IntN.{ℤ}
 use lib.ListN.{length, getD, set, length-set, replicate}
 use lib.Seq.{getD-set-other}
+use Rattle.bits.specs.Bits.{fieldAt, reach}
 use Rattle.layouts.specs.declared.Fault.{Fault}
 use Rattle.layouts.specs.declared.Place.{Place}
-use Rattle.layouts.specs.Layout.{nat, int, countOf}
+use Rattle.layouts.specs.Layout.{nat, int, countOf, advanced}
 use Rattle.model.specs.Case as M
 use Rattle.model.specs.ByEdition as B
 use Rattle.fields.specs.declared.Figure.{Figure}
@@ -21,9 +22,12 @@ use Rattle.fields.specs.Got.{nat-within, counted-on, counted-off, placed-off, t
 use Rattle.field_rows.specs.Going.{Storing, storing-none, storing-more, storing-off, storing-done}
 use Rattle.fields.proofs.Steps.{figure-on, figure-off}
 use Rattle.fields.proofs.Chains.{then-off, then-late, then-on, kept-good, kept-bad, stop, pass}
-use Rattle.floor_reader.proofs.Floors.{block-natural as bounds-natural}
+use Rattle.floor_reader.proofs.Floors.{block-natural as bounds-natural, cap-only, bounds-done, floor-fine}
+use Rattle.word_fields.proofs.Words.{word-figure, word-offset}
 use Rattle.cell_groups.specs.declared.Block.{Block}
 use Rattle.cell_groups.specs.Groups.{block, blockIn, noBlock, Empty, BlocksDone}
+use Rattle.blocks_reader.specs.declared.BlockRead.{BlockRead}
+use Rattle.blocks_reader.specs.Words.{plainBits, floorBits, blockRead, BlockFits}
 
 -- ---- one block
 
@@ -43,6 +47,36 @@ module _ (e : ℕ) (s : List ℕ) (p : Place) {w : Went} (a : M.Block) (c : told
 
     pub block-done : {price : ℕ} {z : Place} → x ≡ F.Good price z → good (a, less priceOffset price) z ≡ got (block e) s p
     block-done g = sym (then-on (bounds-natural e) _ s p price-natural (went-good a c t) (kept-good 10000 h g))
+
+-- ---- by a word
+
+module _ (e : ℕ) (s : List ℕ) (p : Place) {word cap price : ℕ} where
+  pub plain-found : {r : BlockRead} → e < 3 → p .at + plainBits ≤ 8 * reach s → word ≡ fieldAt s (p .at) plainBits → cap ≡ word / 2 ^ 15 % 2 ^ 17
+      → price ≡ (word / 2 ^ 0 % 2 ^ 15 + priceOffset) % 2 ^ 15 → BlockFits cap 0 price → r ≡ blockRead cap 0 price (advanced p (p .at + plainBits)) → told (r .went) (blockIn (r .block)) ≡ got (block e) s p
+  plain-found h there w a c f d =
+      let q = advanced p (p .at + 17) in
+      let z = advanced p (p .at + 17 + 15) in
+      let end : p .at + plainBits ≡ p .at + 17 + 15 = omega arith in
+      let high = word-figure s p 0 17 15 p (omega arith) there w 100000 a (f .cap-fits) in
+      let last = word-offset s p 17 15 0 q refl there w 16384 priceOffset refl (omega arith) c (f .price-fits) in
+      ap (λ (r : BlockRead). told (r .went) (blockIn (r .block))) d
+      ∙ ap (λ (n : ℕ). good (blockIn (blockRead cap 0 price p .block)) (advanced p n)) end
+      ∙ block-done e s p {w = W.On q} (record { cap = cap; floor = 0 }) (cap-only e s p {r = F.Good cap q} (sym high) refl h) refl {x = F.Good price z} (sym last) refl
+
+  pub floor-found : {floor : ℕ} {r : BlockRead} → 3 ≤ e → p .at + floorBits ≤ 8 * reach s → word ≡ fieldAt s (p .at) floorBits → cap ≡ word / 2 ^ 32 % 2 ^ 17 → floor ≡ word / 2 ^ 15 % 2 ^ 17
+      → price ≡ (word / 2 ^ 0 % 2 ^ 15 + priceOffset) % 2 ^ 15 → BlockFits cap floor price → r ≡ blockRead cap floor price (advanced p (p .at + floorBits)) → told (r .went) (blockIn (r .block)) ≡ got (block e) s p
+  floor-found {floor} h there w a b c f d =
+      let q = advanced p (p .at + 17) in
+      let z = advanced p (p .at + 17 + 17) in
+      let y = advanced p (p .at + 17 + 17 + 15) in
+      let end : p .at + floorBits ≡ p .at + 17 + 17 + 15 = omega arith in
+      let high = word-figure s p 0 17 32 p (omega arith) there w 100000 a (f .cap-fits) in
+      let low = word-figure s p 17 17 15 q refl there w 100000 b (omega (arith, f .floor-fits, f .cap-fits)) in
+      let last = word-offset s p 34 15 0 z (omega arith) there w 16384 priceOffset refl (omega arith) c (f .price-fits) in
+      ap (λ (r : BlockRead). told (r .went) (blockIn (r .block))) d
+      ∙ ap (λ (n : ℕ). good (blockIn (blockRead cap floor price p .block)) (advanced p n)) end
+      ∙ block-done e s p {w = W.On z} (record { cap = cap; floor = floor })
+      (bounds-done e s p {r = F.Good cap q} (sym high) refl h {x = F.Good floor z} (sym low) refl (floor-fine floor cap (q .at) z (f .floor-fits))) refl {x = F.Good price y} (sym last) refl
 
 -- ---- the blocks
 

@@ -1,7 +1,7 @@
 -- The groups of a cell's fields: limits, blocks, the prices of the eight; and the cell that they make.
 use mathlib.Core.Path.{_≡_}
 use mathlib.Core.List.{List, [], _∷_, map}
-use Prim.Native.Nat.{ℕ, _≤_, _<_}
+use Prim.Native.Nat.{ℕ, _+_, _*_, _≤_, _<_}
 use lib.Dec.{leb}
 use lib.IntN.{ℤ}
 use lib.ListN.{length, getD, take}
@@ -28,6 +28,15 @@ use Rattle.cell_groups.specs.declared.BlocksRead.{BlocksRead}
 -- "status 2 (0 free, 1 on, 2 off); pmin, pmax 17 each"; "pmin above pmax"
 abbrev pub limits : Layout (ℕ × (ℕ × ℕ))
 limits = figure 2 0 2 ▸ (kW then (λ low. such (λ high. leb low high) kW))
+
+abbrev pub limitsBits : ℕ
+limitsBits = 2 + 2 * 17
+
+-- each is in its range, and pmin is not above pmax
+pub record LimitsFit (status pmin pmax : ℕ) : Type 0 where
+  pub status-fits : status ≤ 2
+  pub pmin-fits : pmin ≤ pmax
+  pub pmax-fits : pmax ≤ 100000
 
 -- "each cap 17 and price 15 (±10,000)"; the floor stands between them
 abbrev pub block : ℕ → Layout (M.Block × ℤ)

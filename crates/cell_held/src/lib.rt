@@ -21,7 +21,7 @@ use row_places::Cell;
 use row_places::Setting;
 
 // Rules 1 to 4.
-fn state_held(d: Bounds, c: Cell, s: Setting, w: Moment) -> bool
+pub fn state_held(d: Bounds, c: Cell, s: Setting, w: Moment) -> bool
     requires { ⌜ Sized c s w × Small d ⌝ }
     ensures { λ r. ⌜ (r ≡ true) ↔ (failing (stateTests d c s w) ≡ []) ⌝ }
 {
@@ -38,7 +38,7 @@ fn state_held(d: Bounds, c: Cell, s: Setting, w: Moment) -> bool
 }
 
 // Rules 5 and 6.
-fn ramps_held(d: Bounds, c: Cell, s: Setting, w: Moment) -> bool
+pub fn ramps_held(d: Bounds, c: Cell, s: Setting, w: Moment) -> bool
     requires { ⌜ Sized c s w × Small d ⌝ }
     ensures { λ r. ⌜ (r ≡ true) ↔ (failing (rampTests d c s w) ≡ []) ⌝ }
 {
@@ -154,7 +154,7 @@ fn off_powers_held(d: Bounds, c: Cell, s: Setting, w: Moment) -> bool
 }
 
 // Rules 7 to 19, by whether the device is on.
-fn amounts_held(d: Bounds, c: Cell, s: Setting, w: Moment) -> bool
+pub fn amounts_held(d: Bounds, c: Cell, s: Setting, w: Moment) -> bool
     requires { ⌜ Sized c s w ⌝ }
     ensures { λ r. ⌜ (r ≡ true) ↔ ((failing (onTests d c s w) ≡ []) × (failing (offTests d c s w) ≡ []) × (failing (powerTests d c s w) ≡ [])) ⌝ }
 {

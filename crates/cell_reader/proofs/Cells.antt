@@ -15,7 +15,6 @@ use Rattle.model.specs.Case as M
 use Rattle.model.specs.Messages.{apart}
 use Rattle.model.specs.ByEdition as B
 use Rattle.model.specs.ByEdition.{cell, reactiveCell, noReactiveCell}
-use Rattle.ranges.specs.Kept.{reservesOf}
 use Rattle.kilowatts.specs.declared.Kw.{Kw}
 use Rattle.row_places.specs.declared.Cell.{Cell}
 use Rattle.row_places.specs.declared.ReservePrices.{ReservePrices}
@@ -33,7 +32,7 @@ use Rattle.field_rows.proofs.Steps.{eight-natural}
 use Rattle.cell_groups.specs.declared.LimitsRead.{LimitsRead}
 use Rattle.cell_groups.specs.declared.Block.{Block}
 use Rattle.cell_groups.specs.declared.BlocksRead.{BlocksRead}
-use Rattle.cell_groups.specs.Groups.{limits, blocks, reservePrices, limitsIn, blockIn, noBlock, Empty, BlocksDone, pricesOf, cellWith}
+use Rattle.cell_groups.specs.Groups.{limits, blocks, reservePrices, limitsIn, blockIn, noBlock, Empty, BlocksDone, cellWith}
 use Rattle.cell_reader.specs.Cells.{CellDone, CellsDone}
 use Rattle.cell_groups.proofs.Limits.{limits-natural}
 use Rattle.blocks_reader.proofs.Blocks.{block-natural}
@@ -132,11 +131,6 @@ module _ (l : LimitsRead) (n : ℕ) (bs : List Block) (prices : ReservePrices) (
     ap (λ (x : List Kw). kwAt x k) caps-are ∙ ap (λ (x : Kw). x .0) (List·getD-map (λ (b : Block). b .cap) bs k noBlock) ∙ rest k m o .0,
     ap (λ (x : List Kw). kwAt x k) floors-are ∙ ap (λ (x : Kw). x .0) (List·getD-map (λ (b : Block). b .floor) bs k noBlock) ∙ rest k m o .1,
   ))
-
--- the eight, by name
-pub prices-told : (s : List ℕ) (p : Place) (w : Went) (v : List ℕ) {r : ReservePrices} → told w (reservesOf v) ≡ got reservePrices s p → r ≡ pricesOf v
-    → told w (eightPricesIn r) ≡ got reservePrices s p
-prices-told s p w v e t = ap (λ (x : ReservePrices). told w (eightPricesIn x)) t ∙ e
 
 -- ---- a cell, by how far its reading came
 

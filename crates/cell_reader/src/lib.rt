@@ -2,9 +2,8 @@
 ghost use mathlib.Core.Path.{_≡_};
 ghost use Prim.Native.Nat.{_≤_};
 ghost use lib.ListN.{length};
-ghost use Rattle.records.specs.Views.{mostIntervals, eightPricesIn};
-ghost use Rattle.fields.specs.Got.{got, told};
-ghost use Rattle.cell_groups.specs.Groups.{limits, reservePrices, pricesOf, cellWith};
+ghost use Rattle.records.specs.Views.{mostIntervals};
+ghost use Rattle.cell_groups.specs.Groups.{limits, cellWith};
 ghost use Rattle.cell_reader.specs.Cells.{CellDone, CellsDone};
 use blocks_reader::read_blocks;
 use cell_groups::Block;
@@ -13,48 +12,14 @@ use cell_groups::read_limits;
 use fields::Went;
 use kilowatts::Kw;
 use layouts::Place;
+use price_words::prices_of;
+use price_words::read_prices;
 use reactive_cells::NEUTRAL;
 use reactive_cells::read_reactive;
 use row_places::Cell;
 use row_places::CellRow;
 use row_places::ReactiveCell;
 use row_places::ReservePrices;
-
-// "eight reserve prices 14 each (0..10,000)"
-const RESERVE_BITS: u64 = 14;
-
-const MOST_RESERVE_PRICE: u32 = 10000;
-
-struct PricesRead {
-    went: Went,
-    prices: ReservePrices,
-}
-
-// The eight by name.
-fn prices_of(v: [u32; 8]) -> ReservePrices
-    ensures { λ r. ⌜ r ≡ pricesOf v ⌝ }
-{
-    ReservePrices {
-        rgu: v[0],
-        rgd: v[1],
-        scr: v[2],
-        nsc: v[3],
-        rruon: v[4],
-        rruoff: v[5],
-        rrdon: v[6],
-        rrdoff: v[7],
-    }
-}
-
-fn read_prices(s: &[u8], p: Place) -> PricesRead
-    ensures { λ r. ⌜ told (r .went) (eightPricesIn (r .prices)) ≡ got reservePrices (now (s .entry)) p ⌝ }
-{
-    let eight = field_rows::read_eight(s, p, RESERVE_BITS, MOST_RESERVE_PRICE);
-    let went = eight.went;
-    let values = eight.values;
-    let prices = prices_of(values);
-    PricesRead { went, prices }
-}
 
 struct CellRead {
     went: Went,

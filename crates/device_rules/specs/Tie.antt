@@ -179,7 +179,7 @@ module _ {front : Front} {halves : List ℕ} {zones minima devices cells setting
   figure f = W.device-figure halves zones minima devices cells i l f
 
   module _ (t : ℕ) (h : t < length halves) where
-    of-device : OfDevice q p t i (boundsOf d)
+    pub of-device : OfDevice q p t i (boundsOf d)
     unfolding deviceIn
     of-device = record {
       side = sym (figure (λ x. x .side));
@@ -216,7 +216,7 @@ module _ {front : Front} {halves : List ℕ} {zones minima devices cells setting
         let f = G.floor-at (ready .case-rows) i l t h in
         omega (arith, f 0 (omega arith), f 1 (omega arith), f 2 (omega arith), f 3 (omega arith))
 
-    of-cell : OfCell q p t i (cellOf row)
+    pub of-cell : OfCell q p t i (cellOf row)
     of-cell =
         let e : F.cell q t i ≡ cellIn row = G.cell-here (ready .case-rows) i l t h in
         record {
@@ -227,7 +227,7 @@ module _ {front : Front} {halves : List ℕ} {zones minima devices cells setting
           floors = floors-are;
         }
 
-    of-setting : OfSetting q p t i (settingOf (getD ownSettings t []))
+    pub of-setting : OfSetting q p t i (settingOf (getD ownSettings t []))
     of-setting =
         let e : F.setting q p t i ≡ settingIn (getD ownSettings t []) = W.setting-is (length devices) (length halves) settings q t i h l in
         record {
@@ -261,7 +261,7 @@ module _ {front : Front} {halves : List ℕ} {zones minima devices cells setting
     unfolding apartAt apart
     starts-apart = rw (of-device .minup) (every-cong _ _ (upTo t) (all-upTo _ t (λ e b. rw (start t h, start e (omega arith), started e (omega arith)) refl)))
 
-    of-moment : OfMoment q p t i (momentAt (boundsOf d) (d .power0 .0) halves ownCells ownSettings starts ownPowers t)
+    pub of-moment : OfMoment q p t i (momentAt (boundsOf d) (d .power0 .0) halves ownCells ownSettings starts ownPowers t)
     unfolding momentAt
     of-moment = record {
       started = started t h;

@@ -10,6 +10,9 @@ ghost use Rattle.cell_bounds.specs.Word.{failingWord};
 ghost use Rattle.moments.specs.Moments.{testsAt, Fits};
 ghost use Rattle.device_rules.specs.Whole.{AllFit, HeldTo};
 use cell_bounds::Bounds;
+use cell_held::amounts_held;
+use cell_held::ramps_held;
+use cell_held::state_held;
 use cell_rows::cell_at;
 use kilowatts::Kw;
 use moments::moment_at;
@@ -37,7 +40,7 @@ pub fn failing_at(
     cell_rules::failing_rules(d, c, s, w)
 }
 
-// Whether none fails, in one go.
+// Whether none fails, in one go. Each group of rules reads the interval again, so that a figure is loaded where it is used.
 fn held_at(
     d: Bounds,
     power0: Kw,
@@ -52,9 +55,19 @@ fn held_at(
     ensures { λ r. ⌜ (r ≡ true) ↔ (failing (testsAt d (power0 .0) (now (halves .entry)) (now (cells .entry)) (now (settings .entry)) (now (starts .entry)) (now (powers .entry)) t) ≡ []) ⌝ }
 {
     let w = moment_at(d, power0, halves, cells, settings, starts, powers, t);
-    let c = cell_at(cells, t);
-    let s = setting_at(settings, t);
-    cell_held::held(d, c, s, w)
+    let c1 = cell_at(cells, t);
+    let s1 = setting_at(settings, t);
+    if !state_held(d, c1, s1, w) {
+        return false;
+    }
+    let c2 = cell_at(cells, t);
+    let s2 = setting_at(settings, t);
+    if !ramps_held(d, c2, s2, w) {
+        return false;
+    }
+    let c3 = cell_at(cells, t);
+    let s3 = setting_at(settings, t);
+    amounts_held(d, c3, s3, w)
 }
 
 // Whether no rule of a device's intervals fails.

@@ -13,7 +13,7 @@ use kilowatts::Kw;
 use layouts::Place;
 
 // "Edition 3 adds .. a floor"
-const FLOOR_EDITION: u32 = 3;
+pub const FLOOR_EDITION: u32 = 3;
 
 const NO_FLOOR: Kw = Kw(0);
 

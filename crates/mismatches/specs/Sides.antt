@@ -101,6 +101,10 @@ module _ (s : Sides) (side p : ℕ) where
 abbrev pub barSidesOf : Sides → Sides → BarSides
 barSidesOf first second = record { first = first; second = second }
 
+-- four sums, each as it is in one record of them
+pub sums-are : {a b c d e f g h : Kw} → a ≡ e → b ≡ f → c ≡ g → d ≡ h → barSidesOf (sidesOf a b) (sidesOf c d) ≡ barSidesOf (sidesOf e f) (sidesOf g h)
+sums-are i j k l = ap₂ (λ (x y : Sides). barSidesOf x y) (ap₂ (λ (x y : Kw). sidesOf x y) i j) (ap₂ (λ (x y : Kw). sidesOf x y) k l)
+
 -- all powers together
 abbrev pub allOf : BarSides → ℕ
 allOf s = (s .first .consuming .0 + s .first .producing .0) + (s .second .consuming .0 + s .second .producing .0)

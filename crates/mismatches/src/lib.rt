@@ -3,7 +3,7 @@ ghost use mathlib.Core.Path.{_≡_};
 ghost use Prim.Native.Nat.{_+_, _-_, _<_, _^_};
 ghost use lib.ListN.{length};
 ghost use Rattle.row_places.specs.Figures.{flowAt};
-ghost use Rattle.mismatches.specs.Sides.{Powered, Linked, withSide, allOf, withBar, BarsSo, barsTo, apartOf, mismatchesOf};
+ghost use Rattle.mismatches.specs.Sides.{Powered, Linked, BarsSo, barsTo, apartOf, mismatchesOf};
 use device_rows::bar_at;
 use device_rows::side_at;
 use kilowatts::Kw;
@@ -30,65 +30,45 @@ pub struct BarMismatches {
     pub second: Kw,
 }
 
-// A device's power on its side.
-fn with_side(s: Sides, side: u32, p: Kw) -> Sides
-    requires { ⌜ s .consuming .0 + s .producing .0 + p .0 < 2 ^ 32 ⌝ }
-    ensures { λ r. ⌜ r ≡ withSide s side (p .0) ⌝ }
-{
-    let consuming = s.consuming;
-    let producing = s.producing;
-    if side == 1 {
-        let consuming = consuming.plus(p);
-        Sides {
-            consuming,
-            producing,
-        }
-    } else {
-        let producing = producing.plus(p);
-        Sides {
-            consuming,
-            producing,
-        }
-    }
-}
-
-// A device's power on its bar.
-fn with_bar(s: BarSides, bar: u32, side: u32, p: Kw) -> BarSides
-    requires { ⌜ allOf s + p .0 < 2 ^ 32 ⌝ }
-    ensures { λ r. ⌜ r ≡ withBar s bar side (p .0) ⌝ }
-{
-    let first = s.first;
-    let second = s.second;
-    if bar == 0 {
-        let first = with_side(first, side, p);
-        BarSides { first, second }
-    } else {
-        let second = with_side(second, side, p);
-        BarSides { first, second }
-    }
-}
-
 // The powers by bar and side in interval t of m.
 fn bar_sides(devices: &[DeviceRow], powers: &[u32], m: usize, t: usize) -> BarSides
     requires { ⌜ Powered (length (now devices)) m t (now powers) ⌝ }
     ensures { λ r. ⌜ BarsSo (now (devices .entry)) (now (powers .entry)) m t (length (now (devices .entry))) r ⌝ }
 {
-    let none = Sides {
-        consuming: Kw(0),
-        producing: Kw(0),
-    };
-    let mut s = BarSides {
-        first: none,
-        second: none,
-    };
+    let mut first_consuming = Kw(0);
+    let mut first_producing = Kw(0);
+    let mut second_consuming = Kw(0);
+    let mut second_producing = Kw(0);
     let mut i = 0;
     let mut k = t;
     while i < devices.len() {
-        s = with_bar(s, bar_at(devices, i), side_at(devices, i), Kw(powers[k]));
+        let p = Kw(powers[k]);
+        let side = side_at(devices, i);
+        if bar_at(devices, i) == 0 {
+            if side == 1 {
+                first_consuming = first_consuming.plus(p);
+            } else {
+                first_producing = first_producing.plus(p);
+            }
+        } else {
+            if side == 1 {
+                second_consuming = second_consuming.plus(p);
+            } else {
+                second_producing = second_producing.plus(p);
+            }
+        }
         k += m;
         i += 1;
     }
-    s
+    let first = Sides {
+        consuming: first_consuming,
+        producing: first_producing,
+    };
+    let second = Sides {
+        consuming: second_consuming,
+        producing: second_producing,
+    };
+    BarSides { first, second }
 }
 
 // How far a bar's load is from its production, with what the link adds to each.

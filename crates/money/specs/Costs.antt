@@ -3,7 +3,7 @@ use mathlib.Core.Path.{_≡_, refl, sym, ap, _∙_}
 use mathlib.Core.Logic.{_⊎_, inl, inr}
 use Prim.Native.Nat.{ℕ, zero, suc, _+_, _-_, _*_, _≤_}
 use native.Mathlib.Omega.{arith}
-use native.Mathlib.Nat.{mul-le-mul}
+use native.Mathlib.Nat.{mul-zero, mul-le-mul}
 use lib.ListN.{getD}
 use lib.IntN.{ℤ, pos, negℤ, _+ℤ_}
 use Rattle.numbers.specs.Laws as L
@@ -54,12 +54,17 @@ pub record PricesBelow (r : ReservePrices) : Type 0 where
   pub rrdon : r .rrdon ≤ priceMost
   pub rrdoff : r .rrdoff ≤ priceMost
 
--- each price times its amount
-abbrev pub firstFour : ReservePrices → Reserves → ℕ
-firstFour b a = b .rgu * a .rgu .0 + b .rgd * a .rgd .0 + b .scr * a .scr .0 + b .nsc * a .nsc .0
+-- rules 7 to 14, "against its limit times u .. times (1 − u)": what a device holds none of while it is on, and while it is off
+pub record OfState (on : ℕ) (a : Reserves) : Type 0 where
+  pub while-on : on ≡ 1 → a .nsc .0 + a .rruoff .0 + a .rrdoff .0 ≡ 0
+  pub while-off : (on ≡ 1 → ⊥) → a .rgu .0 + a .rgd .0 + a .scr .0 + a .rruon .0 + a .rrdon .0 ≡ 0
 
-abbrev pub lastFour : ReservePrices → Reserves → ℕ
-lastFour b a = b .rruon * a .rruon .0 + b .rruoff * a .rruoff .0 + b .rrdon * a .rrdon .0 + b .rrdoff * a .rrdoff .0
+-- each price times its amount: of those that a device may hold while it is on, while it is off, and of all
+abbrev pub onCost : ReservePrices → Reserves → ℕ
+onCost b a = b .rgu * a .rgu .0 + b .rgd * a .rgd .0 + b .scr * a .scr .0 + b .rruon * a .rruon .0 + b .rrdon * a .rrdon .0
+
+abbrev pub offCost : ReservePrices → Reserves → ℕ
+offCost b a = b .nsc * a .nsc .0 + b .rruoff * a .rruoff .0 + b .rrdoff * a .rrdoff .0
 
 abbrev pub eightCost : ReservePrices → Reserves → ℕ
 eightCost b a =
@@ -110,5 +115,29 @@ change-cost d started stopped state {x = x} {y = y} e f s u h k j =
     both : (x y z : ℤ) → negℤ x +ℤ negℤ y +ℤ negℤ z ≡ negℤ (x +ℤ y +ℤ z)
     both x y z = sym (L.neg-add (x +ℤ y) z ∙ ap (λ (w : ℤ). w +ℤ negℤ z) (L.neg-add x y))
 
-pub eight-rate : (b : ReservePrices) (a : Reserves) (most : ℕ) {x y z : ℕ} → Amounts (firstFour b a) most x → Amounts (lastFour b a) most y → z ≡ x + y → Amounts (eightCost b a) (2 * most) z
-eight-rate b a most e f g = (omega (arith, g, e .0, f .0), omega (arith, g, e .1, f .1))
+-- a price times an amount that is none
+times-none : (price amount : ℕ) → amount ≡ 0 → price * amount ≡ 0
+times-none price amount z = rw z (mul-zero price)
+
+-- the rest costs nothing
+pub on-eight : (on : ℕ) (b : ReservePrices) (a : Reserves) → OfState on a → on ≡ 1 → onCost b a ≡ eightCost b a
+on-eight on b a h e =
+    let z = h .while-on e in
+    omega (
+      arith,
+      times-none (b .nsc) (a .nsc .0) (omega (arith, z)),
+      times-none (b .rruoff) (a .rruoff .0) (omega (arith, z)),
+      times-none (b .rrdoff) (a .rrdoff .0) (omega (arith, z)),
+    )
+
+pub off-eight : (on : ℕ) (b : ReservePrices) (a : Reserves) → OfState on a → (on ≡ 1 → ⊥) → offCost b a ≡ eightCost b a
+off-eight on b a h n =
+    let z = h .while-off n in
+    omega (
+      arith,
+      times-none (b .rgu) (a .rgu .0) (omega (arith, z)),
+      times-none (b .rgd) (a .rgd .0) (omega (arith, z)),
+      times-none (b .scr) (a .scr .0) (omega (arith, z)),
+      times-none (b .rruon) (a .rruon .0) (omega (arith, z)),
+      times-none (b .rrdon) (a .rrdon .0) (omega (arith, z)),
+    )

@@ -3,8 +3,9 @@ use mathlib.Core.Path.{_≡_, refl, sym, ap, subst, _∙_}
 use mathlib.Core.Logic.{_⊎_, inl, inr}
 use mathlib.Core.Bool.{Bool, true, false}
 use mathlib.Core.List.{List, [], map}
-use Prim.Native.Nat.{ℕ, zero, suc, _-_, _*_, _≤_, _<_}
+use Prim.Native.Nat.{ℕ, zero, suc, _+_, _-_, _*_, _≤_, _<_}
 use native.Mathlib.Omega.{arith}
+use native.Mathlib.Nat.{mul-zero}
 use lib.Dec.{T, ltb, eqb}
 use lib.ListN.{getD, length}
 use lib.IntN.{ℤ, pos, natAbs}
@@ -13,23 +14,25 @@ use Rattle.bits.specs.Pick.{pick}
 use Rattle.kilowatts.specs.declared.Kw.{Kw}
 use Rattle.kilowatts.specs.Power.{kw}
 use Rattle.numbers.specs.Base.{range}
+use Rattle.model.specs.Case as M
 use Rattle.model.specs.Case.{System, Plan, Case}
-use Rattle.model.specs.Forced.{devices, device, consuming, cap, least, u, uBefore, su, sd, power, duration}
-use Rattle.model.specs.Rules.{blocks, EveryRule}
+use Rattle.model.specs.Forced.{devices, device, consuming, cap, least, u, uBefore, su, sd, power, duration, setting as settingAt}
+use Rattle.model.specs.Rules.{blocks, ups, downs, cellNumbers, CellRule, EveryRule}
+use Rattle.model.specs.Named.{rule-of}
 use Rattle.model.specs.Completion.{cellPrices, blockPrice, stateCost}
 use Rattle.model.specs.Ours.{ours, bestState, lasts}
 use Rattle.theorems.specs.Best.{above-cap}
 use Rattle.numbers.specs.Every.{all-range}
 use Rattle.ranges.specs.Ranges.{CellPriceRange, SettingRange}
 use Rattle.ranges.specs.Kept.{kept-small}
-use Rattle.numbers.specs.Every.{all-or, bit-le}
+use Rattle.numbers.specs.Every.{all-or, bit-le, has}
 use Rattle.theorems.specs.Sizes.{power-bound, floored}
 use Rattle.row_places.specs.declared.Cell.{Cell}
 use Rattle.row_places.specs.declared.Device.{Device}
 use Rattle.row_places.specs.declared.Setting.{Setting}
 use Rattle.row_places.specs.Figures.{settingOf}
 use Rattle.numbers.specs.Parts.{part}
-use Rattle.records.specs.Views.{mostStates, less, priceOffset, numberOf, cellPricesIn, settingIn}
+use Rattle.records.specs.Views.{mostStates, less, priceOffset, numberOf, eightIn, cellPricesIn, settingIn}
 use Rattle.records.specs.Viewed as Viewed
 use Rattle.records.specs.Ranged as Ranged
 use Rattle.choices.specs.declared.Choice.{Choice}
@@ -38,7 +41,7 @@ use Rattle.choices.specs.Cells.{CellOf, systemOf, planOf, caseOf}
 use Rattle.choices.specs.Choices.{ChoiceOf, states-are}
 use Rattle.money.specs.Bounds.{powerMost, minutesMost, priceMost}
 use Rattle.money.specs.Worth.{Priced, FourPriced}
-use Rattle.money.specs.Costs.{CostsBelow, StateBelow, AmountsBelow, PricesBelow}
+use Rattle.money.specs.Costs.{CostsBelow, StateBelow, AmountsBelow, PricesBelow, OfState}
 use Rattle.money.specs.Unbroken.{plan-range, system-range}
 
 pub record Ruled (d : Device) (cell : Cell) (setting : Setting) (p minutes : ℕ) (x : Choice) : Type 0 where
@@ -59,6 +62,24 @@ four-get f (suc zero) h = refl
 four-get f (suc (suc zero)) h = refl
 four-get f (suc (suc (suc zero))) h = refl
 four-get f (suc (suc (suc (suc k)))) h = absurd (omega arith)
+
+-- what is at most a limit times 1 − u is none while u is 1, and what is at most a limit times u while it is 0
+none-on : {a b u : ℕ} (most more : ℕ) → u ≡ 1 → a ≤ most * (1 - u) → b ≤ more * (1 - u) → a + b ≡ 0
+none-on {a} {b} {u} most more e h k =
+    let y : most * (1 - u) ≡ 0 = rw e (mul-zero most) in
+    let z : more * (1 - u) ≡ 0 = rw e (mul-zero more) in
+    omega (arith, y, z, h, k)
+
+none-off : {a b u : ℕ} (most more : ℕ) → u ≡ 0 → a ≤ most * u → b ≤ more * u → a + b ≡ 0
+none-off {a} {b} {u} most more e h k =
+    let y : most * u ≡ 0 = rw e (mul-zero most) in
+    let z : more * u ≡ 0 = rw e (mul-zero more) in
+    omega (arith, y, z, h, k)
+
+off-is : (n : ℕ) → n ≤ 1 → (n ≡ 1 → ⊥) → n ≡ 0
+off-is zero h k = refl
+off-is (suc zero) h k = absurd (k refl)
+off-is (suc (suc n)) h k = absurd (omega (arith, h))
 
 module _ {d : Device} {cell : Cell} {setting : Setting} {p minutes : ℕ} {x : Choice} (w : Ruled d cell setting p minutes x) where
   abbrev pub i : ℕ
@@ -101,6 +122,31 @@ module _ {d : Device} {cell : Cell} {setting : Setting} {p minutes : ℕ} {x : C
   amounts-small =
       let g = setting-range .reserves in
       rw (w .setting-is) (record { rgu = g .rgu; rgd = g .rgd; scr = g .scr; nsc = g .nsc; rruon = g .rruOn; rruoff = g .rruOff; rrdon = g .rrdOn; rrdoff = g .rrdOff })
+
+  -- its reserves as the definitions have them, and whether it is on
+  pub amounts-are : eightIn (setting .reserves) ≡ settingAt q plan (w .t) i .reserves
+  amounts-are = ap (λ (y : Setting). eightIn (y .reserves)) (w .setting-is) ∙ sym (ap (λ (y : M.Setting). y .reserves) (Cells.setting-at (w .place) (w .t) (w .place .interval)))
+
+  on-are : setting .on ≡ u q plan (w .t) i
+  on-are = ap (λ (y : Setting). y .on) (w .setting-is) ∙ Cells.on-is (w .place) (w .t) (w .place .interval)
+
+  held : (n : ℕ) → T (has n cellNumbers) → CellRule q plan (w .t) i n
+  held n h = rule-of q plan (w .rules) (w .t) i n (Cells.in-intervals (w .place)) (Cells.in-devices (w .place)) h
+
+  pub of-state : OfState (setting .on) (setting .reserves)
+  unfolding CellRule range
+  of-state =
+      let on = on-are in
+      let most = device q i .limits in
+      let n = u q plan (w .t) i in
+      let up = subst (λ (r : M.Reserves). ups r ≤ most .rruOn * n) (sym amounts-are) (held 10 tt) in
+      let down = subst (λ (r : M.Reserves). downs r ≤ most .rrdOn * n) (sym amounts-are) (held 11 tt) in
+      let off = subst (λ (r : M.Reserves). r .nsc + r .rruOff ≤ most .rruOff * (1 - n)) (sym amounts-are) (held 13 tt) in
+      let below = subst (λ (r : M.Reserves). r .rrdOff ≤ most .rrdOff * (1 - n)) (sym amounts-are) (held 14 tt) in
+      record {
+        while-on = λ e. none-on (most .rruOff) (most .rrdOff) (sym on ∙ e) off below;
+        while-off = λ k. let z = none-off (most .rruOn) (most .rrdOn) (sym on ∙ off-is (setting .on) on-small k) up down in omega (arith, z);
+      }
 
   -- ---- its costs
 

@@ -125,9 +125,6 @@ module _ {d : Device} {cell : Cell} {s : Setting} {p minutes : ℕ} {x : Choice}
       (ap₂ (λ (a b : ℕ). a * b) (sym (ap (λ (y : M.DevicePrices). y .stopCost) (Cells.prices-of (w .place)))) (w .choice .stopped (w .place))))
       (ap (costOf d) (w .choice .state (w .place)) ∙ cost-is (w .place) (bestState c plan t i) (Ruled.state-known w)))
 
-  amounts-are : eightIn (s .reserves) ≡ setting q plan t i .reserves
-  amounts-are = ap (λ (y : Setting). eightIn (y .reserves)) (w .setting-is) ∙ sym (ap (λ (y : M.Setting). y .reserves) setting-of)
-
   prices-are : eightPricesIn (cell .reserves) ≡ cellPrices c t i .reserves
   prices-are =
       ap (λ (y : Cell). eightPricesIn (y .reserves)) (w .place .cell-is)
@@ -136,7 +133,7 @@ module _ {d : Device} {cell : Cell} {s : Setting} {p minutes : ℕ} {x : Choice}
 
   reserves-is : negℤ (pos (minutes * eightCost (cell .reserves) (s .reserves))) ≡ negℤ (reservesCost c plan (our c plan) t i)
   unfolding reservesCost reserveCost
-  reserves-is = ap₂ (λ (m n : ℕ). negℤ (pos (m * n))) (Ruled.duration-is w) (ap₂ reserveCost prices-are amounts-are)
+  reserves-is = ap₂ (λ (m n : ℕ). negℤ (pos (m * n))) (Ruled.duration-is w) (ap₂ reserveCost prices-are (Ruled.amounts-are w))
 
 -- ---- all four
 

@@ -28,7 +28,7 @@ ghost use Rattle.money.specs.Bounds.{powerMost, minutesMost, rateMost, b
 ghost use Rattle.money.specs.Bounds.{tradeMost, onMost, stateMost, changeMost, reservesMost, cellMost};
 ghost use Rattle.money.specs.Entries.{Entered, Room};
 ghost use Rattle.money.specs.Worth.{Amounts, Priced, FourPriced, valueOf, tradeOf};
-ghost use Rattle.money.specs.Costs.{CostsBelow, StateBelow, changesOf, AmountsBelow, PricesBelow, firstFour, lastFour, eightCost};
+ghost use Rattle.money.specs.Costs.{CostsBelow, StateBelow, changesOf, AmountsBelow, PricesBelow, OfState, onCost, offCost, eightCost};
 ghost use Rattle.money.specs.Ruled.{Ruled};
 ghost use Rattle.money.specs.Terms.{CellEntered};
 ghost use Rattle.records.specs.Views.{mostStates};
@@ -133,36 +133,48 @@ fn change_money(
     state_money(m, devices, i, state)
 }
 
-fn first_four(a: Reserves, b: ReservePrices) -> Rate
+// The reserves of a device that is on; those of the other state are none.
+fn on_reserves(a: Reserves, b: ReservePrices) -> Rate
     requires { ⌜ AmountsBelow a × PricesBelow b ⌝ }
-    ensures { λ r. ⌜ Amounts (firstFour b a) (4 * worthMost) (r .0) ⌝ }
+    ensures { λ r. ⌜ Amounts (onCost b a) (8 * worthMost) (r .0) ⌝ }
 {
     let rgu = worth(a.rgu, b.rgu);
     let rgd = worth(a.rgd, b.rgd);
     let scr = worth(a.scr, b.scr);
-    let nsc = worth(a.nsc, b.nsc);
-    rgu.plus(rgd).plus(scr).plus(nsc)
-}
-
-fn last_four(a: Reserves, b: ReservePrices) -> Rate
-    requires { ⌜ AmountsBelow a × PricesBelow b ⌝ }
-    ensures { λ r. ⌜ Amounts (lastFour b a) (4 * worthMost) (r .0) ⌝ }
-{
     let rruon = worth(a.rruon, b.rruon);
-    let rruoff = worth(a.rruoff, b.rruoff);
     let rrdon = worth(a.rrdon, b.rrdon);
-    let rrdoff = worth(a.rrdoff, b.rrdoff);
-    rruon.plus(rruoff).plus(rrdon).plus(rrdoff)
+    rgu.plus(rgd).plus(scr).plus(rruon).plus(rrdon)
 }
 
-// "d·reserve costs": the amounts a at the prices b.
-fn reserves_money(l: Ledger, a: Reserves, b: ReservePrices, minutes: u32) -> Ledger
-    requires { ⌜ Room 0 l × (minutes ≤ minutesMost) × AmountsBelow a × PricesBelow b ⌝ }
+// Those of a device that is off.
+fn off_reserves(a: Reserves, b: ReservePrices) -> Rate
+    requires { ⌜ AmountsBelow a × PricesBelow b ⌝ }
+    ensures { λ r. ⌜ Amounts (offCost b a) (8 * worthMost) (r .0) ⌝ }
+{
+    let nsc = worth(a.nsc, b.nsc);
+    let rruoff = worth(a.rruoff, b.rruoff);
+    let rrdoff = worth(a.rrdoff, b.rrdoff);
+    nsc.plus(rruoff).plus(rrdoff)
+}
+
+// What the amounts a cost each minute at the prices b.
+fn reserves_rate(a: Reserves, b: ReservePrices, on: u32) -> Rate
+    requires { ⌜ AmountsBelow a × PricesBelow b × OfState on a ⌝ }
+    ensures { λ r. ⌜ Amounts (eightCost b a) (8 * worthMost) (r .0) ⌝ }
+{
+    if on == 1 {
+        on_reserves(a, b)
+    } else {
+        off_reserves(a, b)
+    }
+}
+
+// "d·reserve costs"
+fn reserves_money(l: Ledger, a: Reserves, b: ReservePrices, on: u32, minutes: u32) -> Ledger
+    requires { ⌜ Room 0 l × (minutes ≤ minutesMost) × AmountsBelow a × PricesBelow b × OfState on a ⌝ }
     ensures { λ r. ⌜ Entered l r (negℤ (pos (minutes * eightCost b a))) reservesMost ⌝ }
 {
-    let first = first_four(a, b);
-    let last = last_four(a, b);
-    l.spend(first.plus(last).over(minutes))
+    l.spend(reserves_rate(a, b, on).over(minutes))
 }
 
 // What device i brings in one interval of so many minutes: its blocks' worth less its costs.
@@ -181,7 +193,7 @@ pub fn cell_money(
 {
     let amounts = setting.reserves;
     let prices = cell.reserves;
-    let reserved = reserves_money(l, amounts, prices, minutes);
+    let reserved = reserves_money(l, amounts, prices, setting.on, minutes);
     let powers = x.blocks;
     let kept = cell.prices;
     let traded = blocks_money(reserved, side_at(devices, i), p, powers, kept, minutes);

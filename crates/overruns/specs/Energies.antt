@@ -1,11 +1,11 @@
 -- The energy of a device in a window, and its overrun.
-use mathlib.Core.Path.{_≡_, refl, sym, ap, ap₂, _∙_}
+use mathlib.Core.Path.{_≡_, refl, sym, ap, ap₂, subst, _∙_}
 use mathlib.Core.Bool.{Bool, true, false, _&&_}
 use mathlib.Core.List.{List, []}
 use Prim.Native.Nat.{ℕ, zero, suc, _+_, _-_, _*_, _≤_, _<_, min, max}
 use native.Mathlib.Omega.{arith}
 use native.Mathlib.Numerals.{add-one}
-use native.Mathlib.Nat.{mul-comm, mul-le-mul}
+use native.Mathlib.Nat.{add-zero, add-suc, mul-comm, mul-le-mul}
 use borrow.Author.Tests.{eq-eqb, ne-eqb}
 use lib.Dec.{ltb, leb, eqb}
 use lib.ListN.{getD, length}
@@ -38,6 +38,7 @@ pub record Running (starts powers : List ℕ) : Type 0 where
   pub timed : length powers < length starts
   pub short : (t : ℕ) → t < length powers → getD starts (t + 1) 0 ≤ getD starts t 0 + longest
   pub small : (t : ℕ) → t < length powers → getD powers t 0 ≤ mostPower
+  pub rising : (t : ℕ) → t < length powers → getD starts t 0 ≤ getD starts (t + 1) 0
 
 -- the minutes that an interval shares with a window
 abbrev pub minutesOf : EnergyWindow → (start end : ℕ) → ℕ
@@ -72,6 +73,32 @@ module _ (w : EnergyWindow) (starts powers : List ℕ) where
       is = ap₂ (λ (a b : ℕ). a + b) (s .is) (d ∙ mul-comm (getD powers t 0) v ∙ ap (λ (x : ℕ). x * getD powers t 0) f);
       spent-small = omega (arith, s .spent-small, mul-le-mul (r .small t l) n);
     }
+
+  -- an interval that ends before the window
+  pub spent-none : {t : ℕ} → getD starts (t + 1) 0 ≤ w .from → Spent w starts powers t 0 → Spent w starts powers (t + 1) 0
+  unfolding energyTo
+  spent-none {t} h s =
+      let z : minutesOf w (getD starts t 0) (getD starts (t + 1) 0) ≡ 0 = omega arith in
+      rw (add-one t) record { is = rw z (omega (arith, s .is)); spent-small = omega arith }
+
+  step-none : (t : ℕ) → minutesOf w (getD starts t 0) (getD starts (t + 1) 0) ≡ 0 → energyTo w starts powers (suc t) ≡ energyTo w starts powers t
+  unfolding energyTo
+  step-none t z = rw z (omega arith)
+
+  -- nothing is spent in the k intervals from one on that begins behind the window
+  rest-none : Running starts powers → (t k : ℕ) → t + k ≤ length powers → w .until ≤ getD starts t 0
+      → (w .until ≤ getD starts (t + k) 0) × (energyTo w starts powers (t + k) ≡ energyTo w starts powers t)
+  rest-none r t zero h l = rw (add-zero t) (l, refl)
+  rest-none r t (suc k) h l =
+      let x = rest-none r t k (omega arith) l in
+      let up = r .rising (t + k) (omega arith) in
+      let far : w .until ≤ getD starts (t + k + 1) 0 = omega (arith, x .0) in
+      rw (add-suc t k) (subst (λ (n : ℕ). w .until ≤ getD starts n 0) (add-one (t + k)) far, step-none (t + k) (omega (arith, x .0)) ∙ x .1)
+
+  pub spent-rest : Running starts powers → (t : ℕ) {e : ℕ} → t < length powers → w .until ≤ getD starts t 0 → Spent w starts powers t e → e ≡ energyTo w starts powers (length powers)
+  spent-rest r t h l s =
+      let n : t + (length powers - t) ≡ length powers = omega arith in
+      s .is ∙ sym (rest-none r t (length powers - t) (omega arith) l .1) ∙ ap (energyTo w starts powers) n
 
   pub spent-end : (t n : ℕ) {e : ℕ} → t ≤ n → n ≤ t → Spent w starts powers t e → e ≡ energyTo w starts powers n
   spent-end t n h l s = let m : t ≡ n = omega arith in s .is ∙ ap (energyTo w starts powers) m
@@ -109,6 +136,7 @@ module _ {front : Front} {halves : List ℕ} {zones minima devices cells setting
     timed = omega (arith, own-long, ready .forced-rows .starts-full);
     short = λ t h. omega (arith, own-long, half-small (ready .case-rows) t, start-next ready t (omega (arith, own-long)));
     small = λ t h. power-small ready i l t (omega (arith, own-long));
+    rising = λ t h. omega (arith, own-long, start-next ready t (omega (arith, own-long)));
   }
 
   module _ (j : ℕ) (k : j < deviceOf (getD devices i []) .nenergies) where

@@ -104,10 +104,10 @@ module _ {e n m t : ℕ} {s : List ℕ} {start : Place} {old : List (List ℕ)} 
             | no a ↦ (x, ap (λ (z : ℕ). getD stored z []) (omega (arith, f .row, let z : i ≡ 0 = omega arith in ap (λ (w : ℕ). w * m) z)) ∙ getD-set-same new k (settingRow x) [] filling-fits)
           ]
 
-      pub filling-off : {w : Went} {y : Fault} → told w (settingHeld x) ≡ got (setting e) s p → w ≡ W.Off y → SettingsDone e n m t s start old new w
-      filling-off g o = record {
+      pub filling-off : {w : Went} {y : Fault} {after : List (List ℕ)} → told w (settingHeld x) ≡ got (setting e) s p → w ≡ W.Off y → after ≡ stored → SettingsDone e n m t s start old after w
+      filling-off g o d = rw d record {
         reads = told-off _ o (reading-off (f .reading) (setting-natural e) h (went-bad (settingHeld x) g o));
-        others = f .others;
+        others = λ j u a b. same j u a (λ _ y. b y) ∙ f .others j u a b;
         first = λ q a. absurd (went-one (sym o ∙ a));
       }
 

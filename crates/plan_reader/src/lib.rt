@@ -16,9 +16,8 @@ use layouts::Place;
 use message_ends::Ending;
 use plan_header::read_header;
 use row_places::SettingRow;
-use setting_reader::read_setting;
 use setting_rows::put_flow;
-use setting_rows::put_setting;
+use setting_store::store_setting;
 
 // The settings of interval t, device by device: the next device's row is as many rows further on as there are intervals.
 fn read_settings(
@@ -37,13 +36,10 @@ fn read_settings(
     let mut k = t;
     let mut i: usize = 0;
     while i < devices {
-        let read = read_setting(s, q, edition);
-        let went = read.went;
+        let went = store_setting(s, q, edition, settings, k);
         let Went::On(next) = went else {
             return went;
         };
-        let setting = read.setting;
-        put_setting(settings, k, setting);
         q = next;
         k += intervals;
         i += 1;

@@ -1,13 +1,17 @@
 // What a cell has of reactive power, from edition 2 on: qmin and qmax, then the prices of the two reactive reserves. An edition that lacks it has 0 for each.
 ghost use mathlib.Core.Path.{_≡_};
+ghost use mathlib.Core.Bool.{true};
+ghost use Prim.Native.Nat.{_+_, _*_, _≤_};
 ghost use lib.Signed.{leZ};
+ghost use Rattle.bits.specs.Bits.{reach};
 ghost use Rattle.layouts.specs.Layout.{noted};
 ghost use Rattle.layouts.specs.Since.{since};
 ghost use Rattle.model.specs.ByEdition.{reactiveLimits, reactivePrices, reactiveCell, noReactiveCell};
 ghost use Rattle.kilovars.specs.Reactive.{kvarOffset};
 ghost use Rattle.records.specs.Views.{less};
 ghost use Rattle.fields.specs.Got.{got, told};
-ghost use Rattle.reactive_cells.specs.Reactive.{limitsIn, pricesIn, reactivePair};
+ghost use Rattle.reactive_cells.specs.Reactive.{limitsIn, pricesIn, reactivePair, reactiveBits, ReactiveFits};
+use bits::bits_at;
 use fields::Figure;
 use fields::Went;
 use kilovars::KVAR_BITS;
@@ -18,6 +22,9 @@ use kilovars::NO_KVAR;
 use kilovars::SignedKvar;
 use layouts::Place;
 use row_places::ReactiveCell;
+use word_fields::field_in;
+use word_fields::has_bits;
+use word_fields::offset_in;
 
 // "Edition 2 adds the rules .."
 const REACTIVE_EDITION: u32 = 2;
@@ -26,6 +33,16 @@ const REACTIVE_EDITION: u32 = 2;
 const PRICE_BITS: u64 = 14;
 
 const MOST_PRICE: u32 = 10000;
+
+// The greatest qmax, as it is kept.
+const MOST_KEPT: u32 = 2 * MOST_KVAR as u32;
+
+// The limits are a word, the two prices another.
+const LIMITS_BITS: u64 = 2 * KVAR_BITS;
+
+const PRICES_BITS: u64 = 2 * PRICE_BITS;
+
+const REACTIVE_BITS: u64 = LIMITS_BITS + PRICES_BITS;
 
 pub const NEUTRAL: ReactiveCell = ReactiveCell {
     qmin: NO_KVAR,
@@ -131,12 +148,75 @@ fn neutral(went: Went) -> ReactiveRead
     }
 }
 
-pub fn read_reactive(s: &[u8], p: Place, edition: u32) -> ReactiveRead
-    ensures { λ r. ⌜ told (r .went) (reactivePair (r .figures)) ≡ got (since edition 2 noReactiveCell reactiveCell) (now (s .entry)) p ⌝ }
+// What was read where ok; else nothing is said.
+struct Quick {
+    ok: bool,
+    read: ReactiveRead,
+}
+
+// Whether each is in its range, and qmin is not above qmax.
+fn reactive_fits(qmin: u32, qmax: u32, qru: u32, qrd: u32) -> bool
+    ensures { λ r. ⌜ (r ≡ true → ReactiveFits qmin qmax qru qrd) ⌝ }
 {
-    if edition < REACTIVE_EDITION {
-        return neutral(Went::On(p));
+    if MOST_KEPT < qmax {
+        return false;
     }
+    if MOST_PRICE < qru {
+        return false;
+    }
+    if MOST_PRICE < qrd {
+        return false;
+    }
+    qmin <= qmax
+}
+
+// The limits by one word, the prices by another; ok where they fit.
+fn reactive_words(s: &[u8], p: Place) -> Quick
+    requires { ⌜ p .at + reactiveBits ≤ 8 * reach (now s) ⌝ }
+    ensures { λ r. ⌜ (r .ok ≡ true → told (r .read .went) (reactivePair (r .read .figures)) ≡ got reactiveCell (now (s .entry)) p) ⌝ }
+{
+    let at = p.at;
+    let clash = p.clash;
+    let limits = bits_at(s, at, LIMITS_BITS);
+    let prices = bits_at(s, at + LIMITS_BITS, PRICES_BITS);
+    let qmin = offset_in(limits, KVAR_BITS, KVAR_BITS, MOST_KVAR);
+    let qmax = offset_in(limits, 0, KVAR_BITS, MOST_KVAR);
+    let qru = field_in(prices, PRICE_BITS, PRICE_BITS);
+    let qrd = field_in(prices, 0, PRICE_BITS);
+    let ok = reactive_fits(qmin, qmax, qru, qrd);
+    let past = Place {
+        at: at + REACTIVE_BITS,
+        clash,
+    };
+    let figures = ReactiveCell {
+        qmin: SignedKvar(qmin),
+        qmax: SignedKvar(qmax),
+        qru: KvarPrice(qru),
+        qrd: KvarPrice(qrd),
+    };
+    let read = ReactiveRead {
+        went: Went::On(past),
+        figures,
+    };
+    Quick { ok, read }
+}
+
+// By words, where the message has them. The contract leaves free where it declines: the figures are then read field by field.
+fn quick_reactive(s: &[u8], p: Place) -> Quick
+    ensures { λ r. ⌜ (r .ok ≡ true → told (r .read .went) (reactivePair (r .read .figures)) ≡ got reactiveCell (now (s .entry)) p) ⌝ }
+{
+    let at = p.at;
+    if has_bits(s, at, REACTIVE_BITS) {
+        return reactive_words(s, p);
+    }
+    let read = neutral(Went::On(p));
+    Quick { ok: false, read }
+}
+
+// Field by field: from here comes every refusal.
+fn exact_reactive(s: &[u8], p: Place) -> ReactiveRead
+    ensures { λ r. ⌜ told (r .went) (reactivePair (r .figures)) ≡ got reactiveCell (now (s .entry)) p ⌝ }
+{
     let limits = read_limits(s, p);
     let limited = limits.went;
     let Went::On(at_prices) = limited else {
@@ -155,4 +235,18 @@ pub fn read_reactive(s: &[u8], p: Place, edition: u32) -> ReactiveRead
             qrd: KvarPrice(prices.qrd),
         },
     }
+}
+
+pub fn read_reactive(s: &[u8], p: Place, edition: u32) -> ReactiveRead
+    ensures { λ r. ⌜ told (r .went) (reactivePair (r .figures)) ≡ got (since edition 2 noReactiveCell reactiveCell) (now (s .entry)) p ⌝ }
+{
+    if edition < REACTIVE_EDITION {
+        return neutral(Went::On(p));
+    }
+    let quick = quick_reactive(s, p);
+    if quick.ok {
+        let read = quick.read;
+        return read;
+    }
+    exact_reactive(s, p)
 }

@@ -60,6 +60,10 @@ module _ (s : ReactiveSides) (side q : ℕ) where
 abbrev pub barSidesOf : ReactiveSides → ReactiveSides → ReactiveBarSides
 barSidesOf first second = record { first = first; second = second }
 
+-- four sums, each as it is in one record of them
+pub sums-are : {a b c d e f g h : Kvar} → a ≡ e → b ≡ f → c ≡ g → d ≡ h → barSidesOf (sidesOf a b) (sidesOf c d) ≡ barSidesOf (sidesOf e f) (sidesOf g h)
+sums-are i j k l = ap₂ (λ (x y : ReactiveSides). barSidesOf x y) (ap₂ (λ (x y : Kvar). sidesOf x y) i j) (ap₂ (λ (x y : Kvar). sidesOf x y) k l)
+
 -- all sums together
 abbrev pub allOf : ReactiveBarSides → ℕ
 allOf s = (s .first .consuming .0 + s .first .producing .0) + (s .second .consuming .0 + s .second .producing .0)

@@ -4,7 +4,7 @@ ghost use mathlib.Core.Bool.{true};
 ghost use Prim.Native.Nat.{_+_, _<_, _^_};
 ghost use lib.ListN.{length};
 ghost use Rattle.reactive_mismatches.specs.Settled.{Settled};
-ghost use Rattle.reactive_mismatches.specs.Sides.{withSide, allOf, withBar, BarsSo, barsTo, mismatchesOf, NoneTo};
+ghost use Rattle.reactive_mismatches.specs.Sides.{BarsSo, barsTo, mismatchesOf, NoneTo};
 use device_rows::bar_at;
 use device_rows::side_at;
 use kilovars::Kvar;
@@ -33,70 +33,51 @@ pub struct ReactiveMismatches {
     pub second: Kvar,
 }
 
-// A device's q on its side.
-fn with_side(s: ReactiveSides, side: u32, q: SignedKvar) -> ReactiveSides
-    requires { ⌜ s .consuming .0 + s .producing .0 + q .0 + 100000 < 2 ^ 32 ⌝ }
-    ensures { λ r. ⌜ r ≡ withSide s side (q .0) ⌝ }
-{
-    let a = s.consuming;
-    let b = s.producing;
-    let kept = Kvar(q.0);
-    let offset = Kvar(NO_KVAR.0);
-    if side == 1 {
-        let consuming = a.plus(kept);
-        let producing = b.plus(offset);
-        ReactiveSides {
-            consuming,
-            producing,
-        }
-    } else {
-        let consuming = a.plus(offset);
-        let producing = b.plus(kept);
-        ReactiveSides {
-            consuming,
-            producing,
-        }
-    }
-}
-
-// A device's q on its bar.
-fn with_bar(s: ReactiveBarSides, bar: u32, side: u32, q: SignedKvar) -> ReactiveBarSides
-    requires { ⌜ allOf s + q .0 + 100000 < 2 ^ 32 ⌝ }
-    ensures { λ r. ⌜ r ≡ withBar s bar side (q .0) ⌝ }
-{
-    let first = s.first;
-    let second = s.second;
-    if bar == 0 {
-        let first = with_side(first, side, q);
-        ReactiveBarSides { first, second }
-    } else {
-        let second = with_side(second, side, q);
-        ReactiveBarSides { first, second }
-    }
-}
-
 // The q by bar and side in interval t of m.
 fn bar_sides(devices: &[DeviceRow], settings: &[SettingRow], m: usize, t: usize) -> ReactiveBarSides
     requires { ⌜ Settled (length (now devices)) m t (now settings) ⌝ }
     ensures { λ r. ⌜ BarsSo (now (devices .entry)) (now (settings .entry)) m t (length (now (devices .entry))) r ⌝ }
 {
-    let none = ReactiveSides {
-        consuming: Kvar(0),
-        producing: Kvar(0),
-    };
-    let mut s = ReactiveBarSides {
-        first: none,
-        second: none,
-    };
+    let mut first_consuming = Kvar(0);
+    let mut first_producing = Kvar(0);
+    let mut second_consuming = Kvar(0);
+    let mut second_producing = Kvar(0);
     let mut i = 0;
     let mut k = t;
     while i < devices.len() {
         let x = reactive_at(settings, k);
-        s = with_bar(s, bar_at(devices, i), side_at(devices, i), x.q);
+        let kept = Kvar(x.q.0);
+        let offset = Kvar(NO_KVAR.0);
+        let side = side_at(devices, i);
+        if bar_at(devices, i) == 0 {
+            if side == 1 {
+                first_consuming = first_consuming.plus(kept);
+                first_producing = first_producing.plus(offset);
+            } else {
+                first_consuming = first_consuming.plus(offset);
+                first_producing = first_producing.plus(kept);
+            }
+        } else {
+            if side == 1 {
+                second_consuming = second_consuming.plus(kept);
+                second_producing = second_producing.plus(offset);
+            } else {
+                second_consuming = second_consuming.plus(offset);
+                second_producing = second_producing.plus(kept);
+            }
+        }
         k += m;
         i += 1;
     }
-    s
+    let first = ReactiveSides {
+        consuming: first_consuming,
+        producing: first_producing,
+    };
+    let second = ReactiveSides {
+        consuming: second_consuming,
+        producing: second_producing,
+    };
+    ReactiveBarSides { first, second }
 }
 
 // No device has a q in interval t of m; says nothing where one has.

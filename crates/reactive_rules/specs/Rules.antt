@@ -97,12 +97,10 @@ idle-here d cells settings starts powers t h = sym (idle-holds (d .link) h (eqb 
 
 module _ (d : ReactiveBounds) (cells settings : List (List ℕ)) (starts powers : List ℕ) (t : ℕ) {c : ReactiveCell} {x : Reactive}
     (e : c ≡ reactiveCellAt cells t) (f : x ≡ reactiveAt settings t) where
-  abbrev word : ℕ → ReactiveCell → Reactive → ℕ
-  word n c x = failingWord (tests (eqb (d .side) 1) n (getD powers t 0) (linkIn (d .link)) (reactiveLimitsIn c) (reactiveIn x))
-
-  pub word-here : {n w : ℕ} → n ≡ bracketAt (d .ramping) cells settings starts t → w ≡ word n c x → w ≡ failingWord (reactiveTestsAt d cells settings starts powers t)
+  pub tests-here : {n : ℕ} → n ≡ bracketAt (d .ramping) cells settings starts t
+      → tests (eqb (d .side) 1) n (getD powers t 0) (linkIn (d .link)) (reactiveLimitsIn c) (reactiveIn x) ≡ reactiveTestsAt d cells settings starts powers t
   unfolding reactiveTestsAt
-  word-here {n} g h = h ∙ ap₂ (word n) e f ∙ ap (λ (n : ℕ). word n (reactiveCellAt cells t) (reactiveAt settings t)) g
+  tests-here g = rw (e, f, g) refl
 
   pub sized-here : {n : ℕ} → n ≤ mostBracket → ReactiveFits d cells settings starts powers t → Sized n (getD powers t 0) (d .link) c x
   sized-here g h = record { bracket = g; power = h .power; link = h .link; limits = rw e (h .limits); reactive = rw f (h .reactive) }
@@ -120,9 +118,9 @@ module _ (d : ReactiveBounds) (cells settings : List (List ℕ)) (starts powers 
   pub reactive-none : ReactiveHeldTo 0
   reactive-none = record { at = λ t h. absurd (omega arith) }
 
-  pub reactive-next : {n word : ℕ} → ReactiveHeldTo n → word ≡ failingWord (reactiveTestsAt d cells settings starts powers n) → word ≡ 0 → ReactiveHeldTo (n + 1)
-  reactive-next {n} h e z = record { at = λ t l. go t l (decLe n t) }
+  pub reactive-next : {n : ℕ} → ReactiveHeldTo n → failing (reactiveTestsAt d cells settings starts powers n) ≡ [] → ReactiveHeldTo (n + 1)
+  reactive-next {n} h e = record { at = λ t l. go t l (decLe n t) }
     where
       go : (t : ℕ) → t < n + 1 → Dec (n ≤ t) → failing (reactiveTestsAt d cells settings starts powers t) ≡ []
-      go t l (yes x) = let s : t ≡ n = omega arith in rw s (word-none (reactiveTestsAt d cells settings starts powers n) (sym e ∙ z))
+      go t l (yes x) = let s : t ≡ n = omega arith in rw s e
       go t l (no x) = h .at t (omega arith)

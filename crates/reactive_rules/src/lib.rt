@@ -2,8 +2,10 @@
 ghost use mathlib.Core.Path.{_≡_};
 ghost use mathlib.Core.Bool.{true};
 ghost use mathlib.Core.Logic.{_↔_};
-ghost use Prim.Native.Nat.{_<_};
+ghost use mathlib.Core.List.{[]};
+ghost use Prim.Native.Nat.{_≤_, _<_};
 ghost use lib.ListN.{length};
+ghost use Rattle.model.specs.Breaches.{failing};
 ghost use Rattle.row_places.specs.Figures.{reactiveAt, reactiveCellAt};
 ghost use Rattle.cell_bounds.specs.Word.{failingWord};
 ghost use Rattle.reactive_rules.specs.Rules.{reactiveBoundsOf, reactiveTestsAt, ReactiveFits, Idle, AllReactiveFit, ReactiveHeldTo};
@@ -14,6 +16,7 @@ use ramped_powers::Ramping;
 use ramped_powers::ramping_of;
 use reactive_tests::KVAR_OFFSET;
 use reactive_tests::failing_figures;
+use reactive_tests::figures_held;
 use row_places::CellRow;
 use row_places::Device;
 use row_places::Link;
@@ -103,6 +106,49 @@ pub fn failing_reactive(
     failing_figures(d.side, n, power, link, c, x)
 }
 
+// Whether none of interval t fails, in one go.
+fn held_at(
+    d: ReactiveBounds,
+    cells: &[CellRow],
+    settings: &[SettingRow],
+    starts: &[u32],
+    powers: &[u32],
+    t: usize,
+) -> bool
+    requires { ⌜ ReactiveFits d (now cells) (now settings) (now starts) (now powers) t ⌝ }
+    ensures { λ r. ⌜ (r ≡ true) ↔ (failing (reactiveTestsAt d (now (cells .entry)) (now (settings .entry)) (now (starts .entry)) (now (powers .entry)) t) ≡ []) ⌝ }
+{
+    let link = d.link;
+    let ramping = d.ramping;
+    let power = Kw(powers[t]);
+    let n = bracket_given(ramping, cells, settings, starts, t, power);
+    let c = reactive_cell_at(cells, t);
+    let x = reactive_at(settings, t);
+    figures_held(d.side, n, power, link, c, x)
+}
+
+// The intervals ahead of the first of which something is reactive: no rule fails there.
+fn idle_front(
+    d: ReactiveBounds,
+    cells: &[CellRow],
+    settings: &[SettingRow],
+    starts: &[u32],
+    powers: &[u32],
+) -> usize
+    requires { ⌜ AllReactiveFit d (now cells) (now settings) (now starts) (now powers) ⌝ }
+    ensures { λ r. ⌜ (r ≤ length (now (cells .entry))) × ReactiveHeldTo d (now (cells .entry)) (now (settings .entry)) (now (starts .entry)) (now (powers .entry)) r ⌝ }
+{
+    let mut t = 0;
+    while t < cells.len() {
+        let kind = d.link.kind;
+        if !idle_at(kind, cells, settings, t) {
+            return t;
+        }
+        t += 1;
+    }
+    t
+}
+
 // Whether no reactive rule of a device's intervals fails.
 pub fn reactive_held(
     d: ReactiveBounds,
@@ -114,13 +160,10 @@ pub fn reactive_held(
     requires { ⌜ AllReactiveFit d (now cells) (now settings) (now starts) (now powers) ⌝ }
     ensures { λ r. ⌜ (r ≡ true) ↔ ReactiveHeldTo d (now (cells .entry)) (now (settings .entry)) (now (starts .entry)) (now (powers .entry)) (length (now (cells .entry))) ⌝ }
 {
-    let kind = d.link.kind;
-    let mut t = 0;
+    let mut t = idle_front(d, cells, settings, starts, powers);
     while t < cells.len() {
-        if !idle_at(kind, cells, settings, t) {
-            if failing_reactive(d, cells, settings, starts, powers, t) != 0 {
-                return false;
-            }
+        if !held_at(d, cells, settings, starts, powers, t) {
+            return false;
         }
         t += 1;
     }

@@ -54,8 +54,8 @@ pub held-mono : (m n : ℕ) (s : ReactiveHeld) → m ≤ n → HeldOf m s → He
 held-mono m n s l h = record { qru = omega (arith, h .qru); qrd = omega (arith, h .qrd) }
 
 module _ (s : ReactiveHeld) (devices settings : List (List ℕ)) (i k z : ℕ) where
-  pub not-added : inZone (zonebitsAt devices i) z ≡ false → DeviceAdded s devices settings i k z s
-  not-added e = record { is = rw e refl; small = λ n h. held-mono n (n + 1) s (omega arith) h }
+  pub not-added : {a b : Kvar} → inZone (zonebitsAt devices i) z ≡ false → a ≡ s .qru → b ≡ s .qrd → DeviceAdded s devices settings i k z (heldBy a b)
+  not-added e f g = record { is = rw (e, f, g) refl; small = λ n h. rw (f, g) (held-mono n (n + 1) s (omega arith) h) }
 
   pub added : {x : Reactive} {a b : Kvar} → inZone (zonebitsAt devices i) z ≡ true → Small settings k → x ≡ reactiveAt settings k
       → a .0 ≡ s .qru .0 + x .qru .0 → b .0 ≡ s .qrd .0 + x .qrd .0 → DeviceAdded s devices settings i k z (heldBy a b)

@@ -3,9 +3,9 @@ ghost use mathlib.Core.Path.{_≡_};
 ghost use mathlib.Core.Bool.{true};
 ghost use Prim.Native.Nat.{_-_, _*_, _<_};
 ghost use lib.ListN.{length};
-ghost use Rattle.records.specs.Views.{mostDevices, mostZones};
-ghost use Rattle.reactive_mismatches.specs.Settled.{Settled, Small};
-ghost use Rattle.reactive_shortfalls.specs.Held.{HeldOf, DeviceAdded, HeldSo, heldTo, shortOf};
+ghost use Rattle.records.specs.Views.{mostZones};
+ghost use Rattle.reactive_mismatches.specs.Settled.{Settled};
+ghost use Rattle.reactive_shortfalls.specs.Held.{HeldSo, heldTo, shortOf};
 use device_rows::zonebits_at;
 use kilovars::Kvar;
 use kilovars::Var;
@@ -21,27 +21,6 @@ pub struct ReactiveHeld {
     pub qrd: Kvar,
 }
 
-// One device more, where it is a member; its setting stands at place k.
-fn with_device(
-    s: ReactiveHeld,
-    devices: &[DeviceRow],
-    settings: &[SettingRow],
-    i: usize,
-    k: usize,
-    z: usize,
-) -> ReactiveHeld
-    requires { ⌜ (z < mostZones) × HeldOf mostDevices s × (i < length (now devices)) × (k < length (now settings)) × Small (now settings) k ⌝ }
-    ensures { λ r. ⌜ DeviceAdded s (now (devices .entry)) (now (settings .entry)) i k z r ⌝ }
-{
-    if !in_zone(zonebits_at(devices, i), z) {
-        return s;
-    }
-    let x = reactive_at(settings, k);
-    let qru = s.qru.plus(x.qru);
-    let qrd = s.qrd.plus(x.qrd);
-    ReactiveHeld { qru, qrd }
-}
-
 // What the members of zone z hold in interval t of m.
 fn reactive_held(
     devices: &[DeviceRow],
@@ -53,18 +32,20 @@ fn reactive_held(
     requires { ⌜ Settled (length (now devices)) m t (now settings) × (z < mostZones) ⌝ }
     ensures { λ r. ⌜ HeldSo (now (devices .entry)) (now (settings .entry)) m t z (length (now (devices .entry))) r ⌝ }
 {
-    let mut s = ReactiveHeld {
-        qru: Kvar(0),
-        qrd: Kvar(0),
-    };
+    let mut qru = Kvar(0);
+    let mut qrd = Kvar(0);
     let mut i = 0;
     let mut k = t;
     while i < devices.len() {
-        s = with_device(s, devices, settings, i, k, z);
+        if in_zone(zonebits_at(devices, i), z) {
+            let x = reactive_at(settings, k);
+            qru = qru.plus(x.qru);
+            qrd = qrd.plus(x.qrd);
+        }
         k += m;
         i += 1;
     }
-    s
+    ReactiveHeld { qru, qrd }
 }
 
 // A zone's two reactive shortfalls.

@@ -1,14 +1,16 @@
-// Rules 21 to 26 of one device in one interval, from its records: the word of those that fail. Signed figures are kept from 0, so that both sides of a
-// comparison are naturals; no product is rounded.
+// Rules 21 to 26 of one device in one interval, from its records: the word of those that fail, and whether none does. Signed figures are kept from 0, so
+// that both sides of a comparison are naturals; no product is rounded.
 ghost use mathlib.Core.Path.{_≡_};
-ghost use mathlib.Core.Bool.{_&&_};
+ghost use mathlib.Core.Bool.{true, _&&_};
+ghost use mathlib.Core.Logic.{_↔_};
+ghost use mathlib.Core.List.{[]};
 ghost use Prim.Native.Nat.{_+_, _*_, _≤_, _<_, _^_};
 ghost use lib.Dec.{eqb};
 ghost use lib.IntN.{pos, _+ℤ_, _-ℤ_, _*ℤ_};
 ghost use lib.Signed.{leZ};
 ghost use Rattle.bits.specs.Pick.{pick};
 ghost use Rattle.model.specs.Rules.{onLine};
-ghost use Rattle.model.specs.Breaches.{eqZ};
+ghost use Rattle.model.specs.Breaches.{eqZ, failing};
 ghost use Rattle.kilovars.specs.Reactive.{kvarOffset};
 ghost use Rattle.records.specs.Views.{less, lineIn, linkIn, reactiveIn, reactiveLimitsIn, mostPower};
 ghost use Rattle.cell_bounds.specs.Word.{failingWord};
@@ -181,4 +183,61 @@ pub fn failing_figures(
     limit_rules(side, n, power, link, c, x)
         + line_rules(side, n, power, link, c, x)
         + equality_rules(side, n, power, link, c, x)
+}
+
+// Whether rules 21 and 22 hold.
+fn limits_held(side: u32, n: u32, power: Kw, link: Link, c: ReactiveCell, x: Reactive) -> bool
+    requires { ⌜ Sized n (power .0) link c x ⌝ }
+    ensures { λ r. ⌜ (r ≡ true) ↔ (failing (limitTests (eqb side 1) n (power .0) (linkIn link) (reactiveLimitsIn c) (reactiveIn x)) ≡ []) ⌝ }
+{
+    let up = by_side(side, x.qrd, x.qru);
+    if !below_limit(x.q, up, c.qmax, n) {
+        return false;
+    }
+    let down = by_side(side, x.qru, x.qrd);
+    above_limit(x.q, down, c.qmin, n)
+}
+
+// Whether rules 23 and 24 hold.
+fn lines_held(side: u32, n: u32, power: Kw, link: Link, c: ReactiveCell, x: Reactive) -> bool
+    requires { ⌜ Sized n (power .0) link c x ⌝ }
+    ensures { λ r. ⌜ (r ≡ true) ↔ (failing (lineTests (eqb side 1) n (power .0) (linkIn link) (reactiveLimitsIn c) (reactiveIn x)) ≡ []) ⌝ }
+{
+    if link.kind != TWO_LINES {
+        return true;
+    }
+    let up = by_side(side, x.qrd, x.qru);
+    if !below_line(x.q, up, link.upper, n, power) {
+        return false;
+    }
+    let down = by_side(side, x.qru, x.qrd);
+    above_line(x.q, down, link.lower, n, power)
+}
+
+// Whether rules 25 and 26 hold.
+fn equality_held(side: u32, n: u32, power: Kw, link: Link, c: ReactiveCell, x: Reactive) -> bool
+    requires { ⌜ Sized n (power .0) link c x ⌝ }
+    ensures { λ r. ⌜ (r ≡ true) ↔ (failing (equalityTests (eqb side 1) n (power .0) (linkIn link) (reactiveLimitsIn c) (reactiveIn x)) ≡ []) ⌝ }
+{
+    if link.kind != EQUALITY {
+        return true;
+    }
+    if !on_line(x.q, link.upper, n, power) {
+        return false;
+    }
+    none_held(x.qru, x.qrd)
+}
+
+// Whether no reactive rule of one device in one interval fails, in one go.
+pub fn figures_held(side: u32, n: u32, power: Kw, link: Link, c: ReactiveCell, x: Reactive) -> bool
+    requires { ⌜ Sized n (power .0) link c x ⌝ }
+    ensures { λ r. ⌜ (r ≡ true) ↔ (failing (tests (eqb side 1) n (power .0) (linkIn link) (reactiveLimitsIn c) (reactiveIn x)) ≡ []) ⌝ }
+{
+    if !limits_held(side, n, power, link, c, x) {
+        return false;
+    }
+    if !lines_held(side, n, power, link, c, x) {
+        return false;
+    }
+    equality_held(side, n, power, link, c, x)
 }

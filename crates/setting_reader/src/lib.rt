@@ -1,4 +1,4 @@
-// A plan's setting of every edition, read against its layout: quickly where that answers, else field by field.
+// A plan's setting of every edition, read field by field against its layout.
 ghost use mathlib.Core.Path.{_≡_};
 ghost use Prim.Native.Nat.{_+_};
 ghost use Rattle.model.specs.Messages.{active};
@@ -16,12 +16,10 @@ use reactive_reader::read_reactive;
 use row_places::Reactive;
 use row_places::Reserves;
 use row_places::Setting;
-use setting_words::ACTIVE_BITS;
 use setting_words::Active;
 use setting_words::KW_BITS;
 use setting_words::MOST_KW;
 use setting_words::no_active;
-use setting_words::quick_active;
 
 pub struct ActiveRead {
     pub went: Went,
@@ -82,24 +80,6 @@ fn exact_active(s: &[u8], p: Place) -> ActiveRead
     ActiveRead { went, active }
 }
 
-// Quickly where that answers, else exactly.
-fn read_active(s: &[u8], p: Place) -> ActiveRead
-    ensures { λ r. ⌜ told (r .went) (activeIn (r .active)) ≡ got active (now (s .entry)) p ⌝ }
-{
-    let at = p.at;
-    let clash = p.clash;
-    let quick = quick_active(s, at);
-    if quick.ok {
-        let active = quick.active;
-        let went = Went::On(Place {
-            at: at + ACTIVE_BITS,
-            clash,
-        });
-        return ActiveRead { went, active };
-    }
-    exact_active(s, p)
-}
-
 // What was read, as a setting.
 fn setting_read(went: Went, active: Active, reactive: Reactive) -> SettingRead
     ensures { λ r. ⌜ told (r .went) (settingHeld (r .setting)) ≡ told went (settingFrom active reactive) ⌝ }
@@ -120,7 +100,7 @@ fn setting_read(went: Went, active: Active, reactive: Reactive) -> SettingRead
 pub fn read_setting(s: &[u8], p: Place, edition: u32) -> SettingRead
     ensures { λ r. ⌜ told (r .went) (settingHeld (r .setting)) ≡ got (setting edition) (now (s .entry)) p ⌝ }
 {
-    let read = read_active(s, p);
+    let read = exact_active(s, p);
     let active = read.active;
     let went = read.went;
     let Went::On(next) = went else {

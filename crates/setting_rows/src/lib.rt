@@ -6,6 +6,7 @@ ghost use lib.Dec.{ltb};
 ghost use lib.ListN.{getD, length, set};
 ghost use Rattle.numbers.specs.Base.{bit};
 ghost use Rattle.row_places.specs.Figures.{settingRow, settingOf, onAt, onlineAt, onBefore, startedAt, stoppedAt, reactiveAt, flowAt, withFlow};
+ghost use Rattle.setting_rows.specs.Put.{withReactive};
 use kilovars::Kvar;
 use kilovars::SignedKvar;
 use kilowatts::Kw;
@@ -157,6 +158,18 @@ pub fn put_setting(settings: &mut [SettingRow], k: usize, x: Setting)
     ensures { λ _. ⌜ now (settings .exit) ≡ set (now (settings .entry)) k (settingRow x) ⌝ }
 {
     settings[k] = setting_row(x);
+}
+
+// The reactive figures into row k; the row's other figures stay.
+pub fn put_reactive(settings: &mut [SettingRow], k: usize, x: Reactive)
+    requires { ⌜ k < length (now settings) ⌝ }
+    ensures { λ _. ⌜ now (settings .exit) ≡ set (now (settings .entry)) k (withReactive (getD (now (settings .entry)) k []) x) ⌝ }
+{
+    let mut row = settings[k];
+    row[SETTING_Q] = x.q.0;
+    row[SETTING_QRU] = x.qru.0;
+    row[SETTING_QRD] = x.qrd.0;
+    settings[k] = row;
 }
 
 // The flow of interval t into the first device's row; the row's other figures stay.

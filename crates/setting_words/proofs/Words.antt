@@ -1,11 +1,12 @@
 -- A setting's fields out of three words: which bits of the message they are.
 use mathlib.Core.Path.{_≡_, refl, ap, _∙_}
 use mathlib.Core.List.{List}
-use Prim.Native.Nat.{ℕ, zero, suc, _+_, _*_, _/_, _%_, _^_, _≤_, _<_}
+use Prim.Native.Nat.{ℕ, zero, suc, _+_, _*_, _/_, _^_, _≤_, _<_}
 use native.Mathlib.Omega.{arith}
 use lib.Pow.{high}
 use Rattle.bits.specs.Bits.{fieldAt, reach}
-use Rattle.bits.proofs.Laws.{part, split, field-lt}
+use Rattle.bits.proofs.Laws.{split, field-lt}
+use Rattle.word_fields.proofs.Words.{field-of}
 use Rattle.setting_words.specs.declared.Active.{Active}
 use Rattle.setting_words.specs.declared.Three.{Three}
 use Rattle.setting_words.specs.Settings.{activeIn, threeBits, activeBits, powerAt, kwBits, mostKw, nineIn, Found, Threefold, Low}
@@ -18,16 +19,12 @@ pub record ThreeAt (s : List ℕ) (at j : ℕ) (t : Three) : Type 0 where
   pub second : t .y ≡ powerAt s at (j + 1)
   pub third : t .z ≡ powerAt s at (j + 2)
 
--- a power that has t bits of a word behind it, u ahead of it
-power-of : (s : List ℕ) (b u t : ℕ) {word x : ℕ} → word ≡ fieldAt s b (u + kwBits + t) → x ≡ word / 2 ^ t % 2 ^ kwBits → x ≡ fieldAt s (b + u) kwBits
-power-of s b u t e h = h ∙ ap (λ (n : ℕ). n / 2 ^ t % 2 ^ kwBits) e ∙ part s b u kwBits t
-
 -- the last three of a word at bit b
 pub three-of : (s : List ℕ) (at j b u : ℕ) {word : ℕ} {t : Three} → word ≡ fieldAt s b (u + threeBits) → Threefold word t → b + u ≡ at + 1 + j * kwBits → ThreeAt s at j t
 three-of s at j b u e h d = record {
-  first = power-of s b u (2 * kwBits) (e ∙ wide (omega arith)) (h .first) ∙ place (omega arith);
-  second = power-of s b (u + kwBits) kwBits (e ∙ wide (omega arith)) (h .second) ∙ place (omega arith);
-  third = power-of s b (u + 2 * kwBits) 0 (e ∙ wide (omega arith)) (h .third) ∙ place (omega arith);
+  first = field-of s b u kwBits (2 * kwBits) (e ∙ wide (omega arith)) (h .first) ∙ place (omega arith);
+  second = field-of s b (u + kwBits) kwBits kwBits (e ∙ wide (omega arith)) (h .second) ∙ place (omega arith);
+  third = field-of s b (u + 2 * kwBits) kwBits 0 (e ∙ wide (omega arith)) (h .third) ∙ place (omega arith);
 }
   where
     wide : {v w : ℕ} → v ≡ w → fieldAt s b v ≡ fieldAt s b w

@@ -1,12 +1,14 @@
 // The figures of a plan's setting by whole words, where the message has them and each is in its range.
 ghost use mathlib.Core.Path.{_≡_};
 ghost use mathlib.Core.Bool.{true};
-ghost use Prim.Native.Nat.{_+_, _*_, _/_, _%_, _^_, _≤_, _<_};
+ghost use Prim.Native.Nat.{_+_, _*_, _%_, _^_, _≤_};
 ghost use Rattle.bits.specs.Bits.{reach};
-ghost use Rattle.setting_words.specs.Settings.{noReserves, noActive, activeIn, kwBits, activeBits, nineIn, Threefold, Unborrowed, Low, Found};
+ghost use Rattle.setting_words.specs.Settings.{noReserves, noActive, activeIn, activeBits, nineIn, Threefold, Unborrowed, Low, Found};
 use bits::bits_at;
 use kilowatts::Kw;
 use row_places::Reserves;
+use word_fields::field_in;
+use word_fields::has_bits;
 
 // "A 17-bit power is 0..100,000"
 pub const KW_BITS: u64 = 17;
@@ -26,9 +28,6 @@ const MOST_THREE: u64 = (2 << THREE_BITS)
 const FIRST_BITS: u64 = 1 + THREE_BITS;
 
 pub const ACTIVE_BITS: u64 = FIRST_BITS + 2 * THREE_BITS;
-
-// The bytes that these bits lie in, whatever bit of a byte they begin at.
-const ACTIVE_BYTES: u64 = (7 + ACTIVE_BITS + 7) / 8;
 
 // "on 1, online power 17, eight reserves 17 each": the figures of a setting that every edition has.
 pub struct Active {
@@ -77,21 +76,13 @@ pub struct Three {
     pub z: u32,
 }
 
-// The power that has so many bits of a word behind it.
-fn power_in(word: u64, behind: u64) -> u32
-    requires { ⌜ behind < 64 ⌝ }
-    ensures { λ r. ⌜ r ≡ word / 2 ^ behind % 2 ^ kwBits ⌝ }
-{
-    ((word >> behind) % (1 << KW_BITS)) as u32
-}
-
 // The last three powers of a word.
 fn three_in(word: u64) -> Three
     ensures { λ r. ⌜ Threefold word r ⌝ }
 {
-    let x = power_in(word, 2 * KW_BITS);
-    let y = power_in(word, KW_BITS);
-    let z = power_in(word, 0);
+    let x = field_in(word, 2 * KW_BITS, KW_BITS);
+    let y = field_in(word, KW_BITS, KW_BITS);
+    let z = field_in(word, 0, KW_BITS);
     Three { x, y, z }
 }
 
@@ -138,18 +129,11 @@ fn active_words(s: &[u8], at: u64) -> Quick
     Quick { ok, active }
 }
 
-// Whether the message has these bits from bit `at` on.
-fn has_active(s: &[u8], at: u64) -> bool
-    ensures { λ r. ⌜ (r ≡ true → at + activeBits ≤ 8 * reach (now (s .entry))) ⌝ }
-{
-    at / 8 + ACTIVE_BYTES <= bits::reached(s)
-}
-
 // By whole words, where the message has them. The contract leaves free where it declines: a reader then goes field by field, with the same figures.
 pub fn quick_active(s: &[u8], at: u64) -> Quick
     ensures { λ r. ⌜ (r .ok ≡ true → Found (now (s .entry)) at (r .active)) ⌝ }
 {
-    if has_active(s, at) {
+    if has_bits(s, at, ACTIVE_BITS) {
         return active_words(s, at);
     }
     let active = no_active();

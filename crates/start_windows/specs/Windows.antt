@@ -1,10 +1,12 @@
 -- Rule 20: the starts of a device inside a window, in its part of the settings.
-use mathlib.Core.Path.{_≡_, refl, _∙_}
+use mathlib.Core.Path.{_≡_, refl, sym, _∙_}
 use mathlib.Core.Bool.{Bool, true, false, _&&_}
 use mathlib.Core.List.{List, []}
-use Prim.Native.Nat.{ℕ, _+_, _≤_, _<_}
+use Prim.Native.Nat.{ℕ, zero, suc, _+_, _-_, _≤_, _<_}
 use native.Mathlib.Omega.{arith}
-use native.Mathlib.Nat.{le-refl}
+use native.Mathlib.Decide.{decLe}
+use native.Mathlib.Numerals.{add-one}
+use native.Mathlib.Nat.{le-refl, add-zero, add-suc}
 use borrow.Author.Tests.{le-leb, lt-leb, lt-ltb, le-ltb}
 use lib.Dec.{leb, ltb}
 use lib.ListN.{getD, length}
@@ -16,8 +18,8 @@ use Rattle.model.specs.Forced as F
 use Rattle.model.specs.Rules as R
 use Rattle.row_places.specs.Figures.{deviceOf, onAt, onBefore, startedAt}
 use Rattle.numbers.specs.Parts.{part, part-long}
-use Rattle.numbers.specs.Ranges.{sum-more, sum-same}
-use Rattle.records.specs.Views.{systemIn, planIn, Ready}
+use Rattle.numbers.specs.Ranges.{sum-more, sum-skip, sum-same}
+use Rattle.records.specs.Views.{systemIn, planIn, mostIntervals, Ready}
 use Rattle.records.specs.Viewed as W
 use Rattle.row_places.specs.Figures.{noStart}
 use Rattle.row_places.specs.declared.Device.{Device}
@@ -84,6 +86,51 @@ module _ (w : StartWindow) (s n : ℕ) where
       go : (b : Bool) → 0 ≡ gate (b && false) n
       go true = refl
       go false = refl
+
+-- a device's part of the settings, and the times of its intervals, which rise
+pub record Timed (settings : List (List ℕ)) (starts : List ℕ) : Type 0 where
+  pub few : length settings ≤ mostIntervals
+  pub timed : length settings ≤ length starts
+  pub rising : (e t : ℕ) → e ≤ t → t < length settings → getD starts e 0 ≤ getD starts t 0
+
+-- what the loops over a window's intervals have: the starts below t that count, and interval t does not begin before the window
+pub record Reached (w : StartWindow) (on0 : ℕ) (settings : List (List ℕ)) (starts : List ℕ) (t sum : ℕ) : Type 0 where
+  pub within : t ≤ length settings
+  pub counted : Counted w on0 settings starts t sum
+  pub reached : t < length settings → w .from ≤ getD starts t 0
+
+module _ (w : StartWindow) (on0 : ℕ) (settings : List (List ℕ)) (starts : List ℕ) where
+  counted-skip : {t sum : ℕ} → Counted w on0 settings starts t sum → 0 ≡ countedStart w on0 settings starts t → Counted w on0 settings starts (t + 1) sum
+  counted-skip {t} h e = record { total = sum-skip (countedStart w on0 settings starts) t (h .total) (sym e); few = omega (arith, h .few) }
+
+  -- an interval that begins before the window
+  pub counted-ahead : {t sum : ℕ} → Counted w on0 settings starts t sum → getD starts t 0 < w .from → Counted w on0 settings starts (t + 1) sum
+  counted-ahead {t} h l = counted-skip h (too-early w (getD starts t 0) (startedAt on0 settings t) l)
+
+  module _ (r : Timed settings starts) where
+    -- one inside it
+    pub reached-next : {t sum x : ℕ} → t < length settings → Reached w on0 settings starts t sum → getD starts t 0 < w .until → x ≡ startedAt on0 settings t
+        → Reached w on0 settings starts (t + 1) (sum + x)
+    reached-next {t} l h u e = record {
+      within = omega arith;
+      counted = counted-next w on0 settings starts (h .counted) (e ∙ inside w (getD starts t 0) (startedAt on0 settings t) (h .reached l) u) (started-few on0 settings t e);
+      reached = λ k. omega (arith, h .reached l, r .rising t (t + 1) (omega arith) k);
+    }
+
+    -- the k intervals from one on that begins behind it
+    counted-behind : (t k : ℕ) {sum : ℕ} → t + k ≤ length settings → w .until ≤ getD starts t 0 → Counted w on0 settings starts t sum → Counted w on0 settings starts (t + k) sum
+    counted-behind t zero l u h = rw (add-zero t) h
+    counted-behind t (suc k) l u h = rw (add-suc t k, ← add-one (t + k)) (counted-skip (counted-behind t k (omega arith) u h)
+        (too-late w (getD starts (t + k) 0) (startedAt on0 settings (t + k)) (omega (arith, r .rising t (t + k) (omega arith) (omega arith)))))
+
+    pub counted-end : {t sum : ℕ} → t ≤ length settings → (t < length settings → w .until ≤ getD starts t 0) → Counted w on0 settings starts t sum → sum ≡ startsAt w on0 settings starts
+    unfolding startsAt
+    counted-end {t} {sum} l u h = go (decLe (length settings) t)
+      where
+        go : Dec (length settings ≤ t) → sum ≡ sumℕ (countedStart w on0 settings starts) (upTo (length settings))
+        go (yes x) = let e : t ≡ length settings = omega arith in rw e at (h .total)
+        go (no x) = let e : t + (length settings - t) ≡ length settings = omega arith in
+            rw e at (counted-behind t (length settings - t) (omega arith) (u (omega arith)) h .total)
 
 module _ {front : Front} {halves : List ℕ} {zones minima devices cells settings : List (List ℕ)} {starts powers : List ℕ}
     (ready : Ready front halves zones minima devices cells settings starts powers) (i : ℕ) (l : i < length devices) where

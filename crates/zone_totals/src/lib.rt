@@ -2,7 +2,6 @@
 ghost use mathlib.Core.Path.{_≡_};
 ghost use Prim.Native.Nat.{_+_, _-_, _<_, _≤_};
 ghost use lib.ListN.{length};
-ghost use Rattle.numbers.specs.Sum.{gate};
 ghost use Rattle.ranges.specs.Ranges.{Eight};
 ghost use Rattle.row_places.specs.Figures.{inZone};
 ghost use Rattle.records.specs.Views.{mostDevices, mostZones, mostPower, eightIn};
@@ -27,35 +26,43 @@ pub struct ZoneSums {
     pub rrd: Kw,
 }
 
-// A power where it counts, else 0.
-fn counted(counts: bool, p: Kw) -> Kw
-    ensures { λ r. ⌜ (r .0 ≡ gate counts (p .0)) × (r .0 ≤ p .0) ⌝ }
-{
-    if counts { p } else { Kw(0) }
-}
-
 // One member more.
 fn with_member(s: ZoneSums, side: u32, p: Kw, r: Reserves) -> ZoneSums
     requires { ⌜ SumsOf mostDevices s × (p .0 ≤ mostPower) × Eight (λ x. x ≤ 100000) (eightIn r) ⌝ }
     ensures { λ v. ⌜ v ≡ withMember s side (p .0) r ⌝ }
 {
-    let load = s.load.plus(counted(side == 1, p));
-    let unit = s.unit.most(counted(side != 1, p));
     let rgu = s.rgu.plus(r.rgu);
     let rgd = s.rgd.plus(r.rgd);
     let scr = s.scr.plus(r.scr);
     let nsc = s.nsc.plus(r.nsc);
     let rru = s.rru.plus(r.rruon.plus(r.rruoff));
     let rrd = s.rrd.plus(r.rrdon.plus(r.rrdoff));
-    ZoneSums {
-        load,
-        unit,
-        rgu,
-        rgd,
-        scr,
-        nsc,
-        rru,
-        rrd,
+    if side == 1 {
+        let load = s.load.plus(p);
+        let unit = s.unit;
+        ZoneSums {
+            load,
+            unit,
+            rgu,
+            rgd,
+            scr,
+            nsc,
+            rru,
+            rrd,
+        }
+    } else {
+        let load = s.load;
+        let unit = s.unit.most(p);
+        ZoneSums {
+            load,
+            unit,
+            rgu,
+            rgd,
+            scr,
+            nsc,
+            rru,
+            rrd,
+        }
     }
 }
 

@@ -11,7 +11,7 @@ use Rattle.money.proofs.cell_money.Statement.{statement}
 use Rattle.money.proofs.cell_money.Tie as tie
 
 reserves-money-requires : tie.Need-reserves-money-requires
-reserves-money-requires c κs = let w : _ = c .before .before .pre .2 in (c .before .before .pre .1, R.minutes-small w, R.amounts-small w, R.reserve-prices-small w)
+reserves-money-requires c κs = let w : _ = c .before .before .pre .2 in (c .before .before .pre .1, R.minutes-small w, R.amounts-small w, R.reserve-prices-small w, R.of-state w)
 
 side-at-requires : tie.Need-side-at-requires
 side-at-requires c κs = search needs

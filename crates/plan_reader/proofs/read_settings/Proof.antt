@@ -15,8 +15,8 @@ abbrev μ-loop : tie.MeasureT-loop
 loop-holds : tie.Need-loop-holds Inv-loop μ-loop
 loop-holds c = filling-none (c .before .pre .0 .full)
 
-read-setting-requires : tie.Need-read-setting-requires Inv-loop μ-loop
-read-setting-requires c κs = search needs
+store-setting-requires : tie.Need-store-setting-requires Inv-loop μ-loop
+store-setting-requires c κs = let b = c .before .before in filling-fits (b .loop .inv) (search needs) (b .before .before .pre .1)
 
 enum-known-went : tie.Need-enum-known-went Inv-loop μ-loop
 enum-known-went c = search needs
@@ -29,18 +29,13 @@ same-length c = search needs
 
 returns : tie.Need-returns Inv-loop μ-loop
 returns c =
-    let r = c .before .before .read-setting in
-    let b = c .before .before .before .before in
-    filling-off (b .loop .inv) (search needs) (b .before .before .pre .1) (r .result .setting) (r .ensures) (c .enum-told .given .1)
-
-put-setting-requires : tie.Need-put-setting-requires Inv-loop μ-loop
-put-setting-requires c κs =
-    let b = c .before .before .before .before .before .before .before in
-    filling-fits (b .loop .inv) (search needs) (b .before .before .pre .1)
+    let r = c .before .before .before .store-setting .ensures in
+    let b = c .before .before .before .before .before .before in
+    filling-off (b .loop .inv) (search needs) (b .before .before .pre .1) (r .figures) (r .reads) (c .enum-told .given .1) (r .stored)
 
 add-k : tie.Need-add-k Inv-loop μ-loop
 add-k c =
-    let b = c .before .before .before .before .before .before .before .before .before in
+    let b = c .before .before .before .before .before .before .before in
     omega (arith, next-small (b .before .before .pre .0) (b .loop .inv) (search needs) (b .before .before .pre .1))
 
 add-i : tie.Need-add-i Inv-loop μ-loop
@@ -51,10 +46,9 @@ loop-less c = search needs
 
 loop-again : tie.Need-loop-again Inv-loop μ-loop
 loop-again c =
-    let m = c .before .before .before .before .before in
-    let r = m .before .before .read-setting in
-    let b = m .before .before .before .before in
-    filling-more (b .loop .inv) (search needs) (b .before .before .pre .1) (r .result .setting) (r .ensures) (m .went .given .1) (c .before .put-setting .ensures)
+    let r = c .before .before .before .before .store-setting .ensures in
+    let b = c .before .before .before .before .before .before .before in
+    filling-more (b .loop .inv) (search needs) (b .before .before .pre .1) (r .figures) (r .reads) (c .before .went .given .1) (r .stored)
 
 same-length-2 : tie.Need-same-length-2 Inv-loop μ-loop
 same-length-2 c = search needs
@@ -69,12 +63,11 @@ read-settings-spec =
     Inv-loop
     μ-loop
     loop-holds
-    read-setting-requires
+    store-setting-requires
     enum-known-went
     enum-told
     same-length
     returns
-    put-setting-requires
     add-k
     add-i
     loop-less

@@ -1,5 +1,7 @@
 -- Where nothing is reactive each rule holds; else the figures are those of interval t.
-use Rattle.reactive_rules.specs.Rules.{idle-here, word-here, sized-here}
+use mathlib.Core.Path.{ap, _∙_}
+use Rattle.cell_bounds.specs.Word.{failingWord}
+use Rattle.reactive_rules.specs.Rules.{idle-here, tests-here, sized-here}
 use borrow.Author.Needs.{needs}
 use Rattle.reactive_rules.proofs.failing_reactive.Statement.{statement}
 use Rattle.reactive_rules.proofs.failing_reactive.Tie as tie
@@ -33,8 +35,8 @@ failing-figures-requires c κs = let s : _ = c .before .before .before .before .
 
 returns-2 : tie.Need-returns-2
 returns-2 c = let a : _ = c .before .before .before .before .before .before .before .before .before .before .before .args in
-    word-here (a .d) (a .cells .now) (a .settings .now) (a .starts .now) (a .powers .now) (a .t) (c .before .before .reactive-cell-at .ensures) (c .before .reactive-at .ensures)
-    (c .before .before .before .bracket-given .ensures .0) (c .failing-figures .ensures)
+    c .failing-figures .ensures ∙ ap failingWord (tests-here (a .d) (a .cells .now) (a .settings .now) (a .starts .now) (a .powers .now) (a .t)
+    (c .before .before .reactive-cell-at .ensures) (c .before .reactive-at .ensures) (c .before .before .before .bracket-given .ensures .0))
 
 pub failing-reactive-spec : {M : Type 1} → statement M
 failing-reactive-spec = tie.close (tie.spec idle-at-requires returns mul-t14 shared-slice-read-t16 bracket-given-requires reactive-cell-at-requires reactive-at-requires

@@ -6,8 +6,8 @@ use borrow.Author.Needs.{needs}
 use Rattle.setting_reader.proofs.read_setting.Statement.{statement}
 use Rattle.setting_reader.proofs.read_setting.Tie as tie
 
-read-active-requires : tie.Need-read-active-requires
-read-active-requires c κs = search needs
+exact-active-requires : tie.Need-exact-active-requires
+exact-active-requires c κs = search needs
 
 enum-known-went : tie.Need-enum-known-went
 enum-known-went c = search needs
@@ -22,7 +22,7 @@ returns : tie.Need-returns
 returns c =
     let b = c .before .before .before .before in
     let a = b .before .before .args in
-    let r = b .read-active in
+    let r = b .exact-active in
     c .setting-read .ensures ∙ setting-off (a .edition) (now (a .s)) (a .p) (r .result .active) (r .ensures) _ (c .before .enum-told .given .1)
 
 read-reactive-requires : tie.Need-read-reactive-requires
@@ -36,7 +36,7 @@ returns-2 c =
     let m = c .before .before in
     let b = m .before .before .before .before .before in
     let a = b .before .before .args in
-    let r = b .read-active in
+    let r = b .exact-active in
     let more = m .read-reactive in
     c .setting-read2 .ensures
     ∙ setting-on (a .edition) (now (a .s)) (a .p) (r .result .active) (r .ensures) (more .result .went) (more .result .reactive) (m .before .before .went .given .1) (more .ensures)
@@ -45,7 +45,7 @@ pub read-setting-spec : {M : Type 1} → statement M
 read-setting-spec =
     tie.close
     (tie.spec
-    read-active-requires
+    exact-active-requires
     enum-known-went
     enum-told
     setting-read-requires
