@@ -58,6 +58,11 @@ impl Arguments {
         }
     }
 
+    /// Takes `name` with the value behind it as often as it is there.
+    pub fn values(&mut self, name: &str) -> Vec<String> {
+        std::iter::from_fn(|| self.value(name)).collect()
+    }
+
     /// Takes `name` and the number behind it.
     pub fn number(&mut self, name: &str) -> Option<u64> {
         let value = self.value(name)?;

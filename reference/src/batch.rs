@@ -5,10 +5,13 @@ use std::fmt;
 
 use crate::breaches::{breaches_of, bytes_of};
 use crate::case::{read_case_in, Case};
+use crate::completion::{completion_bytes, market_bytes, Audience};
 use crate::edition::Edition;
 use crate::fault::{Fault, Number};
 use crate::form::Form;
-use crate::judge::{find, Finding};
+use crate::judge::our_completion;
+use crate::market::read_for;
+use crate::mend::{mend_of, Mend};
 use crate::plan::read_plan;
 use crate::rewrite::{newest_case, newest_plan};
 use crate::rules::Place;
@@ -81,6 +84,8 @@ pub enum Line {
         index: usize,
         surplus: i128,
         message: Vec<u8>,
+        /// The market's copy; no part of the printed line.
+        copy: Vec<u8>,
         rewritten: Vec<u8>,
     },
     Broken {
@@ -88,11 +93,17 @@ pub enum Line {
         place: Place,
         /// The list of every broken rule, in bytes; no part of the printed line.
         breaches: Vec<u8>,
+        /// The power that mends the plan, if any does, and the surplus of the mended plan; no part of
+        /// the printed line.
+        mend: Option<(Mend, i128)>,
         rewritten: Vec<u8>,
     },
     Refused {
         index: usize,
         fault: Fault,
+        /// Behind a case that passes reading, what the desk reader and the market reader make of the
+        /// message: its numbers or their refusal. No part of the printed line.
+        readings: Vec<Result<Vec<u64>, Fault>>,
     },
     Framing {
         number: Number,
@@ -127,7 +138,7 @@ impl fmt::Display for Line {
                 "{index} broken {} {} {} {}",
                 place.rule, place.interval, place.device, place.window
             ),
-            Line::Refused { index, fault } => {
+            Line::Refused { index, fault, .. } => {
                 write!(
                     out,
                     "{index} refused {} {}",
@@ -168,7 +179,12 @@ pub fn run(form: Form, batch: &[u8]) -> Vec<Line> {
                         }
                         // "A refused case ends the run after its line."
                         Err(fault) => {
-                            lines.push(Line::Refused { index, fault });
+                            let readings = Vec::new();
+                            lines.push(Line::Refused {
+                                index,
+                                fault,
+                                readings,
+                            });
                             return lines;
                         }
                     },
@@ -193,22 +209,37 @@ pub fn case_line(index: usize, edition: Edition, case: &Case) -> Line {
 
 fn judge_message(edition: Edition, case: &Case, index: usize, message: &[u8]) -> Line {
     match read_plan(edition, case, message) {
-        Err(fault) => Line::Refused { index, fault },
-        Ok(plan) => match find(edition, case, &plan) {
-            Finding::Broken(place) => Line::Broken {
+        Err(fault) => Line::Refused {
+            index,
+            fault,
+            readings: readings(edition, case, message),
+        },
+        Ok(plan) => match our_completion(case, &plan) {
+            Err(place) => Line::Broken {
                 index,
                 place,
                 breaches: bytes_of(&breaches_of(case, &plan)),
+                mend: mend_of(case, &plan),
                 rewritten: newest_plan(&plan),
             },
-            Finding::Accepted { surplus, message } => Line::Accepted {
+            Ok(ours) => Line::Accepted {
                 index,
-                surplus,
-                message,
+                surplus: ours.surplus,
+                message: completion_bytes(edition, case, &ours.completion, ours.surplus),
+                copy: market_bytes(edition, case, &ours.completion),
                 rewritten: newest_plan(&plan),
             },
         },
     }
+}
+
+/// The answers of both readers of A.7 to a message.
+fn readings(edition: Edition, case: &Case, message: &[u8]) -> Vec<Result<Vec<u64>, Fault>> {
+    let reading = |audience| {
+        let figures = read_for(audience, edition, case, message)?;
+        Ok(figures.numbers(audience, edition))
+    };
+    Audience::ALL.map(reading).into()
 }
 
 /// Joins messages to a batch, each behind its length.

@@ -1,11 +1,15 @@
 //! Counts of verdicts: what a set of batches reaches.
 
+mod mends;
+
 use std::fmt;
 
 use crate::batch::Line;
 use crate::breaches::BREACH_BYTES;
 use crate::edition::Edition;
 use crate::form::Largest;
+
+pub use mends::MendCounts;
 
 /// One more than the greatest number of a rule.
 const RULES: usize = 28;
@@ -19,6 +23,16 @@ pub struct CaseCounts {
     pub accepted: usize,
     pub broken: usize,
     pub refused: usize,
+}
+
+/// Copies and readings (A.7) of all that a run sends, batches behind a batch included.
+#[derive(Clone, Copy, PartialEq, Eq, Debug, Default)]
+pub struct CopyCounts {
+    pub copies: usize,
+    /// Messages that the desk reader and the market reader gave back.
+    pub read: [usize; 2],
+    /// By number, of both readers.
+    pub refused: [usize; 7],
 }
 
 /// Counts of lines.
@@ -44,6 +58,10 @@ pub struct Census {
     pub greatest_surplus: Option<i128>,
     /// Days with more devices or intervals than the batch form takes.
     pub large: CaseCounts,
+    /// What becomes of the broken plans.
+    pub mends: MendCounts,
+    /// Of a run with copies.
+    pub copies: CopyCounts,
     /// By the number of the edition.
     by_edition: [CaseCounts; EDITIONS],
 }
@@ -57,6 +75,26 @@ impl CaseCounts {
                 Line::Broken { .. } => self.broken += 1,
                 Line::Refused { .. } => self.refused += 1,
                 Line::Case { .. } | Line::Framing { .. } => {}
+            }
+        }
+    }
+}
+
+impl CopyCounts {
+    /// Counts the copies and readings of one batch.
+    pub fn add(&mut self, lines: &[Line]) {
+        for line in lines {
+            match line {
+                Line::Accepted { .. } => self.copies += 1,
+                Line::Refused { readings, .. } => {
+                    for (read, reading) in self.read.iter_mut().zip(readings) {
+                        match reading {
+                            Ok(_) => *read += 1,
+                            Err(fault) => self.refused[usize::from(fault.number.figure())] += 1,
+                        }
+                    }
+                }
+                Line::Case { .. } | Line::Broken { .. } | Line::Framing { .. } => {}
             }
         }
     }
@@ -115,8 +153,11 @@ impl Census {
             } => {
                 self.broken[usize::from(place.rule)] += 1;
                 self.add_list(breaches);
+                self.mends.add(line);
             }
-            Line::Refused { index: 0, fault } => {
+            Line::Refused {
+                index: 0, fault, ..
+            } => {
                 self.refused_cases[usize::from(fault.number.figure())] += 1;
             }
             Line::Refused { fault, .. } => {
@@ -152,6 +193,19 @@ impl fmt::Display for CaseCounts {
     }
 }
 
+impl fmt::Display for CopyCounts {
+    fn fmt(&self, out: &mut fmt::Formatter) -> fmt::Result {
+        let [desk, market] = self.read;
+        write!(
+            out,
+            "copies {}; read by the desk reader {desk}, by the market reader {market}; refused by \
+             number: {}",
+            self.copies,
+            numbered(&self.refused[1..])
+        )
+    }
+}
+
 impl fmt::Display for Census {
     fn fmt(&self, out: &mut fmt::Formatter) -> fmt::Result {
         writeln!(
@@ -166,6 +220,9 @@ impl fmt::Display for Census {
             writeln!(out, "edition {}: {}", edition.figure(), self.of(edition))?;
         }
         writeln!(out, "beyond the batch form: {}", self.large)?;
+        if self.copies != CopyCounts::default() {
+            writeln!(out, "{}", self.copies)?;
+        }
         writeln!(out, "accepted {}", self.accepted)?;
         writeln!(out, "broken by rule: {}", numbered(&self.broken[1..]))?;
         writeln!(
@@ -184,7 +241,8 @@ impl fmt::Display for Census {
             "plans refused by number: {}",
             numbered(&self.refused_plans[1..])
         )?;
-        write!(out, "framing by number: {}", numbered(&self.framing[1..]))
+        writeln!(out, "framing by number: {}", numbered(&self.framing[1..]))?;
+        write!(out, "{}", self.mends)
     }
 }
 

@@ -6,15 +6,22 @@ use std::thread;
 
 use crate::batch::{case_line, join, messages, run, Line};
 use crate::breaches::{breaches_in, bytes_of};
-use crate::case::{read_case_in, Case};
+use crate::case::{read_case, read_case_in, Case};
 use crate::census::Census;
+use crate::completion::{market_bytes, Audience};
 use crate::edition::Edition;
 use crate::encode::{encode_case, encode_plan};
+use crate::fault::Fault;
 use crate::form::Form;
 use crate::generate::batches::{random_batch, random_size};
+use crate::generate::mends::mend_batch;
 use crate::generate::order::random_order;
+use crate::generate::prices::exchange_prices;
+use crate::generate::readings::damaged_reading;
 use crate::generate::shape::Size;
-use crate::packed::{append_batch, append_output, pack};
+use crate::market::read_for;
+use crate::mend::Mend;
+use crate::packed::{append_batch, append_output, pack, Extent};
 use crate::plan::{read_plan, Plan};
 use crate::renumber::Order;
 use crate::rewrite::newest_plan;
@@ -25,12 +32,28 @@ use crate::rng::Rng;
 pub struct Settings {
     /// The form that both sides judge in.
     pub form: Form,
+    /// The form whose days are drawn.
+    pub drawn: Form,
     pub seed: u64,
     /// The number of the first batch of the seed.
     pub first_batch: u64,
     pub until: Until,
     /// About as many plans per batch; fewer where messages are large.
     pub plans_per_batch: usize,
+    /// Whether the batches are those for mending (A.13): mostly small days, most plans broken.
+    pub mends: bool,
+}
+
+impl Settings {
+    /// Batch `number` of the seed.
+    fn batch(&self, number: u64) -> Vec<u8> {
+        let &Settings { drawn, seed, .. } = self;
+        if self.mends {
+            let mut rng = Rng::numbered(seed, number);
+            return mend_batch(&mut rng, drawn, self.plans_per_batch);
+        }
+        numbered_batch(drawn, seed, number, self.plans_per_batch)
+    }
 }
 
 /// Where a run ends, unless at a difference.
@@ -108,9 +131,10 @@ fn is_done(settings: &Settings, next: u64, census: &Census) -> bool {
 }
 
 /// Batches that go to the product together: each of the seed and, behind it, its messages in the
-/// newest edition, then its messages with their devices in another order.
-#[derive(Default)]
+/// newest edition, then its messages with their devices in another order; with copies, also its
+/// plans for the case at other prices, and completions and copies for their readers.
 struct Chunk {
+    extent: Extent,
     /// Of each batch, its number among those of the seed.
     numbers: Vec<u64>,
     batches: Vec<Vec<u8>>,
@@ -118,10 +142,10 @@ struct Chunk {
 }
 
 impl Chunk {
-    /// Adds a batch of the seed with those behind it; how many bytes they have.
-    fn add_numbered(&mut self, settings: &Settings, number: u64, census: &mut Census) -> usize {
+    /// Adds a batch of the seed with those behind it.
+    fn add_numbered(&mut self, settings: &Settings, number: u64, census: &mut Census) {
         let &Settings { form, seed, .. } = settings;
-        let batch = numbered_batch(form, seed, number, settings.plans_per_batch);
+        let batch = settings.batch(number);
         let lines = run(form, &batch);
         census.add(&lines);
         let rewritten = rewritten_batch(&lines);
@@ -138,17 +162,55 @@ impl Chunk {
             carried,
             "batch {number} of seed {seed} is judged otherwise with its devices in another order"
         );
-        let bytes = batch.len() + rewritten.len() + renumbered.len();
-        self.add(number, batch, lines);
-        self.add(number, rewritten, judged_again);
-        self.add(number, renumbered, carried);
-        bytes
+        let copies = self.copies(settings, number, &batch, &lines);
+        let mut sent = vec![
+            (batch, lines),
+            (rewritten, judged_again),
+            (renumbered, carried),
+        ];
+        sent.extend(copies);
+        for (batch, lines) in sent {
+            if self.extent == Extent::WithCopies {
+                census.copies.add(&lines);
+            }
+            self.add(number, batch, lines);
+        }
+    }
+
+    /// The batches that one gives for its copies, with their lines, where copies are told.
+    fn copies(
+        &self,
+        settings: &Settings,
+        number: u64,
+        batch: &[u8],
+        lines: &[Line],
+    ) -> Vec<(Vec<u8>, Vec<Line>)> {
+        let &Settings { form, seed, .. } = settings;
+        if self.extent == Extent::Corpus {
+            return Vec::new();
+        }
+        let mut rng = Rng::numbered(seed ^ COPIES, number);
+        let batches = copy_batches(&mut rng, batch, lines);
+        let told = batches.iter().map(|copies| run(form, copies));
+        let told: Vec<Vec<Line>> = told.collect();
+        if let Some(at_other_prices) = told.first() {
+            assert_eq!(
+                market_answers(at_other_prices),
+                market_answers(lines),
+                "copies of batch {number} of seed {seed} tell a price"
+            );
+        }
+        batches.into_iter().zip(told).collect()
     }
 
     fn add(&mut self, number: u64, batch: Vec<u8>, lines: Vec<Line>) {
         self.numbers.push(number);
         self.batches.push(batch);
         self.lines.push(lines);
+    }
+
+    fn bytes(&self) -> usize {
+        self.batches.iter().map(Vec::len).sum()
     }
 }
 
@@ -158,11 +220,77 @@ fn rewritten_batch(lines: &[Line]) -> Vec<u8> {
     join(&messages)
 }
 
-/// "the written pair's verdict is the old pair's, place included", and every breach with it.
-fn verdicts(lines: &[Line]) -> Vec<Option<(i128, &[u8])>> {
+/// The batch with every price and cost of its case exchanged.
+fn exchanged_batch(rng: &mut Rng, edition: Edition, mut case: Case, batch: &[u8]) -> Vec<u8> {
+    let behind_case = 3 + messages(batch)[0].len();
+    exchange_prices(rng, edition, &mut case);
+    let mut exchanged = join(&[encode_case(edition, &case).bytes]);
+    exchanged.extend_from_slice(&batch[behind_case..]);
+    exchanged
+}
+
+/// "Two accepted case and plan pairs that differ in prices and costs only, at will, give the same
+/// market copy and, with buffers of one length, the same refusals for it."
+fn market_answers(lines: &[Line]) -> Vec<(Option<Fault>, &[u8])> {
+    lines.iter().filter_map(market_answer).collect()
+}
+
+fn market_answer(line: &Line) -> Option<(Option<Fault>, &[u8])> {
+    match line {
+        Line::Accepted { copy, .. } => Some((None, copy)),
+        Line::Broken { breaches, .. } => Some((None, breaches)),
+        Line::Refused { fault, .. } => Some((Some(*fault), &[])),
+        Line::Case { .. } | Line::Framing { .. } => None,
+    }
+}
+
+/// How many accepted plans of a batch give messages for the readers.
+const PLANS_READ: usize = 4;
+
+/// The case with completions and copies of some of its plans, each as it is and damaged.
+fn readings_batch(
+    rng: &mut Rng,
+    edition: Edition,
+    case: &Case,
+    batch: &[u8],
+    lines: &[Line],
+) -> Vec<u8> {
+    let accepted = lines.iter().filter_map(|line| match line {
+        Line::Accepted { message, copy, .. } => Some([message, copy]),
+        _ => None,
+    });
+    let mut joined = vec![messages(batch)[0].to_vec()];
+    for pair in accepted.take(PLANS_READ) {
+        for (audience, message) in Audience::ALL.into_iter().zip(pair) {
+            joined.push(message.clone());
+            joined.push(damaged_reading(rng, audience, edition, case, message));
+        }
+    }
+    join(&joined)
+}
+
+/// What a batch gives for its copies: its plans for the case at other prices, and messages for the
+/// readers; nothing where its case is refused.
+fn copy_batches(rng: &mut Rng, batch: &[u8], lines: &[Line]) -> Vec<Vec<u8>> {
+    let Some((edition, case)) = messages(batch)
+        .first()
+        .and_then(|message| read_case(message).ok())
+    else {
+        return Vec::new();
+    };
+    let readings = readings_batch(rng, edition, &case, batch, lines);
+    vec![exchanged_batch(rng, edition, case, batch), readings]
+}
+
+/// What is told of a pair in every edition: its surplus, or its breaches and its mend.
+type Told<'a> = (i128, &'a [u8], Option<(Mend, i128)>);
+
+/// "the written pair's verdict is the old pair's, place included", and every breach and the mend with
+/// it.
+fn verdicts(lines: &[Line]) -> Vec<Option<Told<'_>>> {
     let of_pair = |line| match line {
-        &Line::Accepted { surplus, .. } => Some(Some((surplus, &[][..]))),
-        Line::Broken { breaches, .. } => Some(Some((0, &breaches[..]))),
+        &Line::Accepted { surplus, .. } => Some(Some((surplus, &[][..], None))),
+        Line::Broken { breaches, mend, .. } => Some(Some((0, &breaches[..], *mend))),
         Line::Case { .. } => Some(None),
         Line::Refused { .. } | Line::Framing { .. } => None,
     };
@@ -207,18 +335,23 @@ impl Renumbered {
         match answer {
             Line::Accepted {
                 surplus, message, ..
-            } => Line::Accepted {
-                index,
-                surplus: *surplus,
-                message: self.order.message(self.edition, &self.case, message),
-                rewritten,
-            },
-            Line::Broken { breaches, .. } => {
+            } => {
+                let message = self.order.message(self.edition, &self.case, message);
+                Line::Accepted {
+                    index,
+                    surplus: *surplus,
+                    copy: copy_of(self.edition, &self.order.case(&self.case), &message),
+                    message,
+                    rewritten,
+                }
+            }
+            Line::Broken { breaches, mend, .. } => {
                 let breaches = self.order.breaches(&breaches_in(breaches));
                 Line::Broken {
                     index,
                     place: breaches[0],
                     breaches: bytes_of(&breaches),
+                    mend: mend.map(|(mend, surplus)| (mend.renumbered(&self.order), surplus)),
                     rewritten,
                 }
             }
@@ -244,18 +377,32 @@ fn renumbered(form: Form, rng: &mut Rng, batch: &[u8], lines: &[Line]) -> (Vec<u
     (join(&renumbered.batch), renumbered.lines)
 }
 
+/// The market's copy of a completion, by its bytes.
+fn copy_of(edition: Edition, case: &Case, message: &[u8]) -> Vec<u8> {
+    let read = read_for(Audience::Desk, edition, case, message);
+    let figures = read.expect("a completion carried along is one");
+    market_bytes(edition, case, &figures.completion)
+}
+
 fn next_chunk(settings: &Settings, next: &mut u64, census: &mut Census) -> Chunk {
-    let mut chunk = Chunk::default();
-    let mut bytes = 0;
+    let mut chunk = Chunk {
+        extent: Extent::of_run(settings.form),
+        numbers: Vec::new(),
+        batches: Vec::new(),
+        lines: Vec::new(),
+    };
     while !is_done(settings, *next, census)
         && chunk.batches.len() < CHUNK_BATCHES
-        && bytes < CHUNK_BYTES
+        && chunk.bytes() < CHUNK_BYTES
     {
-        bytes += chunk.add_numbered(settings, *next, census);
+        chunk.add_numbered(settings, *next, census);
         *next += 1;
     }
     chunk
 }
+
+/// What sets the random numbers for copies apart from those of the batches.
+const COPIES: u64 = 0xA7;
 
 impl Chunk {
     fn compare(&self, product: &mut Product) -> io::Result<Option<Difference>> {
@@ -265,7 +412,7 @@ impl Chunk {
         let mut at = 0;
         for (k, lines) in self.lines.iter().enumerate() {
             let mut expected = String::new();
-            append_output(&mut expected, k, lines);
+            append_output(self.extent, &mut expected, k, lines);
             let ends_here = k + 1 == self.lines.len();
             if let Some(line) = first_difference(&expected, &given, &mut at, ends_here) {
                 return self.difference(product, k, line, &packed).map(Some);
@@ -286,7 +433,7 @@ impl Chunk {
         append_batch(&mut alone, &self.batches[k]);
         let given = product(&alone)?;
         let mut expected = String::new();
-        append_output(&mut expected, 0, &self.lines[k]);
+        append_output(self.extent, &mut expected, 0, &self.lines[k]);
         let line_alone = first_difference(&expected, &Lines::of(&given), &mut 0, true);
         let shows_alone = line_alone.is_some();
         let line = line_alone.unwrap_or(in_chunk);
@@ -301,19 +448,19 @@ impl Chunk {
     }
 }
 
-struct LineDifference {
-    number: usize,
-    expected: Option<String>,
-    given: Option<String>,
+pub(crate) struct LineDifference {
+    pub(crate) number: usize,
+    pub(crate) expected: Option<String>,
+    pub(crate) given: Option<String>,
 }
 
 /// Lines of an output, each with its newline, so that a missing one shows.
-struct Lines<'a> {
+pub(crate) struct Lines<'a> {
     lines: Vec<&'a [u8]>,
 }
 
 impl<'a> Lines<'a> {
-    fn of(output: &'a [u8]) -> Lines<'a> {
+    pub(crate) fn of(output: &'a [u8]) -> Lines<'a> {
         Lines {
             lines: output.split_inclusive(|&byte| byte == b'\n').collect(),
         }
@@ -322,7 +469,7 @@ impl<'a> Lines<'a> {
 
 /// Compares expected lines with those given from line `at` on, and moves `at` behind them; where
 /// the output ends, so must what is given.
-fn first_difference(
+pub(crate) fn first_difference(
     expected: &str,
     given: &Lines,
     at: &mut usize,

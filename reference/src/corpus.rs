@@ -33,7 +33,10 @@ use crate::rng::Rng;
 use crate::tables;
 use crate::worked_day::{example_batch, floor_days, lettered_days, link_days, reactive_days, Day};
 
+mod copies;
 mod host;
+
+use copies::copies_of;
 
 pub const DEFAULT_SEED: u64 = 20_260;
 
@@ -61,11 +64,32 @@ pub fn corpus_of(form: Form, seed: u64) -> Corpus {
     }
 }
 
+/// The files of copies beside the corpus of the host form: of its own batches, and of the batch
+/// program's.
+const COPIES: [(&str, Form); 2] = [("copies", Form::HOST), ("batch-copies", Form::BATCH)];
+
+/// Every file of the corpus of a form and a seed.
+fn files_of(form: Form, seed: u64) -> Vec<(&'static str, Vec<u8>)> {
+    let corpus = corpus_of(form, seed);
+    let mut files = vec![
+        ("stdin", corpus.stdin),
+        ("stdout", corpus.stdout.into_bytes()),
+        ("README.md", corpus.readme.into_bytes()),
+    ];
+    if form == Form::HOST {
+        files.extend(COPIES.map(|(name, form)| {
+            let parts = Set::of(form).parts_of(seed);
+            let batches: Vec<&Vec<u8>> = parts.iter().flat_map(|part| &part.batches).collect();
+            (name, copies_of(&batches).into_bytes())
+        }));
+    }
+    files
+}
+
 /// Writes the corpus of a form and a seed to a directory.
 pub fn write(directory: &Path, form: Form, seed: u64) -> Result<(), String> {
-    let corpus = corpus_of(form, seed);
     fs::create_dir_all(directory).map_err(|error| format!("{}: {error}", directory.display()))?;
-    for (name, bytes) in corpus.files() {
+    for (name, bytes) in files_of(form, seed) {
         let path = directory.join(name);
         fs::write(&path, bytes).map_err(|error| format!("{}: {error}", path.display()))?;
     }
@@ -84,22 +108,12 @@ pub fn check(directory: &Path, form: Form, seed: u64) -> Result<Census, String> 
     if output(form, &batches).as_bytes() != read("stdout")? {
         return Err("the reference does not give the stored output".to_string());
     }
-    for (name, bytes) in corpus_of(form, seed).files() {
+    for (name, bytes) in files_of(form, seed) {
         if read(name)? != bytes {
             return Err(format!("seed {seed} does not make {name} again"));
         }
     }
     Ok(census_of(form, &batches))
-}
-
-impl Corpus {
-    fn files(&self) -> [(&'static str, &[u8]); 3] {
-        [
-            ("stdin", &self.stdin),
-            ("stdout", self.stdout.as_bytes()),
-            ("README.md", self.readme.as_bytes()),
-        ]
-    }
 }
 
 /// Batches made for one purpose.
@@ -115,6 +129,8 @@ struct Set {
     form: Form,
     /// What it is, for its readme.
     head: &'static str,
+    /// Its files beside those that every corpus has.
+    further_files: &'static str,
     /// Behind its table of numbers.
     numbers_note: &'static str,
     /// What asks a program for it.
@@ -126,6 +142,7 @@ struct Set {
 const BATCH_SET: Set = Set {
     form: Form::BATCH,
     head: HEAD,
+    further_files: "",
     numbers_note: NUMBERS_NOTE,
     option: "",
     parts: &PARTS,
@@ -813,7 +830,7 @@ fn readme(set: &Set, seed: u64, parts: &[Part], stdin: &[u8], stdout: &str) -> S
     let census = census_of(set.form, &batches);
     [
         set.head.to_string(),
-        FILES.to_string(),
+        FILES.to_string() + set.further_files,
         command_paragraph(set, seed),
         table("| Part | Batches | Bytes |", parts.iter().map(part_row)),
         format!(

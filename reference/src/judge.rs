@@ -7,7 +7,7 @@ use crate::edition::Edition;
 use crate::energy::EnergyRule;
 use crate::fault::Fault;
 use crate::forced::forced;
-use crate::ours::complete_by;
+use crate::ours::{complete_by, Ours};
 use crate::plan::{read_plan, Plan};
 use crate::rules::{first_broken, Place};
 
@@ -72,16 +72,25 @@ pub fn find(edition: Edition, case: &Case, plan: &Plan) -> Finding {
 
 /// The same with energy by either rule.
 pub fn find_by(energy_rule: EnergyRule, edition: Edition, case: &Case, plan: &Plan) -> Finding {
+    match our_completion_by(energy_rule, case, plan) {
+        Err(place) => Finding::Broken(place),
+        Ok(ours) => Finding::Accepted {
+            surplus: ours.surplus,
+            message: completion_bytes(edition, case, &ours.completion, ours.surplus),
+        },
+    }
+}
+
+/// Our completion of a plan with its surplus, or the first broken rule, with energy by the minute.
+pub fn our_completion(case: &Case, plan: &Plan) -> Result<Ours, Place> {
+    our_completion_by(EnergyRule::ByMinute, case, plan)
+}
+
+fn our_completion_by(energy_rule: EnergyRule, case: &Case, plan: &Plan) -> Result<Ours, Place> {
     let spans = spans(&case.durations);
     let forced = forced(case, &spans, plan);
     match first_broken(case, &spans, plan, &forced) {
-        Some(place) => Finding::Broken(place),
-        None => {
-            let ours = complete_by(energy_rule, case, &spans, plan, &forced);
-            Finding::Accepted {
-                surplus: ours.surplus,
-                message: completion_bytes(edition, case, &ours.completion, ours.surplus),
-            }
-        }
+        Some(place) => Err(place),
+        None => Ok(complete_by(energy_rule, case, &spans, plan, &forced)),
     }
 }

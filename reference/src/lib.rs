@@ -2,7 +2,8 @@
 //! (three startup states), A.3 (energy by the minute), A.5 (every broken rule), A.1 (reactive
 //! power: edition 2), A.6 (take-or-pay blocks: edition 3), A.8 (sixty-four sets, ninety-six
 //! intervals: edition 4), A.12 (two busbars and a DC link: edition 5), A.9 (writing in the newest
-//! edition) and A.11 (renumbering sets) of paper 02.
+//! edition), A.7 (the market's copy of a completion), A.10 (cheapest dispatch of one interval), A.11
+//! (renumbering sets) and A.13 (the smallest power change that mends a plan) of paper 02.
 //!
 //! Written from the papers alone, it shares no code and no tables with the product that it is held
 //! against. Every figure is an `i128` and arithmetic is checked in every profile, so that nothing
@@ -21,7 +22,10 @@
 //! - [`judge`], [`batch`]: the judgement, the splitter, the batch program's lines.
 //! - [`breaches`]: every broken rule of a plan, as A.5 lists them.
 //! - [`rewrite`]: cases and plans in the newest edition, as A.9 writes them.
+//! - [`market`]: the market's copy of a completion and the readers of both, as A.7 has them.
 //! - [`renumber`]: devices in another order, and what goes with them, by A.11.
+//! - [`mend`]: the smallest power change that mends a plan, by A.13.
+//! - [`dispatch`]: the cheapest dispatch of one interval, by A.10.
 //! - [`meets`]: what it is for any completion to meet every rule, and its surplus, stated again
 //!   without any of the modules above but the case, the plan and the completion as data.
 //!
@@ -31,10 +35,12 @@
 //! - [`worked_day`]: the paper's worked day and example batch, the worked days of editions 2, 3
 //!   and 5.
 //! - [`busiest`], [`ordinary`]: the days on which instructions are counted.
+//! - [`day_text`]: cases and plans as text, as the desk's page has them.
 //! - [`rng`], [`generate`]: random cases, plans and batches from a seed.
 //! - [`rivals`]: other completions of a plan.
 //! - [`crc`], [`packed`], [`census`], [`edges`], [`corpus`]: the corpus and what it reaches.
 //! - [`compare`]: the long run against another program.
+//! - [`mask`]: which conditional jumps of the product's machine code go both ways.
 //! - [`tables`]: tiny days with their verdicts.
 //! - [`arguments`]: command lines of the programs.
 
@@ -50,6 +56,8 @@ pub mod compare;
 pub mod completion;
 pub mod corpus;
 pub mod crc;
+pub mod day_text;
+pub mod dispatch;
 pub mod edges;
 pub mod edition;
 pub mod encode;
@@ -59,7 +67,10 @@ pub mod forced;
 pub mod form;
 pub mod generate;
 pub mod judge;
+pub mod market;
+pub mod mask;
 pub mod meets;
+pub mod mend;
 pub mod ordinary;
 pub mod ours;
 pub mod packed;

@@ -3,16 +3,19 @@
 use reference::batch::messages;
 use reference::case::read_case;
 use reference::compare::{compare, output_of_program, Difference, Settings, Until};
+use reference::edition::Edition;
 use reference::form::Form;
-use reference::packed::{output, unpack};
+use reference::packed::{output, output_to, unpack, Extent};
 
 fn settings(until: Until) -> Settings {
     Settings {
         form: Form::BATCH,
+        drawn: Form::BATCH,
         seed: 3,
         first_batch: 0,
         until,
         plans_per_batch: 10,
+        mends: false,
     }
 }
 
@@ -50,19 +53,27 @@ fn a_program_of_its_own_agrees() {
     assert_eq!((census.batches, difference), (300, None));
 }
 
+/// What the long run asks of a product in the host form.
+fn host_output(packed: &[u8]) -> String {
+    let batches = unpack(packed).expect("batches are packed");
+    output_to(Extent::of_run(Form::HOST), Form::HOST, &batches)
+}
+
+fn host_settings(batches: u64) -> Settings {
+    Settings {
+        form: Form::HOST,
+        drawn: Form::HOST,
+        plans_per_batch: 2,
+        ..settings(Until::Batches(batches))
+    }
+}
+
 /// In the host form the batches are others, and most of their days are beyond the batch form.
 #[test]
 fn a_run_in_the_host_form_has_large_days() {
-    let mut product = |packed: &[u8]| {
-        let batches = unpack(packed).expect("batches are packed");
-        Ok(output(Form::HOST, &batches).into_bytes())
-    };
-    let settings = Settings {
-        form: Form::HOST,
-        plans_per_batch: 2,
-        ..settings(Until::Batches(120))
-    };
-    let (census, difference) = compare(&settings, &mut product, |_| {}).expect("nothing fails");
+    let mut product = |packed: &[u8]| Ok(host_output(packed).into_bytes());
+    let (census, difference) =
+        compare(&host_settings(120), &mut product, |_| {}).expect("nothing fails");
     assert_eq!(difference, None);
     assert_eq!(census.greatest[..2], [64, 96], "{census}");
     assert!(2 * census.large.cases > census.cases, "{census}");
@@ -70,6 +81,134 @@ fn a_run_in_the_host_form_has_large_days() {
         census.large.accepted > 20 && census.large.broken > 10,
         "{census}"
     );
+}
+
+/// In the host form a product tells copies, and what its readers make of whole and damaged messages;
+/// a line that it changes is told, and so is one that it leaves out.
+#[test]
+fn copies_and_readings_are_compared_in_the_host_form() {
+    for (line, changed) in [
+        ("copy ", "copy 1"),
+        ("copy ", ""),
+        ("desk read ", "desk read 1"),
+        ("desk refused ", "desk refused 1"),
+        ("market read ", ""),
+        ("market refused ", "market refused 1"),
+        ("mend accepted ", "mend accepted 1"),
+        ("mend refused ", ""),
+        ("mend none", "mend 1 1 1 1"),
+    ] {
+        let mut product = |packed: &[u8]| {
+            let output = host_output(packed);
+            let mut lines: Vec<String> = output.split_inclusive('\n').map(String::from).collect();
+            if let Some(given) = lines.iter_mut().find(|given| given.starts_with(line)) {
+                let left_out = changed.is_empty();
+                *given = if left_out {
+                    String::new()
+                } else {
+                    given.replacen(line, changed, 1)
+                };
+            }
+            Ok(lines.concat().into_bytes())
+        };
+        let (_, difference) =
+            compare(&host_settings(8), &mut product, |_| {}).expect("nothing fails");
+        let expected = difference.and_then(|difference| difference.expected);
+        assert!(expected.is_some_and(|expected| expected.starts_with(line)));
+    }
+}
+
+/// Batches for mending reach every kind of mend, and a power that is changed in a line is told.
+#[test]
+fn batches_for_mending() {
+    let settings = Settings {
+        mends: true,
+        plans_per_batch: 20,
+        ..host_settings(150)
+    };
+    let mut product = |packed: &[u8]| Ok(host_output(packed).into_bytes());
+    let (census, difference) = compare(&settings, &mut product, |_| {}).expect("nothing fails");
+    assert_eq!(difference, None);
+    let mends = &census.mends;
+    for rule in [5, 6, 16, 17, 19, 23, 24, 25] {
+        assert!(mends.by_rule[rule] > 50, "rule {rule}: {census}");
+    }
+    assert_eq!(
+        mends.by_rule.iter().filter(|&&count| count > 0).count(),
+        8,
+        "{census}"
+    );
+    for count in [
+        mends.several,
+        mends.earlier,
+        mends.at_zero,
+        mends.at_highest,
+        mends.unmended_one,
+        mends.unmended_several,
+    ] {
+        assert!(count > 5, "{census}");
+    }
+    for edition in Edition::ALL {
+        let counts = census.of(edition);
+        assert!(counts.accepted > 50 && counts.broken > 100, "{census}");
+    }
+    let mut product = |packed: &[u8]| {
+        let output = host_output(packed);
+        Ok(output
+            .replacen("\nmend 1 1 0 ", "\nmend 1 1 1 ", 1)
+            .into_bytes())
+    };
+    let (_, difference) = compare(&settings, &mut product, |_| {}).expect("nothing fails");
+    let expected = difference.and_then(|difference| difference.expected);
+    assert!(expected.is_some_and(|expected| expected.starts_with("mend 1 1 0 ")));
+}
+
+/// Days of the batch program's sizes can be sent to the host library too; what is told of copies and
+/// readings is counted, line for line.
+#[test]
+fn a_run_in_the_host_form_can_have_small_days() {
+    let settings = Settings {
+        drawn: Form::BATCH,
+        plans_per_batch: 10,
+        ..host_settings(60)
+    };
+    let (mut copies, mut read, mut refused) = (0, [0; 2], 0);
+    let mut product = |packed: &[u8]| {
+        let output = host_output(packed);
+        let count = |beginning: &str| output.lines().filter(|l| l.starts_with(beginning)).count();
+        copies += count("copy ");
+        read[0] += count("desk read ");
+        read[1] += count("market read ");
+        refused += count("desk refused ") + count("market refused ");
+        Ok(output.into_bytes())
+    };
+    let (census, difference) = compare(&settings, &mut product, |_| {}).expect("nothing fails");
+    assert_eq!(difference, None);
+    assert!(census.large.cases == 0 && census.cases > 40, "{census}");
+    let told = census.copies;
+    assert_eq!((told.copies, told.read), (copies, read));
+    assert_eq!(told.refused.iter().sum::<usize>(), refused);
+    // Each accepted plan is sent four times: as it is, in the newest edition, with its devices in
+    // another order, and at other prices.
+    assert!(told.copies == 4 * census.accepted, "{census}");
+    assert!(read.iter().all(|&read| read > 50), "{census}");
+    assert!([1, 2, 3, 6].iter().all(|&number| told.refused[number] > 0));
+    assert_eq!([told.refused[4], told.refused[5]], [0; 2]);
+}
+
+/// The batch form tells nothing of copies: neither do the corpora.
+#[test]
+fn the_batch_form_has_no_copies() {
+    let mut product = |packed: &[u8]| {
+        let output = reference_output(packed);
+        for line in ["copy", "desk", "mend"] {
+            assert!(!output.contains(&format!("\n{line} ")));
+        }
+        Ok(output.into_bytes())
+    };
+    let settings = settings(Until::Batches(20));
+    let (_, difference) = compare(&settings, &mut product, |_| {}).expect("nothing fails");
+    assert_eq!(difference, None);
 }
 
 #[test]

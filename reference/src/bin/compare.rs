@@ -1,11 +1,12 @@
 //! The long run for people: random batches, a program's output against the reference's.
 //!
-//! `compare --program PATH [--host] [--seed S] [--first F] [--batches N | --plans M]
-//! [--plans-per-batch P] [--store FILE]`
+//! `compare --program PATH [--host [--small]] [--mends] [--seed S] [--first F] [--batches N | --plans
+//! M] [--plans-per-batch P] [--store FILE]`
 //!
 //! PATH reads packed batches on standard input and prints their output, both as the corpus has
-//! them; with `--host`, as the host library judges. The run stops at the first difference and stores
-//! the batch, packed, in FILE.
+//! them; with `--host`, as the host library judges, on days of its sizes or, with `--small`, of the
+//! batch program's; with `--mends`, on batches for mending. The run stops at the first difference and
+//! stores the batch, packed, in FILE.
 
 use std::fs;
 use std::process::ExitCode;
@@ -14,7 +15,8 @@ use reference::arguments::Arguments;
 use reference::compare::{compare, output_of_program, Difference, Settings, Until};
 use reference::form::Form;
 
-const USAGE: &str = "usage: compare --program PATH [--host] [--seed S] [--first F] \
+const USAGE: &str =
+    "usage: compare --program PATH [--host [--small]] [--mends] [--seed S] [--first F] \
 [--batches N | --plans M] [--plans-per-batch P] [--store FILE]";
 
 fn main() -> ExitCode {
@@ -33,6 +35,8 @@ fn perform() -> Result<bool, String> {
     let mut arguments = Arguments::of_program();
     let program = arguments.value("--program");
     let form = Form::host_if(arguments.flag("--host"));
+    let mends = arguments.flag("--mends");
+    let is_small = arguments.flag("--small");
     let seed = arguments.number("--seed").unwrap_or(1);
     let first_batch = arguments.number("--first").unwrap_or(0);
     let batches = arguments.number("--batches");
@@ -48,10 +52,12 @@ fn perform() -> Result<bool, String> {
     let until = until(batches, plans)?;
     let settings = Settings {
         form,
+        drawn: if is_small { Form::BATCH } else { form },
         seed,
         first_batch,
         until,
         plans_per_batch,
+        mends,
     };
     let mut product = |packed: &[u8]| output_of_program(&program, packed);
     let (census, difference) = compare(&settings, &mut product, |census| {

@@ -1,13 +1,12 @@
-//! Reads packed batches on standard input and prints their output, as the corpus has it: what
-//! `compare` expects of a program, done by the reference. `packed [--host]`; with `--host`, in the
-//! host form.
+//! Reads packed batches on standard input and prints their output: what `compare` expects of a
+//! program, done by the reference. `packed [--host]`; with `--host`, in the host form, with copies.
 
 use std::io::{self, Read, Write};
 use std::process::ExitCode;
 
 use reference::arguments::{exit_code, Arguments};
 use reference::form::Form;
-use reference::packed::{output, unpack};
+use reference::packed::{output_to, unpack, Extent};
 
 const USAGE: &str = "usage: packed [--host]";
 
@@ -26,7 +25,7 @@ fn perform() -> Result<(), String> {
     io::stdin().read_to_end(&mut packed).map_err(told)?;
     let batches = unpack(&packed)?;
     let mut out = io::stdout().lock();
-    out.write_all(output(form, &batches).as_bytes())
+    out.write_all(output_to(Extent::of_run(form), form, &batches).as_bytes())
         .map_err(told)?;
     out.flush().map_err(told)
 }

@@ -23,6 +23,7 @@ use crate::worked_day::Day;
 pub(super) const HOST_SET: Set = Set {
     form: Form::HOST,
     head: HEAD,
+    further_files: COPIES,
     numbers_note: NUMBERS_NOTE,
     option: " --host",
     parts: &PARTS,
@@ -213,6 +214,14 @@ const HEAD: &str = "\
 
 Batches of more devices or intervals than the batch program takes, and of what the host form
 refuses, with the output that the host library and the reference are both held to.
+";
+
+const COPIES: &str = "\
+- `copies`: for each accepted plan of `stdin` a line `batch K plan I: copy BYTES CRC; desk N CRC;
+  market N CRC` (A.7), I being its index among the messages of batch K: the length and the CRC-32 of
+  its market copy; how many numbers the desk reader gives of its completion, and the market reader of
+  its copy, with the CRC-32 of these numbers, each in eight bytes, most significant first.
+- `batch-copies`: the same of the batch program's corpus, `crates/corpus/stdin`.
 ";
 
 const NUMBERS_NOTE: &str = "\

@@ -327,7 +327,8 @@ pub fn damaged(rng: &mut Rng, message: &Encoded) -> Vec<u8> {
     damaged.unwrap_or_else(|| cut_anywhere(rng, &message.bytes))
 }
 
-fn with_turned_bits(rng: &mut Rng, bytes: &[u8]) -> Vec<u8> {
+/// Turns one to three bits.
+pub fn with_turned_bits(rng: &mut Rng, bytes: &[u8]) -> Vec<u8> {
     let mut turned = bytes.to_vec();
     for _ in 0..1 + rng.below(3) {
         let bit = rng.below(8 * turned.len());
@@ -336,6 +337,7 @@ fn with_turned_bits(rng: &mut Rng, bytes: &[u8]) -> Vec<u8> {
     turned
 }
 
-fn cut_anywhere(rng: &mut Rng, bytes: &[u8]) -> Vec<u8> {
+/// Cuts a message at any byte.
+pub fn cut_anywhere(rng: &mut Rng, bytes: &[u8]) -> Vec<u8> {
     bytes[..rng.below(bytes.len())].to_vec()
 }

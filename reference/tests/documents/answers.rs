@@ -2,13 +2,17 @@
 
 use reference::batch::{join, run, Line};
 use reference::breaches::breaches;
+use reference::case::read_case;
 use reference::clock::spans;
 use reference::completion::Completion;
+use reference::dispatch::{dispatch, offers_of, Answer, Question};
 use reference::fault::Fault;
 use reference::forced::forced;
 use reference::form::Form;
 use reference::judge::{judge, Refusal, Verdict};
+use reference::market::{market_copy, read_market, Copied};
 use reference::meets::{meets, surplus_of};
+use reference::mend::{mend, Mend, Mending};
 use reference::ours::complete;
 use reference::rewrite::{rewrite_case, rewrite_plan};
 use reference::rules::Place;
@@ -74,6 +78,31 @@ pub fn answers(sheet: &Sheet) -> Answers {
                 batch: None,
             }
         }
+        Asked::Market(room) => {
+            let mut buffer = vec![0; room.unwrap_or(ROOM)];
+            let library = match market_copy(&case, &plan, &mut buffer) {
+                Copied::Written { bytes } => copy(&case, &buffer[..bytes]),
+                Copied::Broken(place) => broken(&place),
+                Copied::Refused(refusal) => verdict(Verdict::Refused(refusal)),
+            };
+            Answers {
+                library,
+                batch: None,
+            }
+        }
+        Asked::Mend => Answers {
+            library: mending(mend(&case, &plan)),
+            batch: None,
+        },
+        Asked::Dispatch {
+            interval,
+            target,
+            devices,
+            earlier,
+        } => Answers {
+            library: dispatched(&case, *interval, *target, devices, earlier),
+            batch: None,
+        },
         Asked::Writing(message, room) => {
             let mut buffer = vec![0; room.unwrap_or(ROOM)];
             let found = match message {
@@ -156,6 +185,77 @@ fn broken(place: &Place) -> String {
         window,
     } = place;
     format!("rule {rule} at {interval} {device} {window}")
+}
+
+/// The offers are those of the case, where it has the interval and the devices.
+fn dispatched(case: &[u8], interval: u64, target: u64, sets: &[u64], earlier: &[u64]) -> String {
+    let offers = match read_case(case) {
+        Ok((_, read)) if fits(interval, read.durations.len()) => {
+            let named: Vec<u64> = sets
+                .iter()
+                .copied()
+                .filter(|&s| fits(s, read.devices.len()))
+                .collect();
+            offers_of(&read, interval as usize - 1, &named)
+        }
+        _ => Vec::new(),
+    };
+    let mut question = Question {
+        interval,
+        sets: sets.to_vec(),
+        powers: earlier.to_vec(),
+        offers,
+        target,
+    };
+    match dispatch(case, &mut question) {
+        Answer::Dispatched => {
+            let powers = question
+                .powers
+                .iter()
+                .map(|&power| printed(i128::from(power)));
+            format!("powers {}", powers.collect::<Vec<_>>().join(" "))
+                .trim_end()
+                .to_owned()
+        }
+        Answer::CaseRefused(fault) => refused("case", fault),
+        Answer::NotOfCase => "refused by 8 with 0".into(),
+        Answer::NoSuchPowers { target } => {
+            format!("refused by 9 with {}", printed(i128::from(target)))
+        }
+    }
+}
+
+/// A number from 1 to a count.
+fn fits(number: u64, count: usize) -> bool {
+    (1..=count as u64).contains(&number)
+}
+
+fn mending(mending: Mending) -> String {
+    match mending {
+        Mending::Accepted { surplus } => printed(surplus),
+        Mending::Mended(Mend {
+            interval,
+            device,
+            power,
+        }) => format!(
+            "interval {interval}, device {device}, {} kW",
+            printed(power)
+        ),
+        Mending::Nothing => "nothing mends it".into(),
+        Mending::Refused(refusal) => verdict(Verdict::Refused(refusal)),
+    }
+}
+
+/// A copy's length and its figures in the message's order, as the market reader gives them back.
+fn copy(case: &[u8], bytes: &[u8]) -> String {
+    let mut table = vec![0; ROOM];
+    let count = read_market(case, bytes, &mut table).expect("a copy");
+    let figures = table[..count].iter().map(|n| printed(i128::from(*n)));
+    let figures = figures.collect::<Vec<_>>().join(" ");
+    format!(
+        "copy in {} bytes of {figures}",
+        printed(bytes.len() as i128)
+    )
 }
 
 fn list(bytes: &[u8]) -> String {

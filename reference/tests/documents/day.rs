@@ -45,6 +45,17 @@ pub enum Asked {
     /// The case, or the plan with its case, written in the newest edition, in a buffer of so many
     /// bytes if it is said.
     Writing(Message, Option<usize>),
+    /// The market's copy, in a buffer of so many bytes if it is said.
+    Market(Option<usize>),
+    /// The smallest change of one online power that mends the plan.
+    Mend,
+    /// The cheapest dispatch: interval, target, devices in the order named, their earlier powers.
+    Dispatch {
+        interval: u64,
+        target: u64,
+        devices: Vec<u64>,
+        earlier: Vec<u64>,
+    },
 }
 
 #[derive(Clone, Copy, PartialEq)]
@@ -76,12 +87,17 @@ impl Sheet {
             zones: Vec::new(),
             devices: Vec::new(),
         };
+        Sheet::of(Day {
+            edition: Edition::One,
+            case,
+            plan: Plan::plain(Vec::new()),
+        })
+    }
+
+    /// A day as it stands.
+    pub fn of(day: Day) -> Sheet {
         Sheet {
-            day: Day {
-                edition: Edition::One,
-                case,
-                plan: Plan::plain(Vec::new()),
-            },
+            day,
             plan_edition: None,
             case_edits: Vec::new(),
             plan_edits: Vec::new(),
@@ -106,8 +122,11 @@ impl Sheet {
         match words {
             ["device", d, rest @ ..] => self.device_change(place(d)?, rest),
             ["zone", z, rest @ ..] => self.zone_change(place(z)?, rest),
-            ["plan" | "case" | "result" | "list" | "batch" | "write" | "newest", ..] => {
-                self.message_change(words)
+            ["plan" | "case" | "result" | "list" | "batch" | "write" | "newest" | "market"
+            | "mend", ..] => self.message_change(words),
+            ["dispatch", interval, "to", target, named @ ..] => {
+                self.asked = dispatch(interval, target, named)?;
+                Ok(())
             }
             _ => self.day_change(words),
         }
@@ -341,6 +360,9 @@ impl Sheet {
             ["list"] => self.asked = Asked::List(None),
             ["list", n, "bytes"] => self.asked = Asked::List(Some(size(n)?)),
             ["newest", "edition"] => self.newest = true,
+            ["market"] => self.asked = Asked::Market(None),
+            ["mend"] => self.asked = Asked::Mend,
+            ["market", n, "bytes"] => self.asked = Asked::Market(Some(size(n)?)),
             ["write", which] => self.asked = Asked::Writing(message(which)?, None),
             ["write", which, n, "bytes"] => {
                 self.asked = Asked::Writing(message(which)?, Some(size(n)?))
@@ -578,3 +600,21 @@ pub fn edition(word: &str) -> Told<Edition> {
 }
 
 pub const ZONE_PRODUCTS: [&str; 8] = SHORTFALLS;
+
+/// A dispatch of an interval to a target: `device D at V` for each that stays on.
+fn dispatch(interval: &str, target: &str, named: &[&str]) -> Told<Asked> {
+    let (mut devices, mut earlier) = (Vec::new(), Vec::new());
+    for one in named.chunks(4) {
+        let ["device", device, "at", power] = one else {
+            return Err("no device with its earlier power".into());
+        };
+        devices.push(size(device)? as u64);
+        earlier.push(size(power)? as u64);
+    }
+    Ok(Asked::Dispatch {
+        interval: size(interval)? as u64,
+        target: size(target)? as u64,
+        devices,
+        earlier,
+    })
+}

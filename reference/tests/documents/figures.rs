@@ -8,20 +8,23 @@ use reference::breaches::breaches;
 use reference::completion::completion_bits;
 use reference::edition::Edition;
 use reference::encode::{encode_case, encode_plan, Field};
+use reference::generate::prices::exchange_prices;
+use reference::rng::Rng;
 use reference::worked_day::{two_set_day, Day};
 
 use crate::answers::{answers, batch_for_program, choice_answer, program_text};
 use crate::day::{edition, in_newest, Asked, Sheet, Told, ROOM};
+use crate::examples::example_days;
 use crate::names::{document, root};
 use crate::text::{blocks, is_numbered, printed, tables, unfenced, with_a_number_changed};
 use crate::{no_errors, sums, FIGURES, LAST_GROUP, REPLY};
 
-/// The days that FIGURES writes out, by their letter.
+/// The days that FIGURES writes out, by their letter, and those of the examples, by their plan's name.
 pub struct Days(pub BTreeMap<String, Sheet>);
 
 impl Days {
     pub fn read() -> Days {
-        let mut days: BTreeMap<String, Sheet> = BTreeMap::new();
+        let mut days: BTreeMap<String, Sheet> = example_days().into_iter().collect();
         for block in blocks(&document(FIGURES)) {
             let mut name = String::new();
             let mut sheet = Sheet::empty();
@@ -341,6 +344,29 @@ fn entries(sheet: &Sheet) -> Option<Vec<[u8; 4]>> {
     let count = breaches(&case, &plan, &mut buffer).ok()?;
     let list = buffer.chunks(4).take(count);
     Some(list.map(|b| [b[0], b[1], b[2], b[3]]).collect())
+}
+
+/// Every day's copy, or what is answered in its place, is the same with all prices and costs exchanged.
+#[test]
+fn copies_do_not_go_by_prices_and_costs() {
+    let days = Days::read();
+    let mut rng = Rng::new(18);
+    let mut count = 0;
+    for figure in figures().iter().filter(|figure| figure.choice.is_none()) {
+        let sheet = figure.sheet(&days).expect("a day");
+        if !sheet.is_unedited() {
+            continue;
+        }
+        let sheet = sheet.with("market").expect("a copy");
+        let mut other = sheet.clone();
+        exchange_prices(&mut rng, other.day.edition, &mut other.day.case);
+        assert_ne!(other.day.case, sheet.day.case, "{}", figure.place);
+        let (one, another) = (answers(&sheet), answers(&other));
+        assert_eq!(one.library, another.library, "{}", figure.place);
+        count += usize::from(one.library.starts_with("copy "));
+    }
+    println!("{count} copies with other prices");
+    assert!(count > 60);
 }
 
 /// The batch program prints what the second program does, where it is built.

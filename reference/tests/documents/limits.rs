@@ -1,6 +1,7 @@
 //! Limits and greatest figures of FIGURES, and the numbers in the sentences of REPLY.
 
 use reference::batch::messages;
+use reference::bits::HIGHEST_POWER;
 use reference::busiest::busiest_batch;
 use reference::case::{Side, MOST_ITEMS, MOST_STATES, MOST_ZONES};
 use reference::clock::spans;
@@ -40,6 +41,7 @@ fn limit(name: &str) -> i128 {
         "most zones" => MOST_ZONES,
         "most startup states" => MOST_STATES,
         "most windows of a kind, and blocks" => MOST_ITEMS,
+        "most power of a field" => HIGHEST_POWER as usize,
         "longest message in a batch, library" => Form::HOST.longest_message,
         "longest message in a batch, batch program" => Form::BATCH.longest_message,
         "longest list, library" => longest_list(large, "KADUNFO_LONGEST_LIST"),

@@ -7,6 +7,7 @@
 mod answers;
 mod changes;
 mod day;
+mod examples;
 mod figures;
 mod limits;
 mod names;
@@ -24,7 +25,7 @@ const CHANGES: &str = "docs/reply/CHANGES.md";
 
 /// The group of basis and limits, which has no example; behind it each later request has its group.
 const BASIS_GROUP: usize = 15;
-const LAST_GROUP: usize = 17;
+const LAST_GROUP: usize = 20;
 
 fn no_errors(errors: Vec<String>) {
     assert!(errors.is_empty(), "{}", errors.join("\n"));
