@@ -1,7 +1,7 @@
 //! A case with a plan of it, and the figures that both force: starts and stops, startup and
 //! shutdown power.
 
-use crate::message::{read_case, read_plan, Case, Cell, Device, Interval, Plan, Reserve, Setting};
+use crate::messages::{read_case, read_plan, Case, Cell, Device, Interval, Plan, Reserve, Setting};
 
 pub struct Day {
     pub case: Case,

@@ -1,6 +1,6 @@
 //! A case in words.
 
-use crate::message::{Case, Device, Interval, Line, Link, Zone};
+use crate::messages::{Case, Device, Interval, Line, Link, Zone};
 
 /// The lines of a case, each with its end: the batch program's words and counts, the day, each
 /// zone's reactive needs where the edition has them, each device with its floors and its bar where
@@ -68,18 +68,18 @@ fn mismatched(case: &Case) -> &'static str {
 /// The greatest minima of the day, and what a shortfall costs.
 fn zone_words(zone: &Zone) -> String {
     let greatest = |kind: usize| zone.minima.iter().map(|minima| minima[kind]).max();
-    let [qru_price, qrd_price] = zone.prices;
+    let [.., qru_price, qrd_price] = zone.prices;
     format!(
         "minima to {} kvar of qru, {} kvar of qrd; shortfall prices {qru_price} grains per var min \
          of qru, {qrd_price} of qrd",
-        greatest(0).unwrap_or(0),
-        greatest(1).unwrap_or(0)
+        greatest(2).unwrap_or(0),
+        greatest(3).unwrap_or(0)
     )
 }
 
 /// Durations that follow one another alike are told once: `2 x 60 min, 1 x 30 min`.
 fn durations(intervals: &[Interval]) -> String {
-    let duration = |interval: &Interval| interval.end - interval.start;
+    let duration = |interval: &Interval| interval.minutes();
     let runs = intervals.chunk_by(|a, b| duration(a) == duration(b));
     let told: Vec<String> = runs
         .map(|run| format!("{} x {} min", run.len(), duration(&run[0])))
@@ -112,9 +112,9 @@ fn device_words(device: &Device) -> Vec<String> {
         ),
         format!(
             "startup states {}, start windows {}, energy windows {}",
-            device.startup_states,
+            device.startup_states.len(),
             device.start_windows.len(),
-            device.energy_windows
+            device.energy_windows.len()
         ),
     ]
 }

@@ -4,7 +4,8 @@ use std::fmt;
 
 use crate::comparison::{Comparison, Figure, Relation, Unit};
 use crate::day::{Day, Point};
-use crate::message::Reserve::{self, *};
+use crate::messages::Case;
+use crate::messages::Reserve::{self, *};
 use crate::reactive;
 
 /// A broken rule and its place, as a list holds it: each number from 1, or 0 where there is none.
@@ -28,16 +29,49 @@ impl From<[u8; 4]> for Breach {
 }
 
 impl Breach {
-    /// The numbers that are there, each with its word.
-    fn place(&self) -> String {
-        let named = [
-            ("interval", self.interval),
-            ("device", self.device),
-            ("window", self.window),
-        ];
-        let there = named.iter().filter(|(_, number)| *number > 0);
-        let words: Vec<String> = there.map(|(word, n)| format!("{word} {n}")).collect();
-        words.join(", ")
+    /// By figures of the plan unit in the same order; `None` where one is larger than a list can hold.
+    pub fn of(figures: [u64; 4]) -> Option<Breach> {
+        let [rule, interval, device, window] = figures.map(|figure| u8::try_from(figure).ok());
+        Some(Breach {
+            rule: rule?,
+            interval: interval?,
+            device: device?,
+            window: window?,
+        })
+    }
+
+    /// Rule, interval, device, window.
+    pub fn numbers(&self) -> [u8; 4] {
+        [self.rule, self.interval, self.device, self.window]
+    }
+
+    /// Its place in words.
+    pub fn place(&self, case: &Case) -> String {
+        let [interval, device, window] = [self.interval, self.device, self.window].map(usize::from);
+        place_words(case, interval, device, window)
+    }
+}
+
+/// The numbers that are there, each with its word, and the device's name where it has one.
+pub fn place_words(case: &Case, interval: usize, device: usize, window: usize) -> String {
+    let named = [
+        ("interval", interval, String::new()),
+        ("device", device, name_words(case, device)),
+        ("window", window, String::new()),
+    ];
+    let there = named.iter().filter(|(_, number, _)| *number > 0);
+    let words: Vec<String> = there
+        .map(|(word, number, name)| format!("{word} {number}{name}"))
+        .collect();
+    words.join(", ")
+}
+
+fn name_words(case: &Case, device: usize) -> String {
+    let place = device.checked_sub(1);
+    let device = place.and_then(|place| case.devices.get(place));
+    match device.map(|device| device.name.as_str()) {
+        None | Some("") => String::new(),
+        Some(name) => format!(" ({name})"),
     }
 }
 
@@ -54,7 +88,7 @@ impl fmt::Display for Breach {
 }
 
 /// What each rule is about, from rule 1.
-const RULES: [&str; 27] = [
+pub const RULES: [&str; 27] = [
     "fixed status",
     "initial state",
     "minimum down time",
@@ -90,7 +124,7 @@ const RULES: [&str; 27] = [
 pub fn explain(day: &Day, breach: Breach) -> Option<String> {
     let comparison = compare(day, breach)?;
     let rule = name_of(breach.rule, &comparison)?;
-    let place = breach.place();
+    let place = breach.place(&day.case);
     let number = breach.rule;
     (!comparison.holds())
         .then(|| format!("{breach} rule {number} ({rule}) at {place}: {comparison}"))

@@ -8,13 +8,14 @@ use std::path::{Path, PathBuf};
 use std::process;
 
 /// What a path leads to: a file that is there, by its number, or the place of one that is not.
-#[derive(PartialEq, Eq)]
-enum Identity {
+#[derive(PartialEq, Eq, Hash)]
+pub enum Identity {
     There { device: u64, number: u64 },
     Absent(PathBuf),
 }
 
-fn identity(path: &Path) -> io::Result<Identity> {
+/// What a path leads to; two that lead to one file, by whatever names or links, have one identity.
+pub fn identity(path: &Path) -> io::Result<Identity> {
     match fs::metadata(path) {
         Ok(found) => Ok(Identity::There {
             device: found.dev(),
@@ -28,11 +29,6 @@ fn identity(path: &Path) -> io::Result<Identity> {
         }
         Err(error) => Err(error),
     }
-}
-
-/// Whether two paths lead to one file, by whatever names or links.
-pub fn is_same_file(one: &Path, other: &Path) -> io::Result<bool> {
-    Ok(identity(one)? == identity(other)?)
 }
 
 fn folder_of(path: &Path) -> &Path {

@@ -1,6 +1,6 @@
 //! A batch, message by message, as the plan unit splits it.
 
-use crate::{split, word};
+use crate::{split, Framed};
 
 /// A refusal's number, and the bit that it is at.
 #[derive(Clone, Copy, PartialEq, Eq, Debug)]
@@ -23,17 +23,17 @@ impl<'a> Iterator for Messages<'a> {
     type Item = Result<&'a [u8], Fault>;
 
     fn next(&mut self) -> Option<Self::Item> {
-        let told = split(self.batch, self.at);
-        match (told.word, told.figures) {
-            (word::MESSAGE, [from, until, ..]) => {
-                self.at = until;
-                Some(Ok(&self.batch[from as usize..until as usize]))
+        let fault = match split(self.batch, self.at) {
+            Framed::Message { from, until } => {
+                self.at = until as u64;
+                return Some(Ok(&self.batch[from..until]));
             }
-            (word::END, _) => None,
-            (_, [number, bit, ..]) => {
-                self.at = self.batch.len() as u64;
-                Some(Err(Fault { number, bit }))
-            }
-        }
+            Framed::End => return None,
+            Framed::Refused(fault) => fault,
+            // No refusal has this number.
+            Framed::Unknown { .. } => Fault { number: 0, bit: 0 },
+        };
+        self.at = self.batch.len() as u64;
+        Some(Err(fault))
     }
 }

@@ -1,17 +1,37 @@
 //! Safe wrappers of the plan unit's exported functions (`include/kadunfo.h`), and the figures and
 //! sentences of the desk program.
 
+mod answers;
+pub mod balance;
+pub mod bill;
+pub mod compare;
 mod comparison;
+mod copies;
 pub mod day;
 pub mod describe;
+pub mod dispatch;
 pub mod explain;
 pub mod files;
 mod frames;
-pub mod message;
+pub mod json;
+pub mod judged;
+mod mend;
+pub mod messages;
+pub mod offer;
+pub mod page;
+pub mod picture;
+pub mod program;
 mod reactive;
 pub mod renumber;
+pub mod rules;
+pub mod show;
+pub mod table;
+pub mod text;
 
+pub use answers::{with_buffer, Framed, Inspected, Lent, Listed, Verdict, Written};
+pub use copies::{market, read_completion, read_market, Copied, Read, LONGEST_COPY, MOST_NUMBERS};
 pub use frames::{messages, Fault, Messages};
+pub use mend::{mend, Mend, Mended};
 
 extern "C" {
     fn kadunfo_judge(
@@ -67,26 +87,39 @@ extern "C" {
     ) -> u64;
 }
 
-/// The words of the header.
-pub mod word {
+/// The words of the header; that of too few figures is never met here.
+mod word {
     pub const ACCEPTED: u64 = 0;
     /// The same word from `breaches`.
     pub const LISTED: u64 = 0;
     /// The same word from `write_case` and `write_plan`.
     pub const WRITTEN: u64 = 0;
-    /// The same word from `inspect`; the header has no name of its own for it.
+    /// The same word from `market`.
+    pub const COPIED: u64 = 0;
+    /// The same word from `read_completion` and `read_market`.
+    pub const READ: u64 = 0;
+    /// The same word from `dispatch`.
+    pub const DISPATCHED: u64 = 0;
+    /// The same word from `inspect`.
     pub const INSPECTED: u64 = 0;
     /// The same word from `split`.
     pub const MESSAGE: u64 = 0;
     pub const BROKEN: u64 = 1;
+    /// The same word from `mend`.
+    pub const MENDED: u64 = 1;
     /// The same word from `split`.
     pub const END: u64 = 1;
     pub const CASE_REFUSED: u64 = 2;
     /// The same word from `split`.
     pub const FRAMING_REFUSED: u64 = 2;
     pub const PLAN_REFUSED: u64 = 3;
+    /// The same word from `read_completion` and `read_market`.
+    pub const MESSAGE_REFUSED: u64 = 3;
     pub const RESULT_REFUSED: u64 = 4;
-    pub const FIGURES_SHORT: u64 = 5;
+    /// From `mend` alone.
+    pub const UNMENDABLE: u64 = 6;
+    /// From `dispatch`: the question is not one of the case, or no powers add up to the target.
+    pub const NOT_DISPATCHED: u64 = 7;
 }
 
 /// The most bytes of a message in a batch.
@@ -110,104 +143,84 @@ pub const LONGEST_PLAN: usize = 158_427;
 pub const STACK: usize = 1_500_000;
 
 /// A word and four numbers, as the header lists them.
-#[derive(Clone, Copy, PartialEq, Eq, Debug)]
-pub struct Told {
-    pub word: u64,
-    pub figures: [u64; 4],
+#[derive(Clone, Copy)]
+struct Told {
+    word: u64,
+    figures: [u64; 4],
+}
+
+impl Told {
+    /// What an exported function tells that is given the place of its figures and how many there are.
+    fn by(call: impl FnOnce(*mut u64, usize) -> u64) -> Told {
+        let mut figures = [0u64; 4];
+        let word = call(figures.as_mut_ptr(), figures.len());
+        Told { word, figures }
+    }
 }
 
 /// Judges one plan against one case; acceptance alone writes to `result`.
-pub fn judge(case: &[u8], plan: &[u8], result: &mut [u8]) -> Told {
-    told_of_pair(kadunfo_judge, case, plan, result)
+pub fn judge(case: &[u8], plan: &[u8], result: &mut [u8]) -> Verdict {
+    told_of_pair(kadunfo_judge, case, plan, result).into()
 }
 
 /// Lists every broken rule of one plan in `list`, four bytes each (rule, interval, device, window),
 /// in the order of judging; nothing is written where `list` is too short or a message is refused.
-pub fn breaches(case: &[u8], plan: &[u8], list: &mut [u8]) -> Told {
-    told_of_pair(kadunfo_breaches, case, plan, list)
+pub fn breaches(case: &[u8], plan: &[u8], list: &mut [u8]) -> Listed {
+    told_of_pair(kadunfo_breaches, case, plan, list).into()
 }
 
 /// Writes a plan, read with its case, to `result` in the newest edition; nothing is written where
 /// `result` is too short or a message is refused.
-pub fn write_plan(case: &[u8], plan: &[u8], result: &mut [u8]) -> Told {
-    told_of_pair(kadunfo_write_plan, case, plan, result)
+pub fn write_plan(case: &[u8], plan: &[u8], result: &mut [u8]) -> Written {
+    told_of_pair(kadunfo_write_plan, case, plan, result).into()
 }
 
 /// Writes a case to `result` in the newest edition, likewise.
-pub fn write_case(case: &[u8], result: &mut [u8]) -> Told {
-    let mut figures = [0u64; 4];
+pub fn write_case(case: &[u8], result: &mut [u8]) -> Written {
     // SAFETY: each pointer comes with the length of its slice, and the slices do not overlap.
-    let word = unsafe {
-        kadunfo_write_case(
-            case.as_ptr(),
-            case.len(),
-            result.as_mut_ptr(),
-            result.len(),
-            figures.as_mut_ptr(),
-            figures.len(),
-        )
-    };
-    Told { word, figures }
+    let told = Told::by(|figures, length| unsafe {
+        let (case, case_length) = (case.as_ptr(), case.len());
+        let (result, result_length) = (result.as_mut_ptr(), result.len());
+        kadunfo_write_case(case, case_length, result, result_length, figures, length)
+    });
+    told.into()
 }
 
-/// An exported function of a case, a plan, a lent buffer and figures.
-type OfPair = unsafe extern "C" fn(
-    *const u8,
-    usize,
-    *const u8,
-    usize,
-    *mut u8,
-    usize,
-    *mut u64,
-    usize,
-) -> u64;
+/// An exported function of a case, a message of it, a lent buffer or table, and figures.
+type OfPair<T> =
+    unsafe extern "C" fn(*const u8, usize, *const u8, usize, *mut T, usize, *mut u64, usize) -> u64;
 
-fn told_of_pair(function: OfPair, case: &[u8], plan: &[u8], buffer: &mut [u8]) -> Told {
-    let mut figures = [0u64; 4];
+fn told_of_pair<T>(function: OfPair<T>, case: &[u8], message: &[u8], lent: &mut [T]) -> Told {
     // SAFETY: each pointer comes with the length of its slice, and the slices do not overlap.
-    let word = unsafe {
+    Told::by(|figures, length| unsafe {
         function(
             case.as_ptr(),
             case.len(),
-            plan.as_ptr(),
-            plan.len(),
-            buffer.as_mut_ptr(),
-            buffer.len(),
-            figures.as_mut_ptr(),
-            figures.len(),
+            message.as_ptr(),
+            message.len(),
+            lent.as_mut_ptr(),
+            lent.len(),
+            figures,
+            length,
         )
-    };
-    Told { word, figures }
+    })
 }
 
 /// A case's devices, intervals and zones, or its refusal.
-pub fn inspect(case: &[u8]) -> Told {
-    let mut figures = [0u64; 4];
+pub fn inspect(case: &[u8]) -> Inspected {
     // SAFETY: as above.
-    let word = unsafe {
-        kadunfo_inspect(
-            case.as_ptr(),
-            case.len(),
-            figures.as_mut_ptr(),
-            figures.len(),
-        )
-    };
-    Told { word, figures }
+    let told = Told::by(|figures, length| unsafe {
+        kadunfo_inspect(case.as_ptr(), case.len(), figures, length)
+    });
+    told.into()
 }
 
 /// The message behind the length at byte `at` of a batch, by the bytes from and until which it
 /// stands; the end; or the refusal of the length.
-pub fn split(batch: &[u8], at: u64) -> Told {
-    let mut figures = [0u64; 4];
+pub fn split(batch: &[u8], at: u64) -> Framed {
     // SAFETY: as above.
-    let word = unsafe {
-        kadunfo_split(
-            batch.as_ptr(),
-            batch.len(),
-            at,
-            figures.as_mut_ptr(),
-            figures.len(),
-        )
-    };
-    Told { word, figures }
+    let told = Told::by(|figures, length| unsafe {
+        kadunfo_split(batch.as_ptr(), batch.len(), at, figures, length)
+    });
+    told.into()
 }

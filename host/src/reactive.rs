@@ -3,7 +3,7 @@
 
 use crate::comparison::{Comparison, Figure, Relation, Unit};
 use crate::day::Point;
-use crate::message::{Line, Link};
+use crate::messages::{Line, Link};
 
 /// Var in a kvar.
 const VARS: i64 = 1_000;

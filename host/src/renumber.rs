@@ -1,9 +1,7 @@
-//! A case and its plans with their devices in another order, bit by bit, and a list of breaches with
+//! A case and its plans with their devices in another order, and a list of breaches with
 //! the devices' numbers carried along.
 
-use std::ops::Range;
-
-use crate::message::{read_case, read_placed_case, read_placed_plan, read_plan, Case, Plan, Row};
+use crate::messages::{case_message, plan_message, read_case, read_plan, Case, Plan, Row};
 
 /// An order of a case's devices.
 #[derive(Clone, PartialEq, Eq, Debug)]
@@ -29,30 +27,28 @@ impl Order {
         self.old_places.len()
     }
 
-    /// A case that passed reading, its devices in this order; `None` where its figures are not the
-    /// old ones rearranged.
+    /// A case that passed reading, its devices in this order; `None` where it is not read.
     pub fn case(&self, message: &[u8]) -> Option<Vec<u8>> {
-        let (case, places) = read_placed_case(message)?;
-        let renumbered = self.bits(message, &[places]);
-        let expected = Case {
+        let case = read_case(message)?;
+        let renumbered = Case {
             devices: self.of(&case.devices),
             ..case
         };
-        (read_case(&renumbered)? == expected).then_some(renumbered)
+        case_message(&renumbered).ok()
     }
 
     /// A plan that passed reading for a case of as many devices, likewise.
     pub fn plan(&self, case: &Case, message: &[u8]) -> Option<Vec<u8>> {
-        let (plan, places) = read_placed_plan(case, message)?;
-        let renumbered = self.bits(message, &places);
+        let plan = read_plan(case, message)?;
         let row = |row: &Row| Row {
             settings: self.of(&row.settings),
             flow: row.flow,
         };
-        let expected = Plan {
+        let renumbered = Plan {
+            edition: plan.edition,
             rows: plan.rows.iter().map(row).collect(),
         };
-        (read_plan(case, &renumbered)? == expected).then_some(renumbered)
+        plan_message(&renumbered).ok()
     }
 
     /// A list of breaches with device numbers carried along, in the order of judging; a breach
@@ -77,23 +73,5 @@ impl Order {
     fn of<T: Clone>(&self, by_device: &[T]) -> Vec<T> {
         let at = |&place: &usize| by_device[place].clone();
         self.old_places.iter().map(at).collect()
-    }
-
-    /// The message with the bits at the places of each group in this order; those of a group follow
-    /// one another.
-    fn bits(&self, message: &[u8], groups: &[Vec<Range<usize>>]) -> Vec<u8> {
-        let mut taken: Vec<usize> = (0..8 * message.len()).collect();
-        for places in groups {
-            let bits = self.of(places).into_iter().flatten();
-            let start = places.first().map_or(0, |place| place.start);
-            for (to, from) in taken[start..].iter_mut().zip(bits) {
-                *to = from;
-            }
-        }
-        let byte = |eight: &[usize]| {
-            let bit = |at: usize| (message[at / 8] >> (7 - at % 8)) & 1;
-            eight.iter().fold(0, |byte, &at| 2 * byte + bit(at))
-        };
-        taken.chunks(8).map(byte).collect()
     }
 }

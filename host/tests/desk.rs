@@ -4,10 +4,10 @@ mod common;
 
 use std::ffi::OsStr;
 use std::fs;
-use std::path::{Path, PathBuf};
+use std::path::Path;
 use std::process::Command;
 
-use common::{each_case, each_pair};
+use common::{each_case, each_pair, Scratch};
 use reference::breaches::breaches_of;
 use reference::case::{
     read_case, Device, Link, LinkLine, ReactiveReserves, Reserves, Side, StartWindow, Status,
@@ -16,6 +16,7 @@ use reference::case::{
 use reference::edition::Edition;
 use reference::encode::encode_plan;
 use reference::judge::judge;
+use reference::mend::mend_of;
 use reference::plan::{read_plan, Plan, Setting};
 use reference::renumber::Order;
 use reference::rewrite::{newest_case, newest_plan};
@@ -68,27 +69,17 @@ fn answer<W: AsRef<OsStr>>(words: &[W], status: i32) -> String {
     ran.out
 }
 
-/// A directory of one test's own.
-struct Scratch(PathBuf);
+/// The verdict that `judge` prints, without the words behind it.
+fn verdict_of<W: AsRef<OsStr>>(words: &[W], status: i32) -> String {
+    let text = answer(words, status);
+    let line = text.strip_suffix('\n').expect("a line's end");
+    match line.split_once(": rule ") {
+        Some((verdict, _)) => format!("{verdict}\n"),
+        None => text,
+    }
+}
 
 impl Scratch {
-    fn new(test: &str) -> Scratch {
-        let path = Path::new(env!("CARGO_TARGET_TMPDIR")).join(format!("desk-{test}"));
-        let _ = fs::remove_dir_all(&path);
-        fs::create_dir_all(&path).expect("a scratch directory");
-        Scratch(path)
-    }
-
-    fn path(&self, name: &str) -> String {
-        self.0.join(name).to_str().expect("text").to_string()
-    }
-
-    fn file(&self, name: &str, bytes: &[u8]) -> String {
-        let path = self.path(name);
-        fs::write(&path, bytes).expect("a scratch file");
-        path
-    }
-
     /// The files of a day's case and plan.
     fn day(&self, day: &Day) -> [String; 2] {
         let (case, plan) = day.messages();
@@ -113,7 +104,7 @@ fn judge_prints_the_verdict() {
         ('l', "accepted 163360\n", 0),
     ] {
         let [case, plan] = scratch.day(&lettered(letter));
-        assert_eq!(answer(&["judge", &case, &plan], status), line);
+        assert_eq!(verdict_of(&["judge", &case, &plan], status), line);
     }
 }
 
@@ -125,7 +116,8 @@ fn hold_verdicts(test: &str, days: &[ToldDay], verdicts: &[&str]) {
         let [case, plan] = scratch.day(day);
         let status = i32::from(verdict.starts_with("broken"));
         let line = format!("{verdict}\n");
-        assert_eq!(answer(&["judge", &case, &plan], status), line, "{about}");
+        let verdict = verdict_of(&["judge", &case, &plan], status);
+        assert_eq!(verdict, line, "{about}");
     }
 }
 
@@ -843,27 +835,30 @@ device 2: consuming; in no zone; initially on for 600 min at 30 kW; minimum up 0
     assert_eq!(answer(&["inspect", &case], 0), expected);
 }
 
-/// Plans of the worked day that are damaged, and how each is refused behind `refused`; `{}` is the
+/// Plans of the worked day that are damaged, four bits of power set in one (15 x 2^13), and how each is refused behind `refused`; `{}` is the
 /// file.
 fn refused_plans(whole: &[u8]) -> [(Vec<u8>, &'static str); 5] {
     let changed = |at: usize, byte: u8| [&whole[..at], &[byte], &whole[at + 1..]].concat();
     [
         (
             whole[..1].to_vec(),
-            "1 8: plan {}: the message ends before or inside the field at this bit",
+            "1 8: plan {}: count of sets: the message ends before or inside this field",
         ),
         (
             changed(0, 0x31),
-            "2 0: plan {}: wrong kind, or an edition that is unknown or unlike the case's",
+            "2 0: plan {}: kind is 3: this is no plan (it says to be a completion)",
         ),
         (
             changed(1, 0x18),
-            "3 8: plan {}: a count out of range, or unlike the case's",
+            "3 8: plan {}: count of sets is 3: unlike the case's",
         ),
-        (changed(2, 0x4f), "4 20: plan {}: a field out of its range"),
+        (
+            changed(2, 0x4f),
+            "4 20: plan {}: set 1, interval 1: power is 122880: out of its range, 0..100000",
+        ),
         (
             [whole, &[0]].concat(),
-            "6 640: plan {}: a fill bit that is not 0, or a surplus byte",
+            "6 640: plan {}: a byte behind the message's end",
         ),
     ]
 }
@@ -893,9 +888,8 @@ fn a_refused_case_comes_first() {
     let scratch = Scratch::new("refused-case");
     let [_, plan] = scratch.day(&two_set_day());
     let empty = scratch.file("empty", &[]);
-    let expected = format!(
-        "refused 2 0: case {plan}: wrong kind, or an edition that is unknown or unlike the case's"
-    );
+    let expected =
+        format!("refused 2 0: case {plan}: kind is 2: this is no case (it says to be a plan)");
     assert_eq!(complaint(&["judge", &plan, &empty], 2), expected);
     assert_eq!(complaint(&["breaches", &plan, &empty], 2), expected);
     assert_eq!(complaint(&["inspect", &plan], 2), expected);
@@ -905,7 +899,6 @@ fn a_refused_case_comes_first() {
 #[test]
 fn another_edition_is_told() {
     let scratch = Scratch::new("editions");
-    let meaning = "wrong kind, or an edition that is unknown or unlike the case's";
     let messages = Edition::ALL.map(|edition| {
         let (case, plan) = in_edition(edition, two_set_day()).messages();
         let name = |kind: &str| format!("{kind}-{edition:?}");
@@ -916,7 +909,9 @@ fn another_edition_is_told() {
     });
     for [case, own] in &messages {
         for [_, plan] in messages.iter().filter(|[_, plan]| plan != own) {
-            let expected = format!("refused 2 4: plan {plan}: {meaning}");
+            let edition = fs::read(plan).expect("a plan")[0] & 15;
+            let words = format!("edition is {edition}: unlike the case's");
+            let expected = format!("refused 2 4: plan {plan}: {words}");
             assert_eq!(complaint(&["judge", case, plan], 2), expected);
             assert_eq!(complaint(&["breaches", case, plan], 2), expected);
         }
@@ -925,7 +920,8 @@ fn another_edition_is_told() {
     let mut case = fs::read(newest).expect("a case");
     case[0] = 0x16;
     let unknown = scratch.file("unknown", &case);
-    let expected = format!("refused 2 4: case {unknown}: {meaning}");
+    let words = "edition is 6: an edition that is unknown";
+    let expected = format!("refused 2 4: case {unknown}: {words}");
     assert_eq!(complaint(&["inspect", &unknown], 2), expected);
 }
 
@@ -942,14 +938,38 @@ fn a_day_that_is_too_large_is_told() {
         day.plan = Plan::plain(vec![vec![Setting::default(); devices]; intervals]);
         scratch.day(&day)
     };
-    for (edition, devices, intervals, bit) in [
-        (Edition::Three, 17, 48, 8),
-        (Edition::Three, 16, 49, 13),
-        (Edition::Four, 65, 96, 8),
-        (Edition::Four, 64, 97, 15),
+    for (edition, devices, intervals, bit, meaning) in [
+        (
+            Edition::Three,
+            17,
+            48,
+            8,
+            "sets is 17: out of its range, 1..16",
+        ),
+        (
+            Edition::Three,
+            16,
+            49,
+            13,
+            "intervals is 49: out of its range, 1..48",
+        ),
+        (
+            Edition::Four,
+            65,
+            96,
+            8,
+            "sets is 65: out of its range, 1..64",
+        ),
+        (
+            Edition::Four,
+            64,
+            97,
+            15,
+            "intervals is 97: out of its range, 1..96",
+        ),
     ] {
         let [case, plan] = large(edition, devices, intervals);
-        let meaning = "a count out of range, or unlike the case's";
+        let meaning = format!("count of {meaning}");
         let expected = format!("refused 3 {bit}: case {case}: {meaning}");
         assert_eq!(complaint(&["inspect", &case], 2), expected);
         assert_eq!(complaint(&["judge", &case, &plan], 2), expected);
@@ -976,7 +996,8 @@ fn most_starts_above_96_are_told() {
     assert_eq!(bytes[69], 96);
     bytes[69] = 97;
     let above = scratch.file("above", &bytes);
-    let expected = format!("refused 4 553: case {above}: a field out of its range");
+    let words = "set 1: starts 1 most is 97: out of its range, 0..96";
+    let expected = format!("refused 4 553: case {above}: {words}");
     assert_eq!(complaint(&["judge", &above, &plan], 2), expected);
 }
 
@@ -991,14 +1012,16 @@ fn flows_and_limits_out_of_their_range_are_told() {
     assert_eq!(field(&bytes, 53, 17), 100_000);
     put(&mut bytes, 53, 17, 100_001);
     let above = scratch.file("above", &bytes);
-    let expected = format!("refused 4 53: case {above}: a field out of its range");
+    let words = "link limit is 100001: out of its range, 0..100000";
+    let expected = format!("refused 4 53: case {above}: {words}");
     assert_eq!(complaint(&["inspect", &above], 2), expected);
     let mut bytes = fs::read(&plan).expect("a plan");
     assert_eq!(field(&bytes, 434, 18), (1 << 18) - 100_000);
-    for flow in [100_001, (1 << 18) - 100_001] {
+    for (flow, told) in [(100_001, "100001"), ((1 << 18) - 100_001, "-100001")] {
         put(&mut bytes, 434, 18, flow);
         let beyond = scratch.file("beyond", &bytes);
-        let expected = format!("refused 4 434: plan {beyond}: a field out of its range");
+        let words = format!("flow, interval 1 is {told}: out of its range, -100000..100000");
+        let expected = format!("refused 4 434: plan {beyond}: {words}");
         assert_eq!(complaint(&["judge", &case, &beyond], 2), expected);
     }
 }
@@ -1018,18 +1041,24 @@ fn a_contradiction_in_a_case_is_told() {
     floored.case.devices[0].terms[0].blocks[0].floor = 101;
     let larger = in_edition(Edition::Four, floored.clone());
     let barred = in_edition(Edition::Five, floored.clone());
-    for (day, bit) in [
-        (real, 1_514),
-        (reactive, 756),
-        (floored, 579),
-        (larger, 582),
-        (barred, 600),
+    let floor = "set 1, interval 1: block 1 floor is 101: above its cap";
+    for (day, bit, words) in [
+        (
+            real,
+            1_514,
+            "set 2, interval 2: pmax is 200: pmin is above it",
+        ),
+        (
+            reactive,
+            756,
+            "set 1, interval 1: qmax is 11: qmin is above it",
+        ),
+        (floored, 579, floor),
+        (larger, 582, floor),
+        (barred, 600, floor),
     ] {
         let [case, plan] = scratch.day(&day);
-        let expected = format!(
-            "refused 5 {bit}: case {case}: pmin above pmax, a floor above its cap, qmin above qmax, a \
-             window's start after its end, its end after the day's, or a zone bit above the zone count"
-        );
+        let expected = format!("refused 5 {bit}: case {case}: {words}");
         for words in [
             vec!["inspect", &case],
             vec!["judge", &case, &plan],
@@ -1075,21 +1104,22 @@ fn output_that_cannot_be_written_is_told() {
         .starts_with(b"desk: cannot write standard output: "));
 }
 
-const JUDGE: &str = "usage: desk judge CASE PLAN [--result FILE]";
-const BREACHES: &str = "usage: desk breaches CASE PLAN";
-const INSPECT: &str = "usage: desk inspect CASE";
+const JUDGE: &str = "usage: desk judge CASE PLAN.. [--result FILE] [--json]";
+const BREACHES: &str = "usage: desk breaches CASE PLAN [--by rule|set] [--rule N] [--set N] [--interval N] [--csv] [--json]";
+const INSPECT: &str = "usage: desk inspect CASE [--json]";
 const RENUMBER: &str = "usage: desk renumber CASE PLAN.. --order ORDER --out FOLDER";
+const MEND: &str = "usage: desk mend CASE PLAN [-o OUT] [--json]";
 
 /// Wrong words, and what is complained of.
-const WRONG: [(&str, &str); 25] = [
+const WRONG: [(&str, &str); 32] = [
     ("", "no verb"),
     ("solve c p", "unknown verb solve"),
     ("judge", JUDGE),
     ("judge c", JUDGE),
-    ("judge c p q", JUDGE),
+    ("judge c p q --result f", JUDGE),
     ("judge c p --result", "--result needs a file"),
     ("judge c p --resul f", "unknown option --resul"),
-    ("judge c p --result f --result g", "unknown option --result"),
+    ("judge c p --result f --result g", "--result twice"),
     ("breaches c", BREACHES),
     ("breaches c p q", BREACHES),
     ("breaches c p --result f", BREACHES),
@@ -1097,6 +1127,13 @@ const WRONG: [(&str, &str); 25] = [
     ("inspect c p", INSPECT),
     ("inspect c --result f", INSPECT),
     ("inspect c --order 1", INSPECT),
+    ("inspect c -o f", INSPECT),
+    ("mend", MEND),
+    ("mend c", MEND),
+    ("mend c p q", MEND),
+    ("mend c p --result f", MEND),
+    ("mend c p --out f", MEND),
+    ("mend c p -o", "-o needs a file"),
     ("judge c p --out f", JUDGE),
     ("renumber --order 1 --out f", RENUMBER),
     ("renumber c p --order 1", RENUMBER),
@@ -1129,9 +1166,16 @@ fn wrong_usage_is_told() {
 
 #[test]
 fn help_tells_usage_and_statuses() {
-    for words in [&["--help"][..], &["-h"], &["judge", "--help"]] {
+    for words in [&["--help"][..], &["-h"]] {
         let text = answer(words, 0);
-        for part in ["judge CASE PLAN", "breaches CASE PLAN", "inspect CASE"] {
+        for part in [
+            "judge CASE PLAN",
+            "breaches CASE PLAN",
+            "inspect CASE",
+            "market CASE PLAN OUT",
+            "show CASE MESSAGE",
+            "mend CASE PLAN [-o OUT] [--json]",
+        ] {
             assert!(text.contains(part), "{text}");
         }
         for status in 0..=4 {
@@ -1292,7 +1336,7 @@ fn renew_writes_the_newest_edition() {
     assert_eq!(lines, "case 258\nplan 111\n");
     assert_eq!(fs::read(case_out).expect("it is written"), new_case);
     assert_eq!(fs::read(plan_out).expect("it is written"), new_plan);
-    let verdict = answer(&["judge", case_out, plan_out], 1);
+    let verdict = verdict_of(&["judge", case_out, plan_out], 1);
     assert_eq!(verdict, "broken 5 2 1 0\n");
     // Once more, over files that are there: as they stand.
     let again = [
@@ -1441,7 +1485,7 @@ fn renumber_writes_the_sets_in_another_order() {
         ("both", "broken 16 2 1 0\n", 1),
     ] {
         let words = ["judge", &there("case"), &there(plan)];
-        assert_eq!(answer(&words, status), verdict);
+        assert_eq!(verdict_of(&words, status), verdict);
     }
     // Back, over files that are there: the newest edition of what it was.
     let (folder, again) = scratch.folder("again");
@@ -1552,4 +1596,379 @@ fn renumbered_cases_of_the_corpus_are_the_references() {
     });
     println!("{runs} of {cases} cases, {plans_written} plans");
     assert!(runs > 20 && plans_written > 100);
+}
+
+/// The two-set day's copy, byte by byte: the header, and in interval 2 a start of device 1.
+#[test]
+fn market_writes_the_copy() {
+    let scratch = Scratch::new("market");
+    let [case, plan] = scratch.day(&lettered('a'));
+    let copy = scratch.path("copy");
+    assert_eq!(answer(&["market", &case, &plan, &copy], 0), "copy 10\n");
+    let by_hand = [0x41, 0x10, 0x40, 0, 0, 0, 0x40, 0, 0, 0];
+    assert_eq!(fs::read(&copy).expect("it is written"), by_hand);
+    // Once more, over a file that is there.
+    let over = scratch.file("over", b"longer than a copy");
+    assert_eq!(answer(&["market", &case, &plan, &over], 0), "copy 10\n");
+    assert_eq!(fs::read(&over).expect("it is written"), by_hand);
+    // Other prices and costs give the same file.
+    let mut dearer = lettered('a');
+    dearer.case.mismatch_price = 7;
+    dearer.case.devices[0].start_cost = 5;
+    dearer.case.devices[0].startup_states[1].cost = 3;
+    dearer.case.devices[0].terms[1].blocks[0].price = -9;
+    let (dearer, _) = dearer.messages();
+    let dearer = scratch.file("dearer", &dearer);
+    assert_eq!(answer(&["market", &dearer, &plan, &over], 0), "copy 10\n");
+    assert_eq!(fs::read(&over).expect("it is written"), by_hand);
+    assert_ne!(
+        answer(&["judge", &dearer, &plan], 0),
+        answer(&["judge", &case, &plan], 0)
+    );
+    // Nothing is left beside them.
+    let left = fs::read_dir(&scratch.0).expect("the directory").count();
+    assert_eq!(left, 5);
+}
+
+/// A broken plan, a refused message, an output that is an input or cannot be written: nothing is
+/// written, and what was there stays.
+#[test]
+fn market_writes_a_whole_file_or_none() {
+    let scratch = Scratch::new("market-whole");
+    let (case, plan) = lettered('a').messages();
+    let (_, broken) = lettered('b').messages();
+    let cut_case = scratch.file("cut-case", &case[..1]);
+    let cut_plan = scratch.file("cut-plan", &plan[..1]);
+    let [case, plan] = [scratch.file("case", &case), scratch.file("plan", &plan)];
+    let broken = scratch.file("broken", &broken);
+    let out = scratch.file("out", b"out");
+    let told = answer(&["market", &case, &broken, &out], 1);
+    assert_eq!(told, "broken 5 2 1 0\n");
+    let line = complaint(&["market", &cut_case, &plan, &out], 2);
+    assert!(
+        line.starts_with(&format!("refused 1 8: case {cut_case}: ")),
+        "{line}"
+    );
+    let line = complaint(&["market", &case, &cut_plan, &out], 2);
+    assert!(
+        line.starts_with(&format!("refused 1 8: plan {cut_plan}: ")),
+        "{line}"
+    );
+    let linked = scratch.path("linked");
+    std::os::unix::fs::symlink(&plan, &linked).expect("a link");
+    for input in [&case, &plan, &linked] {
+        let line = complaint(&["market", &case, &plan, input], 3);
+        assert_eq!(line, format!("desk: {input} is an input (see desk --help)"));
+    }
+    let nowhere = scratch.path("no-such-folder/out");
+    let line = complaint(&["market", &case, &plan, &nowhere], 3);
+    assert!(
+        line.starts_with(&format!("desk: cannot write {nowhere}: ")),
+        "{line}"
+    );
+    for words in [
+        vec!["market"],
+        vec!["market", &case, &plan],
+        vec!["market", &case, &plan, &out, &out],
+        vec!["market", &case, &plan, &out, "--result", &out],
+    ] {
+        let line = complaint(&words, 3);
+        assert_eq!(
+            line,
+            "desk: usage: desk market CASE PLAN OUT (see desk --help)"
+        );
+    }
+    assert_eq!(fs::read(&out).expect("it is there"), b"out");
+    assert_eq!(fs::read_dir(&scratch.0).expect("the directory").count(), 7);
+}
+
+/// The files of a day's case, completion and copy.
+fn shown_files(scratch: &Scratch, day: &Day) -> [String; 3] {
+    let [case, plan] = scratch.day(day);
+    let [completion, copy] = [scratch.path("completion"), scratch.path("copy")];
+    answer(&["judge", &case, &plan, "--result", &completion], 0);
+    answer(&["market", &case, &plan, &copy], 0);
+    [case, completion, copy]
+}
+
+/// The worked day: 30 kW in the first block, then a start in state 2 with 100 and 50 kW; the load at
+/// 30, then 150 kW.
+#[test]
+fn show_prints_a_completion_and_a_copy() {
+    let scratch = Scratch::new("show");
+    let [case, completion, copy] = shown_files(&scratch, &lettered('a'));
+    assert_eq!(
+        answer(&["show", &case, &completion], 0),
+        "completion 2 2 0\n\
+         edition 1\n\
+         device 1, interval 1: neither starts nor stops; no startup state; \
+         block powers 30, 0, 0, 0 kW\n\
+         device 1, interval 2: starts; startup state 2; block powers 100, 50, 0, 0 kW\n\
+         device 2, interval 1: neither starts nor stops; no startup state; \
+         block powers 30, 0, 0, 0 kW\n\
+         device 2, interval 2: neither starts nor stops; no startup state; \
+         block powers 150, 0, 0, 0 kW\n\
+         interval 1: mismatch 0 kW\n\
+         interval 2: mismatch 0 kW\n\
+         surplus 167860 grains\n"
+    );
+    assert_eq!(
+        answer(&["show", &case, &copy], 0),
+        "market copy 2 2 0\n\
+         edition 1\n\
+         device 1, interval 1: neither starts nor stops\n\
+         device 1, interval 2: starts\n\
+         device 2, interval 1: neither starts nor stops\n\
+         device 2, interval 2: neither starts nor stops\n\
+         interval 1: mismatch 0 kW\n\
+         interval 2: mismatch 0 kW\n"
+    );
+}
+
+/// The lines of a day's copy behind those of its devices' intervals.
+fn shown_slacks(scratch: &Scratch, day: &Day) -> Vec<String> {
+    let [case, _, copy] = shown_files(scratch, day);
+    let text = answer(&["show", &case, &copy], 0);
+    let lines = text.lines().skip(2 + 4);
+    lines.map(String::from).collect()
+}
+
+/// Shortfalls of day (h), of edition 2's zone, the overrun of day (l), and bars 60 kW apart.
+#[test]
+fn show_prints_shortfalls_mismatches_and_overruns() {
+    let scratch = Scratch::new("show-slacks");
+    let zone = |interval: usize, watts: u64| {
+        format!(
+            "zone 1, interval {interval}: shortfalls rgu {watts} W, rgd 0 W, scr {watts} W, \
+             nsc {watts} W, rru 0 W, rrd 0 W"
+        )
+    };
+    let none = |interval: usize| format!("interval {interval}: mismatch 0 kW");
+    assert_eq!(
+        shown_slacks(&scratch, &lettered('h')),
+        [zone(1, 1_500), zone(2, 7_500), none(1), none(2)]
+    );
+    let [case, completion, _] = shown_files(&scratch, &lettered('h'));
+    let text = answer(&["show", &case, &completion], 0);
+    assert!(text.ends_with("\nsurplus -1452140 grains\n"), "{text}");
+    assert_eq!(
+        shown_slacks(&scratch, &reactive_days()[4].1),
+        [
+            format!("{}; qru 1000 var, qrd 0 var", zone(1, 0)),
+            format!("{}; qru 0 var, qrd 1000 var", zone(2, 0)),
+            format!("{}; reactive mismatch 1 kvar", none(1)),
+            format!("{}; reactive mismatch 0 kvar", none(2)),
+        ]
+    );
+    let [case, _, copy] = shown_files(&scratch, &lettered('l'));
+    let text = answer(&["show", &case, &copy], 0);
+    let overrun = "device 1, energy window 1: overrun 4500 kW min";
+    assert_eq!(text.lines().nth(4), Some(overrun));
+    assert_eq!(
+        shown_slacks(&scratch, &link_days()[2].1)[0],
+        "interval 1: mismatch 60 kW on bar 0, 60 kW on bar 1; \
+         reactive mismatch 0 kvar on bar 0, 0 kvar on bar 1"
+    );
+}
+
+/// Refusals name the case, the completion or the copy; another kind is refused as it stands.
+#[test]
+fn show_tells_refusals() {
+    let scratch = Scratch::new("show-refusals");
+    let [case, completion, copy] = shown_files(&scratch, &lettered('a'));
+    let bytes = |path: &str| fs::read(path).expect("it is there");
+    let tell = |case: &str, message: &str, line: &str| {
+        let told = complaint(&["show", case, message], 2);
+        assert!(told.starts_with(line), "{told}");
+    };
+    let cut_case = scratch.file("cut-case", &bytes(&case)[..1]);
+    tell(&cut_case, &copy, &format!("refused 1 8: case {cut_case}: "));
+    let cut = scratch.file("cut", &bytes(&completion)[..1]);
+    tell(&case, &cut, &format!("refused 1 8: completion {cut}: "));
+    let longer = scratch.file("longer", &[&bytes(&copy)[..], &[0]].concat());
+    tell(
+        &case,
+        &longer,
+        &format!("refused 6 80: market copy {longer}: "),
+    );
+    let mut unlike = bytes(&copy);
+    unlike[2] |= 4;
+    let unlike = scratch.file("unlike", &unlike);
+    tell(
+        &case,
+        &unlike,
+        &format!("refused 3 19: market copy {unlike}: "),
+    );
+    let other = scratch.file("other", &[0x11]);
+    tell(&case, &other, &format!("refused 2 0: message {other}: "));
+    let empty = scratch.file("empty", &[]);
+    tell(&case, &empty, &format!("refused 1 0: message {empty}: "));
+    for words in [
+        vec!["show", &case],
+        vec!["show", &case, &copy, &copy],
+        vec!["show", &case, &copy, "--result", &copy],
+    ] {
+        let line = complaint(&words, 3);
+        assert_eq!(
+            line,
+            "desk: usage: desk show CASE MESSAGE [--json] (see desk --help)"
+        );
+    }
+}
+
+/// Plan (b): 150 kW of device 1 in place of 151; then 1 kW of load more at 20 for 60 minutes, and 1 kW
+/// of mismatch at 1,000: 167,860 + 1,200 - 60,000.
+#[test]
+fn mend_tells_and_writes_the_mended_plan() {
+    let scratch = Scratch::new("mend");
+    let day = lettered('b');
+    let mut mended = day.clone();
+    mended.plan.intervals[1][0].online_power = 150;
+    for edition in Edition::ALL {
+        let [case, plan] = scratch.day(&in_edition(edition, day.clone()));
+        let told = "mended 2 1 150\n\
+             interval 2, device 1: online power 150 kW in place of 151 kW, 1 kW less\n\
+             mends 5 2 1 0 rule 5 (ramp up) at interval 2, device 1: power rises by 121 kW \
+             (from 30 to 151), at most 120 kW (60 min at 2 kW/min starting)\n\
+             then accepted 109060\n";
+        assert_eq!(answer(&["mend", &case, &plan], 0), told);
+        let out = scratch.file("out", b"longer than nothing");
+        assert_eq!(answer(&["mend", &case, &plan, "-o", &out], 0), told);
+        let (_, expected) = in_edition(edition, mended.clone()).messages();
+        assert_eq!(fs::read(&out).expect("it is written"), expected);
+        assert_eq!(answer(&["judge", &case, &out], 0), "accepted 109060\n");
+    }
+    // Nothing is left beside them.
+    assert_eq!(fs::read_dir(&scratch.0).expect("the directory").count(), 3);
+}
+
+/// A power of a set that is off breaks its highest power and, for it has no blocks, its caps: 0 mends
+/// both. The load that falls too far is mended in the interval before.
+#[test]
+fn mend_tells_every_rule_that_it_mends() {
+    let scratch = Scratch::new("mend-rules");
+    let mut day = two_set_day();
+    day.case.devices[0].terms[0].blocks.clear();
+    day.case.devices[0].ramps.starting = 3;
+    day.plan.intervals[0][0].online_power = 7;
+    let [case, plan] = scratch.day(&day);
+    let text = answer(&["mend", &case, &plan], 0);
+    let lines: Vec<&str> = text.lines().collect();
+    assert_eq!(
+        lines[..4],
+        [
+            "mended 1 1 0",
+            "interval 1, device 1: online power 0 kW in place of 7 kW, 7 kW less",
+            "mends 16 1 1 0 rule 16 (highest online power) at interval 1, device 1: online power \
+             with up reserves is 7 kW (online 7), at most 0 kW (while off)",
+            "mends 19 1 1 0 rule 19 (block caps) at interval 1, device 1: power is 7 kW (online 7), \
+             at most 0 kW (no blocks)",
+        ]
+    );
+    let mut day = two_set_day();
+    day.case.devices[1].ramps.down = 1;
+    day.plan.intervals[0][1].online_power = 90;
+    day.plan.intervals[1][1].online_power = 28;
+    let [case, plan] = scratch.day(&day);
+    let text = answer(&["mend", &case, &plan], 0);
+    assert!(
+        text.starts_with(
+            "mended 1 2 88\n\
+             interval 1, device 2: online power 88 kW in place of 90 kW, 2 kW less\n\
+             mends 6 2 2 0 rule 6 (ramp down) at interval 2, device 2: "
+        ),
+        "{text}"
+    );
+}
+
+/// A plan that is accepted, one that nothing mends, a refused message, an output that is an input or
+/// cannot be written: nothing is written, and what was there stays.
+#[test]
+fn mend_writes_a_mended_plan_or_nothing() {
+    let scratch = Scratch::new("mend-nothing");
+    let (case, plan) = lettered('a').messages();
+    let (case_g, plan_g) = lettered('g').messages();
+    let (_, broken) = lettered('b').messages();
+    let cut_case = scratch.file("cut-case", &case[..1]);
+    let cut_plan = scratch.file("cut-plan", &plan[..1]);
+    let [case, plan] = [scratch.file("case", &case), scratch.file("plan", &plan)];
+    let [case_g, plan_g] = [
+        scratch.file("case-g", &case_g),
+        scratch.file("plan-g", &plan_g),
+    ];
+    let broken = scratch.file("broken", &broken);
+    let out = scratch.file("out", b"out");
+    let told = answer(&["mend", &case, &plan, "-o", &out], 0);
+    assert_eq!(told, "accepted 167860\n");
+    let told = answer(&["mend", &case_g, &plan_g, "-o", &out], 1);
+    assert_eq!(
+        told,
+        "no mend: no replacement of one online power makes this plan accepted\n"
+    );
+    let line = complaint(&["mend", &cut_case, &broken, "-o", &out], 2);
+    assert!(
+        line.starts_with(&format!("refused 1 8: case {cut_case}: ")),
+        "{line}"
+    );
+    let line = complaint(&["mend", &case, &cut_plan, "-o", &out], 2);
+    assert!(
+        line.starts_with(&format!("refused 1 8: plan {cut_plan}: ")),
+        "{line}"
+    );
+    let linked = scratch.path("linked");
+    std::os::unix::fs::symlink(&broken, &linked).expect("a link");
+    for input in [&case, &broken, &linked] {
+        let line = complaint(&["mend", &case, &broken, "-o", input], 3);
+        assert_eq!(line, format!("desk: {input} is an input (see desk --help)"));
+    }
+    let nowhere = scratch.path("no-such-folder/out");
+    let line = complaint(&["mend", &case, &broken, "-o", &nowhere], 3);
+    assert!(
+        line.starts_with(&format!("desk: cannot write {nowhere}: ")),
+        "{line}"
+    );
+    assert_eq!(fs::read(&out).expect("it is there"), b"out");
+    assert_eq!(fs::read_dir(&scratch.0).expect("the directory").count(), 9);
+}
+
+/// On a part of the corpora: the file is the reference's mended plan, the lines are those of every
+/// breach, and the surplus is the reference's.
+#[test]
+fn mends_of_the_corpus_are_the_references() {
+    let scratch = Scratch::new("mend-corpus");
+    let (mut pairs, mut mended, mut none) = (0, 0, 0);
+    each_broken(|case_bytes, plan_bytes, breaches| {
+        pairs += 1;
+        if pairs % 25 != 0 {
+            return;
+        }
+        let (edition, figures) = read_case(case_bytes).expect("it passes reading");
+        let old = read_plan(edition, &figures, plan_bytes).expect("it passes reading");
+        let [case, plan] = [
+            scratch.file("case", case_bytes),
+            scratch.file("plan", plan_bytes),
+        ];
+        let out = scratch.path("out");
+        let Some((mend, surplus)) = mend_of(&figures, &old) else {
+            let told = answer(&["mend", &case, &plan, "-o", &out], 1);
+            assert!(told.starts_with("no mend: "));
+            none += 1;
+            return;
+        };
+        let told = answer(&["mend", &case, &plan, "-o", &out], 0);
+        let expected = encode_plan(edition, &mend.applied(&old)).bytes;
+        assert_eq!(fs::read(&out).expect("it is written"), expected);
+        assert!(
+            told.ends_with(&format!("\nthen accepted {surplus}\n")),
+            "{told}"
+        );
+        let rules: Vec<[usize; 4]> = told
+            .lines()
+            .filter_map(|line| line.strip_prefix("mends "))
+            .map(|line| Sentence::of(line).numbers)
+            .collect();
+        assert_eq!(rules, breaches);
+        mended += 1;
+    });
+    assert!(mended > 5 && none > 20, "{mended} mended, {none} not");
 }

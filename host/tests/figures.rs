@@ -6,9 +6,9 @@ mod common;
 use common::{each_case, each_pair};
 use host::day::Day;
 use host::explain::{explain, Breach};
-use host::message::{
-    read_case, read_plan, Block, Case, Cell, Device, Interval, Line, Link, Plan, Reactive, Row,
-    Setting, StartWindow, Zone,
+use host::messages::{
+    intervals_of, read_case, read_plan, Block, Case, Cell, Device, EnergyWindow, Line, Link, Plan,
+    Reactive, Row, Setting, StartWindow, StartupState, Zone,
 };
 use reference::breaches::breaches_of;
 use reference::case::{self, Reserves, Side, Status};
@@ -25,7 +25,7 @@ fn eight(reserves: &Reserves) -> [i64; 8] {
     reserves.in_order().map(small)
 }
 
-/// The reference's case, as far as words are made of it.
+/// The reference's case.
 fn case_of(edition: Edition, case: &case::Case) -> Case {
     Case {
         edition: small(edition.figure()),
@@ -33,23 +33,16 @@ fn case_of(edition: Edition, case: &case::Case) -> Case {
         mismatch_price: small(case.mismatch_price),
         overrun_price: small(case.overrun_price),
         link_limit: small(case.link_limit),
-        intervals: spans(&case.durations)
-            .iter()
-            .map(|span| Interval {
-                start: small(span.start),
-                end: small(span.end),
-            })
-            .collect(),
+        intervals: intervals_of(&case.durations.iter().map(|&d| small(d)).collect::<Vec<_>>()),
         devices: case.devices.iter().map(device_of).collect(),
     }
 }
 
 fn zone_of(zone: &case::Zone) -> Zone {
-    let [.., qru_price, qrd_price] = zone.shortfall_prices;
-    let minima = |&[_, _, qru, qrd]: &[i128; 4]| [small(qru), small(qrd)];
     Zone {
-        prices: [small(qru_price), small(qrd_price)],
-        minima: zone.minima.iter().map(minima).collect(),
+        shares: zone.shares.map(small),
+        prices: zone.shortfall_prices.map(small),
+        minima: zone.minima.iter().map(|minima| minima.map(small)).collect(),
     }
 }
 
@@ -70,6 +63,7 @@ fn link_of(link: &case::Link) -> Link {
 
 fn device_of(device: &case::Device) -> Device {
     Device {
+        name: String::new(),
         consuming: device.side == Side::Consuming,
         in_zone: device.zone_bits,
         initially_on: device.initially_on,
@@ -85,12 +79,28 @@ fn device_of(device: &case::Device) -> Device {
         start_cost: small(device.start_cost),
         stop_cost: small(device.stop_cost),
         reserve_limits: eight(&device.reserve_limits),
-        startup_states: device.startup_states.len(),
+        startup_states: device.startup_states.iter().map(state_of).collect(),
         start_windows: device.start_windows.iter().map(window_of).collect(),
-        energy_windows: device.energy_windows.len(),
+        energy_windows: device.energy_windows.iter().map(energy_of).collect(),
         link: link_of(&device.link),
         bar: device.bar as i64,
         cells: device.terms.iter().map(cell_of).collect(),
+    }
+}
+
+fn state_of(state: &case::StartupState) -> StartupState {
+    StartupState {
+        longest_downtime: small(state.longest_downtime),
+        cost: small(state.cost),
+    }
+}
+
+fn energy_of(window: &case::EnergyWindow) -> EnergyWindow {
+    EnergyWindow {
+        is_minimum: window.kind == case::EnergyKind::Minimum,
+        start: small(window.start),
+        end: small(window.end),
+        energy: small(window.energy),
     }
 }
 
@@ -112,6 +122,7 @@ fn cell_of(terms: &case::Terms) -> Cell {
         pmin: small(terms.pmin),
         pmax: small(terms.pmax),
         blocks: terms.blocks.iter().map(block_of).collect(),
+        prices: prices_of(terms),
         qmin: small(terms.qmin),
         qmax: small(terms.qmax),
     }
@@ -121,10 +132,19 @@ fn block_of(block: &case::Block) -> Block {
     Block {
         cap: small(block.cap),
         floor: small(block.floor),
+        price: small(block.price),
     }
 }
 
-fn plan_of(plan: &plan::Plan) -> Plan {
+/// Those of the eight, then of the two reactive reserves.
+fn prices_of(terms: &case::Terms) -> [i64; 10] {
+    let reactive = terms.reactive_prices.in_order().map(small);
+    let mut prices = eight(&terms.reserve_prices).to_vec();
+    prices.extend(reactive);
+    prices.try_into().expect("ten prices")
+}
+
+fn plan_of(edition: Edition, plan: &plan::Plan) -> Plan {
     let setting = |setting: &plan::Setting| Setting {
         on: setting.on,
         online: small(setting.online_power),
@@ -140,6 +160,7 @@ fn plan_of(plan: &plan::Plan) -> Plan {
         flow: small(*flow),
     };
     Plan {
+        edition: small(edition.figure()),
         rows: plan.intervals.iter().zip(&plan.flows).map(row).collect(),
     }
 }
@@ -158,7 +179,7 @@ fn messages_hold_the_references_figures() {
         cases[index] += 1;
         for message in messages {
             if let Ok(plan) = plan::read_plan(edition, &case, message) {
-                assert_eq!(read_plan(&read, message), Some(plan_of(&plan)));
+                assert_eq!(read_plan(&read, message), Some(plan_of(edition, &plan)));
                 plans[index] += 1;
             }
         }

@@ -1,5 +1,5 @@
-/* Prints what the functions of the header tell of files: of a case and a plan each of those that take a case, of a
-   batch the splitter. */
+/* Prints what the functions of the header tell of files: of a case and a plan each of those that take a case, of these
+   two behind the word "market" what concerns the market's copy, behind "mend" the mend, of a batch the splitter. */
 #include "kadunfo.h"
 
 #include <inttypes.h>
@@ -13,6 +13,8 @@
 static uint8_t kase[LONGEST_FILE], plan[LONGEST_FILE], batch[LONGEST_FILE];
 static uint8_t result[KADUNFO_LONGEST_COMPLETION], list[KADUNFO_LONGEST_LIST];
 static uint8_t new_case[KADUNFO_LONGEST_CASE], new_plan[KADUNFO_LONGEST_PLAN], again[KADUNFO_LONGEST_CASE];
+static uint8_t copy[KADUNFO_LONGEST_COPY];
+static uint64_t table[KADUNFO_MOST_NUMBERS];
 static uint64_t figures[4];
 
 static size_t load(const char *path, uint8_t *bytes) {
@@ -106,6 +108,60 @@ static int tell_pair(size_t case_length, size_t plan_length) {
     return tell_writing(case_length, plan_length) && untouched_when_short(case_length, plan_length);
 }
 
+static void tell_table(const char *name, uint64_t word) {
+    size_t numbers = word == KADUNFO_READ ? (size_t)figures[0] : 0;
+    tell(name, word);
+    for (size_t i = 0; i < numbers; i++)
+        printf("%" PRIu64 "%s", table[i], i + 1 < numbers ? " " : "\n");
+}
+
+/* With three figures nothing is done: neither the copy, nor the table, nor the figures change. */
+static int uncopied_when_short(size_t case_length, size_t plan_length) {
+    memset(copy, BEFORE, sizeof copy);
+    memset(table, BEFORE, sizeof table);
+    memset(figures, BEFORE, sizeof figures);
+    if (kadunfo_market(kase, case_length, plan, plan_length, copy, sizeof copy, figures, 3) != KADUNFO_FIGURES_SHORT
+        || kadunfo_read_completion(kase, case_length, plan, plan_length, table, KADUNFO_MOST_NUMBERS, figures, 3)
+            != KADUNFO_FIGURES_SHORT
+        || kadunfo_read_market(kase, case_length, plan, plan_length, table, KADUNFO_MOST_NUMBERS, figures, 3)
+            != KADUNFO_FIGURES_SHORT)
+        return 0;
+    for (size_t i = 0; i < sizeof copy; i++)
+        if (copy[i] != BEFORE)
+            return 0;
+    for (size_t i = 0; i < KADUNFO_MOST_NUMBERS; i++)
+        if (table[i] != UINT64_C(0xa5a5a5a5a5a5a5a5))
+            return 0;
+    return figures_untouched();
+}
+
+/* The completion and the copy of a plan, each by both readers, with tables of one number and of enough. */
+static int tell_copies(size_t case_length, size_t plan_length) {
+    tell("short", kadunfo_market(kase, case_length, plan, plan_length, copy, 1, figures, 4));
+    uint64_t word = kadunfo_market(kase, case_length, plan, plan_length, copy, sizeof copy, figures, 4);
+    tell("market", word);
+    size_t copy_length = (size_t)figures[0];
+    if (word == KADUNFO_COPIED) {
+        kadunfo_judge(kase, case_length, plan, plan_length, result, 1, figures, 4);
+        size_t length = (size_t)figures[1];
+        kadunfo_judge(kase, case_length, plan, plan_length, result, length, figures, 4);
+        tell("desk-short", kadunfo_read_completion(kase, case_length, result, length, table, 1, figures, 4));
+        tell_table("desk", kadunfo_read_completion(kase, case_length, result, length, table, KADUNFO_MOST_NUMBERS, figures, 4));
+        tell_table("desk", kadunfo_read_completion(kase, case_length, copy, copy_length, table, KADUNFO_MOST_NUMBERS, figures, 4));
+        tell_table("copy", kadunfo_read_market(kase, case_length, copy, copy_length, table, KADUNFO_MOST_NUMBERS, figures, 4));
+        tell_table("copy", kadunfo_read_market(kase, case_length, result, length, table, KADUNFO_MOST_NUMBERS, figures, 4));
+    }
+    return uncopied_when_short(case_length, plan_length);
+}
+
+/* With three figures nothing is done. */
+static int tell_mend(size_t case_length, size_t plan_length) {
+    uint64_t word = kadunfo_mend(kase, case_length, plan, plan_length, figures, 4);
+    tell(word == KADUNFO_MENDED ? "mended" : word == KADUNFO_UNMENDABLE ? "unmendable" : "mend", word);
+    memset(figures, BEFORE, sizeof figures);
+    return kadunfo_mend(kase, case_length, plan, plan_length, figures, 3) == KADUNFO_FIGURES_SHORT && figures_untouched();
+}
+
 static int tell_batch(size_t length) {
     uint64_t at = 0, word;
     do {
@@ -122,5 +178,9 @@ int main(int count, char **words) {
         return tell_batch(load(words[1], batch)) ? 0 : 2;
     if (count == 3)
         return tell_pair(load(words[1], kase), load(words[2], plan)) ? 0 : 2;
+    if (count == 4 && strcmp(words[1], "market") == 0)
+        return tell_copies(load(words[2], kase), load(words[3], plan)) ? 0 : 2;
+    if (count == 4 && strcmp(words[1], "mend") == 0)
+        return tell_mend(load(words[2], kase), load(words[3], plan)) ? 0 : 2;
     return 1;
 }

@@ -1,12 +1,17 @@
 //! The header by a program in C: compiled with every warning an error, linked with the static
 //! library and run on files.
 
-use std::fs;
-use std::path::{Path, PathBuf};
+mod common;
+
+use std::path::PathBuf;
 use std::process::Command;
 use std::sync::LazyLock;
 
-use host::{LONGEST_CASE, LONGEST_COMPLETION, LONGEST_LIST, LONGEST_MESSAGE, LONGEST_PLAN, STACK};
+use common::{compiled, ran, Scratch};
+use host::{
+    LONGEST_CASE, LONGEST_COMPLETION, LONGEST_COPY, LONGEST_LIST, LONGEST_MESSAGE, LONGEST_PLAN,
+    MOST_NUMBERS, STACK,
+};
 use reference::batch;
 use reference::busiest::busiest_batch;
 use reference::case::read_case;
@@ -16,47 +21,21 @@ use reference::worked_day::{
     example_batch, floor_days, lettered_days, link_days, reactive_days, two_set_day, Day,
 };
 
-const HOST: &str = env!("CARGO_MANIFEST_DIR");
-const SCRATCH: &str = env!("CARGO_TARGET_TMPDIR");
+const HEADER: &str = include_str!("../include/kadunfo.h");
 
-static PROGRAM: LazyLock<PathBuf> = LazyLock::new(compile);
-
-fn compile() -> PathBuf {
-    let program = Path::new(SCRATCH).join("header");
-    let done = Command::new("cc")
-        .args([
-            "-std=c99",
-            "-pedantic",
-            "-Wall",
-            "-Wextra",
-            "-Werror",
-            "-O1",
-        ])
-        .arg(format!("-I{HOST}/include"))
-        .arg(format!("{HOST}/tests/header.c"))
-        .arg(format!("{HOST}/../target/staticlib/libabi.a"))
-        .arg("-o")
-        .arg(&program)
-        .output()
-        .expect("cc runs");
-    let complaints = String::from_utf8_lossy(&done.stderr);
-    assert!(done.status.success(), "{complaints}");
-    program
-}
+static PROGRAM: LazyLock<PathBuf> = LazyLock::new(|| compiled("header"));
 
 /// What the program prints of files with these contents.
 fn run(test: &str, contents: &[&[u8]]) -> String {
-    let files = contents.iter().enumerate().map(|(number, bytes)| {
-        let path = Path::new(SCRATCH).join(format!("header.{test}.{number}"));
-        fs::write(&path, bytes).expect("a scratch file");
-        path
-    });
-    let done = Command::new(&*PROGRAM)
-        .args(files)
-        .output()
-        .expect("the program runs");
-    assert!(done.status.success(), "{done:?}");
-    String::from_utf8(done.stdout).expect("text")
+    run_with(&[], test, contents)
+}
+
+/// The same behind words of its own.
+fn run_with(words: &[&str], test: &str, contents: &[&[u8]]) -> String {
+    let scratch = Scratch::new(test);
+    let numbered = contents.iter().enumerate();
+    let files = numbered.map(|(number, bytes)| scratch.file(&number.to_string(), bytes));
+    ran(Command::new(&*PROGRAM).args(words).args(files))
 }
 
 #[test]
@@ -180,6 +159,52 @@ fn edition_5_in_c() {
     );
 }
 
+/// The two-set day's copy has 10 bytes and 10 numbers, its completion 31; 30 in the first block, then
+/// a start in state 2 with 100 and 50, the load at 30, then 150. Plan (b), and a plan that is cut.
+#[test]
+fn market_in_c() {
+    let tell = |case: &[u8], plan: &[u8]| run_with(&["market"], "market", &[case, plan]);
+    let days = lettered_days();
+    let (case, plan_a) = days[0].1.messages();
+    let (_, plan_b) = days[1].1.messages();
+    assert_eq!(
+        tell(&case, &plan_a),
+        "short 4 7 10 0 0\nmarket 0 10 0 0 0\ndesk-short 4 7 248 0 0\ndesk 0 31 0 0 0\n\
+         0 0 0 30 0 0 0 0 0 0 30 0 0 0 0 1 0 2 100 50 0 0 0 0 0 150 0 0 0 0 167860\n\
+         desk 3 2 0 0 0\ncopy 0 10 0 0 0\n0 0 0 0 0 1 0 0 0 0\ncopy 3 2 0 0 0\n"
+    );
+    assert_eq!(tell(&case, &plan_b), "short 1 5 2 1 0\nmarket 1 5 2 1 0\n");
+    assert_eq!(
+        tell(&case, &plan_a[..1]),
+        "short 3 1 8 0 0\nmarket 3 1 8 0 0\n"
+    );
+    assert_eq!(
+        tell(&case[..1], &plan_a[..1]),
+        "short 2 1 8 0 0\nmarket 2 1 8 0 0\n"
+    );
+}
+
+/// Days (a) and (b), in the newest edition too, case (g), and messages that are cut.
+#[test]
+fn mend_in_c() {
+    let tell = |case: &[u8], plan: &[u8]| run_with(&["mend"], "mend", &[case, plan]);
+    let days = lettered_days();
+    for edition in [Edition::One, Edition::Five] {
+        let messages = |place: usize| {
+            let day = days[place].1.clone();
+            Day { edition, ..day }.messages()
+        };
+        let (case, plan_a) = messages(0);
+        let (_, plan_b) = messages(1);
+        let (case_g, plan_g) = messages(6);
+        assert_eq!(tell(&case, &plan_a), "mend 0 167860 0 0 0\n");
+        assert_eq!(tell(&case, &plan_b), "mended 1 2 1 150 0\n");
+        assert_eq!(tell(&case_g, &plan_g), "unmendable 6 0 0 0 0\n");
+        assert_eq!(tell(&case, &plan_b[..1]), "mend 3 1 8 0 0\n");
+        assert_eq!(tell(&case[..1], &plan_b[..1]), "mend 2 1 8 0 0\n");
+    }
+}
+
 /// The example batch has a case of 210 bytes (66, 455 and 430, 361 and 366 bits), two plans of 80
 /// (19 and 616) and one of 1.
 #[test]
@@ -205,14 +230,15 @@ fn split_in_c() {
 /// The header and the wrappers have the same figures, worked by hand.
 #[test]
 fn figures_are_the_headers() {
-    let header = fs::read_to_string(format!("{HOST}/include/kadunfo.h")).expect("the header");
     let defined = |name: &str| -> Option<usize> {
-        let (_, behind) = header.split_once(&format!("#define KADUNFO_{name} "))?;
+        let (_, behind) = HEADER.split_once(&format!("#define KADUNFO_{name} "))?;
         behind.split_whitespace().next()?.parse().ok()
     };
     for (name, wrapper, by_hand) in [
         ("LONGEST_LIST", LONGEST_LIST, 615_808),
         ("LONGEST_COMPLETION", LONGEST_COMPLETION, 70_876),
+        ("LONGEST_COPY", LONGEST_COPY, 16_340),
+        ("MOST_NUMBERS", MOST_NUMBERS, 46_721),
         ("LONGEST_CASE", LONGEST_CASE, 328_113),
         ("LONGEST_PLAN", LONGEST_PLAN, 158_427),
         ("LONGEST_MESSAGE", LONGEST_MESSAGE, 1_048_576),
@@ -221,6 +247,15 @@ fn figures_are_the_headers() {
         assert_eq!(wrapper, by_hand, "{name}");
         assert_eq!(defined(name), Some(by_hand), "{name}");
     }
+}
+
+/// The desk program's version is the header's, with a number behind it.
+#[test]
+fn version_is_the_headers() {
+    let (_, behind) = HEADER.split_once("#define KADUNFO_VERSION \"").expect("it");
+    let (version, _) = behind.split_once('"').expect("its end");
+    let own = env!("CARGO_PKG_VERSION").rsplit_once('.').map(|own| own.0);
+    assert_eq!(own, Some(version));
 }
 
 /// The length of the largest case's completion, by edition.

@@ -1,24 +1,20 @@
 //! The largest day, every count at its most, by each function in a thread that has the stack which
 //! the header promises to be enough.
 
-use std::thread;
+mod common;
 
+use common::in_promised_stack;
+use host::messages::read_case;
 use host::{
-    breaches, inspect, judge, messages, word, write_case, write_plan, Told, LONGEST_CASE,
-    LONGEST_COMPLETION, LONGEST_MESSAGE, LONGEST_PLAN, STACK,
+    breaches, inspect, judge, market, mend, messages, read_completion, read_market, write_case,
+    write_plan, Copied, Inspected, Listed, Mend, Mended, Read, Verdict, Written, LONGEST_CASE,
+    LONGEST_COMPLETION, LONGEST_COPY, LONGEST_MESSAGE, LONGEST_PLAN, MOST_NUMBERS,
 };
 use reference::busiest::busiest_batch;
 use reference::edition::Edition;
 use reference::judge::judge as expected;
-
-fn in_promised_stack(call: impl FnOnce() -> Told + Send) -> Told {
-    thread::scope(|scope| {
-        let called = thread::Builder::new()
-            .stack_size(STACK)
-            .spawn_scoped(scope, call);
-        called.expect("a thread").join().expect("an answer")
-    })
-}
+use reference::market::market_copy;
+use reference::mend::{mend as expected_mend, Mending};
 
 #[test]
 fn promised_stack_is_enough_for_the_largest_day() {
@@ -30,26 +26,92 @@ fn promised_stack_is_enough_for_the_largest_day() {
     assert!(case.len() < LONGEST_MESSAGE && plan.len() < LONGEST_MESSAGE);
     let counts = in_promised_stack(|| inspect(case));
     assert_eq!(
-        (counts.word, counts.figures),
-        (word::INSPECTED, [64, 96, 4, 0])
+        counts,
+        Inspected::Counts {
+            devices: 64,
+            intervals: 96,
+            zones: 4
+        }
     );
     let mut theirs = vec![0; LONGEST_COMPLETION];
     expected(case, plan, &mut theirs);
     let mut ours = vec![0; LONGEST_COMPLETION];
     let judged = in_promised_stack(|| judge(case, plan, &mut ours));
-    assert_eq!(judged.word, word::ACCEPTED);
+    let Verdict::Accepted { surplus } = judged else {
+        panic!("{judged:?}");
+    };
     assert!(ours == theirs);
     ours.pop();
     let short = in_promised_stack(|| judge(case, plan, &mut ours));
-    assert_eq!(short.figures, [7, LONGEST_COMPLETION as u64, 0, 0]);
+    let bytes = LONGEST_COMPLETION;
+    assert_eq!(short, Verdict::TooShort { bytes });
     let listed = in_promised_stack(|| breaches(case, plan, &mut []));
-    assert_eq!((listed.word, listed.figures), (word::LISTED, [0; 4]));
+    assert_eq!(listed, Listed::Breaches { count: 0 });
     let mut new_case = vec![0; LONGEST_CASE];
     let written = in_promised_stack(|| write_case(case, &mut new_case));
-    assert_eq!(written.figures, [LONGEST_CASE as u64, 0, 0, 0]);
+    let bytes = LONGEST_CASE;
+    assert_eq!(written, Written::Message { bytes });
     assert!(new_case == case);
     let mut new_plan = vec![0; LONGEST_PLAN];
     let written = in_promised_stack(|| write_plan(case, plan, &mut new_plan));
-    assert_eq!(written.figures, [LONGEST_PLAN as u64, 0, 0, 0]);
+    let bytes = LONGEST_PLAN;
+    assert_eq!(written, Written::Message { bytes });
     assert!(new_plan == plan);
+    let mut completion = vec![0; LONGEST_COMPLETION];
+    judge(case, plan, &mut completion);
+    hold_copies(case, plan, &completion);
+    hold_mends(case, plan, surplus);
+}
+
+/// The largest plan as it is, with a power of its last interval too high, and with a set that is off
+/// given power besides.
+fn hold_mends(case: &[u8], plan: &[u8], surplus: i64) {
+    let answer = in_promised_stack(|| mend(case, plan));
+    assert_eq!(answer, Mended::Accepted { surplus });
+    let figures = read_case(case).expect("it passes reading");
+    let with = |plan: &[u8], interval, power| {
+        let change = Mend {
+            interval,
+            device: 64,
+            power,
+        };
+        change.applied(&figures, plan).expect("such a field").1
+    };
+    let one = with(plan, 96, 100_000);
+    let Mending::Mended(by) = expected_mend(case, &one) else {
+        panic!("one power mends it");
+    };
+    let by = Mend {
+        interval: by.interval,
+        device: by.device,
+        power: by.power as i64,
+    };
+    assert_eq!(in_promised_stack(|| mend(case, &one)), Mended::By(by));
+    let many = with(&one, 1, 1);
+    assert_eq!(in_promised_stack(|| mend(case, &many)), Mended::Nothing);
+}
+
+/// The copy and both readers: every length is the greatest, 16,000 numbers of the copy.
+fn hold_copies(case: &[u8], plan: &[u8], completion: &[u8]) {
+    let mut copy = vec![0; LONGEST_COPY];
+    let copied = in_promised_stack(|| market(case, plan, &mut copy));
+    assert_eq!(
+        copied,
+        Copied::Written {
+            bytes: LONGEST_COPY
+        }
+    );
+    let mut theirs = vec![0; LONGEST_COPY];
+    market_copy(case, plan, &mut theirs);
+    assert!(copy == theirs);
+    let mut table = vec![0; MOST_NUMBERS];
+    let read = in_promised_stack(|| read_completion(case, completion, &mut table));
+    assert_eq!(
+        read,
+        Read::Figures {
+            numbers: MOST_NUMBERS
+        }
+    );
+    let read = in_promised_stack(|| read_market(case, &copy, &mut table));
+    assert_eq!(read, Read::Figures { numbers: 16_000 });
 }

@@ -1,24 +1,13 @@
 //! The splitter, by batches written out: each answer, its place and the sequence of its tests.
 
-use host::{messages, split, word, Fault, Told, LONGEST_MESSAGE};
+use host::{messages, split, Fault, Framed, LONGEST_MESSAGE};
 
-const END: Told = Told {
-    word: word::END,
-    figures: [0; 4],
-};
-
-fn message(from: u64, until: u64) -> Told {
-    Told {
-        word: word::MESSAGE,
-        figures: [from, until, 0, 0],
-    }
+fn message(from: usize, until: usize) -> Framed {
+    Framed::Message { from, until }
 }
 
-fn refused(number: u64, bit: u64) -> Told {
-    Told {
-        word: word::FRAMING_REFUSED,
-        figures: [number, bit, 0, 0],
-    }
+fn refused(number: u64, bit: u64) -> Framed {
+    Framed::Refused(Fault { number, bit })
 }
 
 /// 1,048,576 is 10 00 00 in hex.
@@ -30,10 +19,10 @@ fn longest_length_is_the_papers() {
 #[test]
 fn end_where_no_byte_is_left() {
     for at in [0, 1, u64::MAX] {
-        assert_eq!(split(&[], at), END);
+        assert_eq!(split(&[], at), Framed::End);
     }
     for at in [3, 4, u64::MAX / 8 + 1, u64::MAX] {
-        assert_eq!(split(&[0, 0, 0], at), END);
+        assert_eq!(split(&[0, 0, 0], at), Framed::End);
     }
 }
 
@@ -44,7 +33,7 @@ fn messages_are_parts_of_the_batch() {
     assert_eq!(split(&batch, 0), message(3, 5));
     assert_eq!(split(&batch, 5), message(8, 8));
     assert_eq!(split(&batch, 8), message(11, 12));
-    assert_eq!(split(&batch, 12), END);
+    assert_eq!(split(&batch, 12), Framed::End);
     assert!(messages(&batch).eq([Ok(&[7, 8][..]), Ok(&[]), Ok(&[9])]));
 }
 
@@ -80,6 +69,6 @@ fn a_message_cut_short_is_refused_with_1() {
     assert_eq!(split(&[0, 0, 2, 7], 0), refused(1, 0));
     let whole = [&[0x10, 0, 0], &vec![0; LONGEST_MESSAGE][..]].concat();
     assert_eq!(split(&whole, 0), message(3, 1_048_579));
-    assert_eq!(split(&whole, 1_048_579), END);
+    assert_eq!(split(&whole, 1_048_579), Framed::End);
     assert_eq!(split(&whole[..1_048_578], 0), refused(1, 0));
 }

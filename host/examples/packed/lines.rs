@@ -1,16 +1,23 @@
 //! The batch program's lines, from what the exported functions answer: behind an accepted plan with
 //! its completion's length and CRC-32, behind a broken one with those of the list of its breaches,
-//! and behind each case and plan that passes reading with those of it in the newest edition.
+//! and behind each case and plan that passes reading with those of it in the newest edition; with
+//! copies, behind an accepted plan those of its market copy, and behind a refused message what both
+//! readers make of it; with copies also what mending a plan comes to.
+
+#[path = "mends.rs"]
+mod mends;
 
 use host::{
-    breaches, inspect, judge, messages, word, write_case, write_plan, Told, LONGEST_CASE,
-    LONGEST_LIST,
+    breaches, inspect, judge, market, messages, read_completion, read_market, write_case,
+    write_plan, Copied, Fault, Inspected, Listed, Read, Verdict, Written, LONGEST_CASE,
+    LONGEST_LIST, MOST_NUMBERS,
 };
 use reference::breaches::BREACH_BYTES;
 use reference::crc::crc32;
+use reference::packed::Extent;
 
 /// The output of the batch with this number, each line with its end.
-pub fn of_batch(number: usize, batch: &[u8]) -> String {
+pub fn of_batch(extent: Extent, number: usize, batch: &[u8]) -> String {
     let mut output = format!("batch {number}\n");
     let mut case = None;
     for (index, message) in messages(batch).enumerate() {
@@ -20,9 +27,10 @@ pub fn of_batch(number: usize, batch: &[u8]) -> String {
                 let (line, passes) = case_line(index, message);
                 output += &line;
                 if !passes {
+                    output += &mend_line(extent, message, &[]);
                     break;
                 }
-                case = Some(Judging::by(message));
+                case = Some(Judging::by(extent, message));
             }
             (Ok(plan), Some(judging)) => output += &judging.plan_lines(index, plan),
         }
@@ -30,87 +38,150 @@ pub fn of_batch(number: usize, batch: &[u8]) -> String {
     output
 }
 
+/// What mending a message comes to, where copies are told.
+fn mend_line(extent: Extent, case: &[u8], plan: &[u8]) -> String {
+    if extent == Extent::Corpus {
+        return String::new();
+    }
+    mends::mend_line(case, plan)
+}
+
 /// The line of a case, and whether it passes reading.
 fn case_line(index: usize, case: &[u8]) -> (String, bool) {
-    let told = inspect(case);
-    let [first, second, third, _] = told.figures;
-    match told.word {
-        word::INSPECTED => {
+    match inspect(case) {
+        Inspected::Counts {
+            devices,
+            intervals,
+            zones,
+        } => {
             let mut room = vec![0; LONGEST_CASE];
             let rewritten = rewritten_line(write_case(case, &mut room), &room);
             (
-                format!("{index} case {first} {second} {third}\n{rewritten}"),
+                format!("{index} case {devices} {intervals} {zones}\n{rewritten}"),
                 true,
             )
         }
-        word::CASE_REFUSED => (format!("{index} refused {first} {second}\n"), false),
-        other => panic!("a case is answered with {other}"),
+        Inspected::CaseRefused(fault) => {
+            let line = format!("{index} refused {} {}\n", fault.number, fault.bit);
+            (line, false)
+        }
+        other => panic!("a case is answered with {other:?}"),
     }
 }
 
 /// The line of a message that was written to the front of some room.
-fn rewritten_line(told: Told, room: &[u8]) -> String {
-    assert_eq!(told.word, word::WRITTEN, "what passes reading is written");
-    let bytes = told.figures[0] as usize;
+fn rewritten_line(written: Written, room: &[u8]) -> String {
+    let Written::Message { bytes } = written else {
+        panic!("what passes reading is written, not {written:?}");
+    };
     format!("rewritten {bytes} {}\n", crc32(&room[..bytes]))
+}
+
+/// The line of a message that a reader was lent.
+fn reading_line(reader: &str, answer: Read, table: &[u64]) -> String {
+    match answer {
+        Read::Figures { numbers } => {
+            let numbers = &table[..numbers];
+            let bytes: Vec<u8> = numbers.iter().flat_map(|n| n.to_be_bytes()).collect();
+            format!("{reader} read {} {}\n", numbers.len(), crc32(&bytes))
+        }
+        Read::MessageRefused(fault) => {
+            format!("{reader} refused {} {}\n", fault.number, fault.bit)
+        }
+        other => panic!("a message is answered with {other:?}"),
+    }
 }
 
 /// A case, and the room that is lent with its plans.
 struct Judging<'a> {
+    extent: Extent,
     case: &'a [u8],
     /// As long as each completion of the case, once it is known.
     completion: Vec<u8>,
     list: Vec<u8>,
+    table: Vec<u64>,
 }
 
 impl<'a> Judging<'a> {
-    fn by(case: &'a [u8]) -> Judging<'a> {
+    fn by(extent: Extent, case: &'a [u8]) -> Judging<'a> {
         Judging {
+            extent,
             case,
             completion: Vec::new(),
             list: vec![0; LONGEST_LIST],
+            table: vec![0; MOST_NUMBERS],
         }
     }
 
     /// The verdict with room for the completion; a refusal of too little tells its length.
-    fn judge(&mut self, plan: &[u8]) -> Told {
-        let told = judge(self.case, plan, &mut self.completion);
-        if told.word != word::RESULT_REFUSED {
-            return told;
+    fn judge(&mut self, plan: &[u8]) -> Verdict {
+        match judge(self.case, plan, &mut self.completion) {
+            Verdict::TooShort { bytes } => {
+                self.completion.resize(bytes, 0);
+                judge(self.case, plan, &mut self.completion)
+            }
+            verdict => verdict,
         }
-        self.completion.resize(told.figures[1] as usize, 0);
-        judge(self.case, plan, &mut self.completion)
     }
 
     fn plan_lines(&mut self, index: usize, plan: &[u8]) -> String {
-        let told = self.judge(plan);
-        let [first, second, third, fourth] = told.figures;
-        match told.word {
-            word::ACCEPTED => {
-                let (surplus, bytes) = (first as i64, self.completion.len());
+        let verdict = self.judge(plan);
+        let mend = mend_line(self.extent, self.case, plan);
+        match verdict {
+            Verdict::Accepted { surplus } => {
+                let bytes = self.completion.len();
                 let crc = crc32(&self.completion);
+                let copy = self.copy_line(plan);
                 let rewritten = self.rewritten_line(plan);
-                format!("{index} accepted {surplus}\ncompletion {bytes} {crc}\n{rewritten}")
+                let behind = copy + &mend + &rewritten;
+                format!("{index} accepted {surplus}\ncompletion {bytes} {crc}\n{behind}")
             }
-            word::BROKEN => {
+            Verdict::Broken(first) => {
                 let list = self.list_line(plan);
                 let rewritten = self.rewritten_line(plan);
-                format!("{index} broken {first} {second} {third} {fourth}\n{list}{rewritten}")
+                let behind = list + &mend + &rewritten;
+                format!("{index} broken {first}\n{behind}")
             }
-            word::PLAN_REFUSED => format!("{index} refused {first} {second}\n"),
-            other => panic!("a plan is answered with {other}"),
+            Verdict::PlanRefused(Fault { number, bit }) => {
+                let readings = self.reading_lines(plan);
+                format!("{index} refused {number} {bit}\n{readings}{mend}")
+            }
+            other => panic!("a plan is answered with {other:?}"),
         }
     }
 
+    /// The line of an accepted plan's copy, where copies are told.
+    fn copy_line(&mut self, plan: &[u8]) -> String {
+        if self.extent == Extent::Corpus {
+            return String::new();
+        }
+        match market(self.case, plan, &mut self.list) {
+            Copied::Written { bytes } => format!("copy {bytes} {}\n", crc32(&self.list[..bytes])),
+            other => panic!("an accepted plan has a copy, not {other:?}"),
+        }
+    }
+
+    /// What both readers make of a message that is no plan, where copies are told.
+    fn reading_lines(&mut self, message: &[u8]) -> String {
+        if self.extent == Extent::Corpus {
+            return String::new();
+        }
+        let answer = read_completion(self.case, message, &mut self.table);
+        let desk = reading_line("desk", answer, &self.table);
+        let answer = read_market(self.case, message, &mut self.table);
+        desk + &reading_line("market", answer, &self.table)
+    }
+
     fn rewritten_line(&mut self, plan: &[u8]) -> String {
-        let told = write_plan(self.case, plan, &mut self.list);
-        rewritten_line(told, &self.list)
+        let written = write_plan(self.case, plan, &mut self.list);
+        rewritten_line(written, &self.list)
     }
 
     fn list_line(&mut self, plan: &[u8]) -> String {
-        let told = breaches(self.case, plan, &mut self.list);
-        assert_eq!(told.word, word::LISTED, "a broken plan has a list");
-        let count = told.figures[0] as usize;
+        let listed = breaches(self.case, plan, &mut self.list);
+        let Listed::Breaches { count } = listed else {
+            panic!("a broken plan has a list, not {listed:?}");
+        };
         let crc = crc32(&self.list[..BREACH_BYTES * count]);
         format!("breaches {count} {crc}\n")
     }

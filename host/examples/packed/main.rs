@@ -6,7 +6,8 @@ mod lines;
 use std::io::{self, Read, Write};
 use std::process::ExitCode;
 
-use reference::packed::unpack;
+use reference::form::Form;
+use reference::packed::{unpack, Extent};
 
 fn main() -> ExitCode {
     match perform() {
@@ -24,7 +25,7 @@ fn perform() -> Result<(), String> {
     io::stdin().read_to_end(&mut packed).map_err(told)?;
     let mut out = io::stdout().lock();
     for (number, batch) in unpack(&packed)?.into_iter().enumerate() {
-        let output = lines::of_batch(number, batch);
+        let output = lines::of_batch(Extent::of_run(Form::HOST), number, batch);
         out.write_all(output.as_bytes()).map_err(told)?;
     }
     out.flush().map_err(told)
