@@ -1,4 +1,4 @@
-//! Names of the tree: every name in backticks is a path, a must-fail edit or a word of a source.
+//! Names of the tree: every name in backticks is a path, a must-fail edit (of the gate or beside it) or a word of a source.
 
 use std::collections::BTreeSet;
 use std::fs;
@@ -76,6 +76,7 @@ fn is_path(name: &str) -> bool {
     };
     let of_crate = root.join("crates").join(first);
     of_crate.join(format!("must-fail/{rest}.edit")).exists()
+        || root.join(format!("edits/{name}.edit")).exists()
         || of_crate.join(format!("specs/{rest}.antt")).exists()
 }
 
