@@ -23,6 +23,9 @@ use Rattle.reader_unit.specs.Reads.{Reads}
 use Rattle.mending.specs.declared.Mending.{Mending}
 use Rattle.mend_unit.specs.Mends.{MendsBytes}
 use Rattle.breach_unit.specs.Breaches.{ListsBreaches}
+use Rattle.stacks.specs.declared.Stacking.{Stacking}
+use Rattle.stacks.specs.Judges.{JudgesStack}
+use Rattle.stack_tellings.specs.Told.{toldStack}
 
 -- four numbers stored at the front of a lent slice; nothing is done, and 5 is answered, where it has fewer places
 pub record HostJudges (cs ps before after figures told : List ℕ) (r : ℕ) : Type 0 where
@@ -56,6 +59,11 @@ pub record HostReads (desk : Bool) (cs s before after figures told : List ℕ) (
 pub record HostMends (cs ps figures told : List ℕ) (r : ℕ) : Type 0 where
   pub short : length figures < 4 → (r ≡ 5) × (told ≡ figures)
   pub mends : 4 ≤ length figures → (x : Mending) × MendsBytes host cs ps x × (r ≡ toldMending x .word) × (told ≡ figuresOf (toldMending x) ++ drop 4 figures)
+
+pub record HostStacks (cs batch before after table rows figures told : List ℕ) (r : ℕ) : Type 0 where
+  pub short : length figures < 4 → (r ≡ 5) × (after ≡ before) × (rows ≡ table) × (told ≡ figures)
+  pub judges : 4 ≤ length figures
+      → (x : Stacking) × JudgesStack host cs batch before after table rows x × (r ≡ toldStack x .word) × (told ≡ figuresOf (toldStack x) ++ drop 4 figures)
 
 -- ---- from what the code answers
 
@@ -145,4 +153,15 @@ module _ (cs ps figures : List ℕ) where
   mends-told x h j e f = record {
     short = λ k. absurd (omega (arith, h, k));
     mends = λ _. (x, j, ap (λ (y : Told). y .word) e, f ∙ ap (λ (y : Told). figuresOf y ++ drop 4 figures) e);
+  }
+
+module _ (cs batch before table figures : List ℕ) where
+  pub stacks-short : length figures < 4 → HostStacks cs batch before before table table figures figures 5
+  stacks-short h = record { short = λ _. (refl, refl, refl, refl); judges = λ k. absurd (omega (arith, h, k)) }
+
+  pub stacks-told : {after rows told : List ℕ} {t : Told} (x : Stacking) → 4 ≤ length figures → JudgesStack host cs batch before after table rows x → t ≡ toldStack x
+      → told ≡ figuresOf t ++ drop 4 figures → HostStacks cs batch before after table rows figures told (t .word)
+  stacks-told x h j e f = record {
+    short = λ k. absurd (omega (arith, h, k));
+    judges = λ _. (x, j, ap (λ (x : Told). x .word) e, f ∙ ap (λ (x : Told). figuresOf x ++ drop 4 figures) e);
   }

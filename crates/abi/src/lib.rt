@@ -1,6 +1,7 @@
 // The judgement for hosts in other languages: a word and four numbers.
 use dispatch_unit::dispatch_told;
 use offers::Offer;
+use stack_tellings::tell_stack;
 use tellings::split;
 use tellings::store;
 use tellings::tell;
@@ -11,7 +12,7 @@ use tellings::tell_mending;
 use tellings::tell_reading;
 use tellings::tell_writing;
 ghost use mathlib.Core.Bool.{true, false};
-ghost use Rattle.abi.specs.Hosts.{HostJudges, HostInspects, HostLists, HostWritesCase, HostWritesPlan, HostCopies, HostReads, HostMends};
+ghost use Rattle.abi.specs.Hosts.{HostJudges, HostInspects, HostLists, HostWritesCase, HostWritesPlan, HostCopies, HostReads, HostMends, HostStacks};
 ghost use Rattle.dispatch_tellings.specs.Hosts.{HostDispatches};
 ghost use Rattle.tellings.specs.Splitting.{HostSplits};
 
@@ -30,6 +31,29 @@ pub extern "C" fn kadunfo_judge(
     }
     let v = plan_unit::judge(case, plan, result);
     let t = tell(v);
+    let word = t.word;
+    store(figures, t);
+    word
+}
+
+// `judge_batch` for hosts: 0, how many plans were judged and the bytes of their completions, or the refusal, of the table by 7 and its bytes; 5, with nothing done,
+// where `figures` has fewer than four places.
+#[no_mangle]
+pub extern "C" fn kadunfo_judge_batch(
+    case: &[u8],
+    plans: &[u8],
+    results: &mut [u8],
+    table: &mut [u64],
+    figures: &mut [u64],
+) -> u64
+    ensures { λ r. ⌜ HostStacks (now (case .entry)) (now (plans .entry)) (now (results .entry)) (now (results .exit)) (now (table .entry)) (now (table .exit))
+        (now (figures .entry)) (now (figures .exit)) r ⌝ }
+{
+    if figures.len() < 4 {
+        return 5;
+    }
+    let x = stack_unit::judge_batch(case, plans, results, table);
+    let t = tell_stack(x);
     let word = t.word;
     store(figures, t);
     word

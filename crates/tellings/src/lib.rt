@@ -239,7 +239,7 @@ pub fn store(figures: &mut [u64], t: Told)
 }
 
 // The most bytes of a message that a host's splitter takes.
-const LONGEST: u64 = 1048576;
+pub const LONGEST: u64 = 1048576;
 
 // What stands behind the length at byte `at` of a host's batch: 0 and the message's bounds, 1 at the end, or 2 and the refusal; 5, with nothing done, where
 // `figures` has fewer than four places.
