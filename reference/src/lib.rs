@@ -67,6 +67,7 @@ pub mod forced;
 pub mod form;
 pub mod generate;
 pub mod judge;
+pub mod many;
 pub mod market;
 pub mod mask;
 pub mod meets;

@@ -10,6 +10,7 @@ use reference::fault::Fault;
 use reference::forced::forced;
 use reference::form::Form;
 use reference::judge::{judge, Refusal, Verdict};
+use reference::many::{judge_many, Many, ROW_NUMBERS};
 use reference::market::{market_copy, read_market, Copied};
 use reference::meets::{meets, surplus_of};
 use reference::mend::{mend, Mend, Mending};
@@ -92,6 +93,10 @@ pub fn answers(sheet: &Sheet) -> Answers {
         }
         Asked::Mend => Answers {
             library: mending(mend(&case, &plan)),
+            batch: None,
+        },
+        Asked::Many(count, room) => Answers {
+            library: many(&case, &plan, *count, room.unwrap_or(ROOM)),
             batch: None,
         },
         Asked::Dispatch {
@@ -228,6 +233,24 @@ fn dispatched(case: &[u8], interval: u64, target: u64, sets: &[u64], earlier: &[
 /// A number from 1 to a count.
 fn fits(number: u64, count: usize) -> bool {
     (1..=count as u64).contains(&number)
+}
+
+/// One plan so many times in one call: each time its verdict, then the bytes of all completions.
+fn many(case: &[u8], plan: &[u8], count: usize, room: usize) -> String {
+    let batch = join(&vec![plan; count]);
+    match judge_many(case, &batch, &mut vec![0; room], ROW_NUMBERS * count) {
+        Many::CaseRefused(fault) => refused("case", fault),
+        Many::BatchRefused(fault) => refused("batch", fault),
+        Many::TableTooShort { bytes_needed } => {
+            format!("table refused by 7 with {}", printed(bytes_needed as i128))
+        }
+        Many::Judged(turns) => {
+            let verdicts = turns.iter().map(|turn| verdict(turn.verdict));
+            let bytes: usize = turns.iter().map(|turn| turn.bytes).sum();
+            let verdicts = verdicts.collect::<Vec<_>>().join(", then ");
+            format!("{verdicts}, in {} bytes", printed(bytes as i128))
+        }
+    }
 }
 
 fn mending(mending: Mending) -> String {

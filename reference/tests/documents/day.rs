@@ -49,6 +49,8 @@ pub enum Asked {
     Market(Option<usize>),
     /// The smallest change of one online power that mends the plan.
     Mend,
+    /// The plan so many times in one call, in a buffer of so many bytes if it is said.
+    Many(usize, Option<usize>),
     /// The cheapest dispatch: interval, target, devices in the order named, their earlier powers.
     Dispatch {
         interval: u64,
@@ -123,7 +125,7 @@ impl Sheet {
             ["device", d, rest @ ..] => self.device_change(place(d)?, rest),
             ["zone", z, rest @ ..] => self.zone_change(place(z)?, rest),
             ["plan" | "case" | "result" | "list" | "batch" | "write" | "newest" | "market"
-            | "mend", ..] => self.message_change(words),
+            | "mend" | "plans", ..] => self.message_change(words),
             ["dispatch", interval, "to", target, named @ ..] => {
                 self.asked = dispatch(interval, target, named)?;
                 Ok(())
@@ -362,6 +364,10 @@ impl Sheet {
             ["newest", "edition"] => self.newest = true,
             ["market"] => self.asked = Asked::Market(None),
             ["mend"] => self.asked = Asked::Mend,
+            ["plans", count] => self.asked = Asked::Many(size(count)?, None),
+            ["plans", count, "in", n, "bytes"] => {
+                self.asked = Asked::Many(size(count)?, Some(size(n)?))
+            }
             ["market", n, "bytes"] => self.asked = Asked::Market(Some(size(n)?)),
             ["write", which] => self.asked = Asked::Writing(message(which)?, None),
             ["write", which, n, "bytes"] => {
