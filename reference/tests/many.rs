@@ -16,7 +16,8 @@ fn day() -> (Vec<u8>, Vec<u8>, Vec<u8>) {
         Verdict::Accepted { .. }
     ));
     let mut short = Vec::new();
-    let Verdict::Refused(Refusal::BufferTooShort { bytes_needed }) = judge(&case, &plan, &mut short)
+    let Verdict::Refused(Refusal::BufferTooShort { bytes_needed }) =
+        judge(&case, &plan, &mut short)
     else {
         panic!("an empty buffer holds no completion");
     };
@@ -38,10 +39,7 @@ fn completions_stand_one_behind_another_and_what_lies_behind_stays() {
         Verdict::Refused(Refusal::Plan(_))
     ));
     assert_eq!(results[..completion.len()], completion);
-    assert_eq!(
-        results[completion.len()..2 * completion.len()],
-        completion
-    );
+    assert_eq!(results[completion.len()..2 * completion.len()], completion);
     assert_eq!(results[2 * completion.len()..], [UNTOUCHED; 3]);
 }
 
