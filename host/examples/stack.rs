@@ -10,9 +10,9 @@ use std::thread;
 
 use host::messages::read_case;
 use host::{
-    breaches, inspect, judge, market, mend, messages, read_completion, read_market, split,
-    with_buffer, write_case, write_plan, Copied, Framed, Inspected, Listed, Mend, Mended, Read,
-    Verdict, Written, LONGEST_CASE, MOST_NUMBERS,
+    breaches, framed, inspect, judge, judge_batch, market, mend, messages, read_completion,
+    read_market, split, with_buffer, write_case, write_plan, Batched, Copied, Framed, Inspected,
+    Listed, Mend, Mended, Read, Verdict, Written, LONGEST_CASE, MOST_NUMBERS,
 };
 
 /// In steps of so many KB, at most so many steps.
@@ -24,6 +24,8 @@ struct Day {
     batch: Vec<u8>,
     case: Vec<u8>,
     plan: Vec<u8>,
+    /// The plan as a batch.
+    plans: Vec<u8>,
     /// The plan with its last power too high.
     broken: Vec<u8>,
     completion: Vec<u8>,
@@ -34,13 +36,17 @@ struct Day {
 
 type Call = fn(&mut Day) -> bool;
 
-const FUNCTIONS: [(&str, Call); 11] = [
+const FUNCTIONS: [(&str, Call); 12] = [
     ("inspect", |day| {
         matches!(inspect(&day.case), Inspected::Counts { .. })
     }),
     ("judge", |day| {
         let verdict = judge(&day.case, &day.plan, &mut day.result);
         matches!(verdict, Verdict::Accepted { .. })
+    }),
+    ("judge-batch", |day| {
+        let batched = judge_batch(&day.case, &day.plans, &mut day.result);
+        matches!(batched, Batched::Judged(_))
     }),
     ("breaches", |day| {
         let listed = breaches(&day.case, &day.plan, &mut day.result);
@@ -160,6 +166,7 @@ impl Day {
         Day {
             batch,
             broken: broken(&case, &plan),
+            plans: framed(&plan),
             case,
             plan,
             completion,

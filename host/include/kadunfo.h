@@ -10,7 +10,7 @@
 #include <stdint.h>
 
 /* Of this header and the library that it comes with: the newest edition, then changes that keep it. */
-#define KADUNFO_VERSION "5.0"
+#define KADUNFO_VERSION "5.1"
 #define KADUNFO_NEWEST_EDITION 5
 
 #ifdef __cplusplus
@@ -23,6 +23,8 @@ extern "C" {
 
 enum kadunfo_word {
     KADUNFO_ACCEPTED = 0,        /* figures: surplus in two's complement */
+    KADUNFO_JUDGED = 0,          /* the same word from kadunfo_judge_batch; figures: number of plans, bytes of completions
+                                    written, 0, 0 */
     KADUNFO_INSPECTED = 0,       /* the same word from kadunfo_inspect; figures: devices, intervals, zones, 0 */
     KADUNFO_LISTED = 0,          /* the same word from kadunfo_breaches; figures: number of breaches, 0, 0, 0 */
     KADUNFO_WRITTEN = 0,         /* the same word from kadunfo_write_case and kadunfo_write_plan; figures: bytes written,
@@ -41,6 +43,8 @@ enum kadunfo_word {
     KADUNFO_PLAN_REFUSED = 3,    /* figures: number, bit */
     KADUNFO_MESSAGE_REFUSED = 3, /* the same word from kadunfo_read_completion and kadunfo_read_market, of the completion
                                     or copy that is read; figures: number, bit */
+    KADUNFO_BATCH_REFUSED = 3,   /* the same word from kadunfo_judge_batch, as kadunfo_split refuses it; figures: number,
+                                    bit */
     KADUNFO_RESULT_REFUSED = 4,  /* result, list or table is too short; figures: 7, bytes needed */
     KADUNFO_FIGURES_SHORT = 5,   /* figures has fewer than four places; nothing was done */
     KADUNFO_UNMENDABLE = 6,      /* from kadunfo_mend alone; figures: 0, 0, 0, 0 */
@@ -101,6 +105,9 @@ enum kadunfo_rule {
 /* The most bytes of a message in a batch. */
 #define KADUNFO_LONGEST_MESSAGE 1048576
 
+/* Numbers of each plan in the table of kadunfo_judge_batch: a word, its four figures, the bytes of its completion. */
+#define KADUNFO_BATCH_NUMBERS 6
+
 /* Bytes of stack that a call takes at most. It fits a thread as glibc (8 MB) and Rust (2 MB) make it unless told
    otherwise; a thread with a smaller stack needs to be given this much. */
 #define KADUNFO_STACK 1500000
@@ -111,6 +118,21 @@ uint64_t kadunfo_judge(const uint8_t *kase, size_t case_length,
                        const uint8_t *plan, size_t plan_length,
                        uint8_t *result, size_t result_length,
                        uint64_t *figures, size_t figures_length);
+
+/* Judges a batch of plans against one case, which is read once. Each plan stands in plans behind its 24-bit length, as
+   kadunfo_split finds it; an empty batch is judged too. KADUNFO_JUDGED: each plan, in order, has KADUNFO_BATCH_NUMBERS
+   numbers in table, whose length is in numbers: the word and the four figures that kadunfo_judge answers for it alone
+   with the bytes that are left of results, then the bytes of its completion, 0 where none is written. Completions stand
+   one behind another in results. A plan whose completion does not fit what is left has KADUNFO_RESULT_REFUSED with 7 and
+   the bytes needed, and takes no room: the next is judged with the same. Refused are the case (word 2), then the batch
+   (word 3), then a table that is too short (word 4: 7, bytes needed, 8 for each number). Only KADUNFO_JUDGED writes to
+   results and table; what is behind the last completion and behind the last plan's numbers stays. Every completion fits
+   where results has KADUNFO_LONGEST_COMPLETION bytes for each plan. */
+uint64_t kadunfo_judge_batch(const uint8_t *kase, size_t case_length,
+                             const uint8_t *plans, size_t plans_length,
+                             uint8_t *results, size_t results_length,
+                             uint64_t *table, size_t table_length,
+                             uint64_t *figures, size_t figures_length);
 
 /* Lists every broken rule of one plan as four bytes: rule, interval, device, window. The order is that of judging,
    so the first is the one that kadunfo_judge names, and an accepted plan has none. Rule 27, the DC link's, has

@@ -23,7 +23,9 @@ LONGEST_COPY = 16340
 LONGEST_CASE = 328113
 LONGEST_PLAN = 158427
 LONGEST_LIST = 615808
+LONGEST_MESSAGE = 1048576
 MOST_NUMBERS = 46721
+BATCH_NUMBERS = 6
 
 CASE, PLAN, MESSAGE, BATCH = "case", "plan", "message", "batch"
 
@@ -57,6 +59,9 @@ class Refused:
     of: str
     number: int
     bit: int
+
+
+Verdict = Union[Accepted, Breach, Refused]
 
 
 @dataclass(frozen=True)
@@ -179,18 +184,42 @@ def _signed(figure: int) -> int:
     return figure - (1 << 64) if figure >> 63 else figure
 
 
-def judge(case: bytes, plan: bytes) -> Union[Accepted, Breach, Refused]:
+def _verdict(word: int, figures: List[int], completion: bytes) -> Verdict:
+    if word == 0:
+        return Accepted(_signed(figures[0]), completion)
+    return Breach(*figures) if word == 1 else _refusal(word, figures)
+
+
+def judge(case: bytes, plan: bytes) -> Verdict:
     """The verdict: accepted with the surplus and the completion, the first broken rule, or a refusal."""
-    result = (ctypes.c_ubyte * LONGEST_COMPLETION)()
-    word, figures = _call("kadunfo_judge", case, plan, (ctypes.c_ubyte * 0)())
+    result = (ctypes.c_ubyte * 0)()
+    word, figures = _call("kadunfo_judge", case, plan, result)
     if word == 4:
-        needed = figures[1]
+        result = (ctypes.c_ubyte * figures[1])()
         word, figures = _call("kadunfo_judge", case, plan, result)
-        if word == 0:
-            return Accepted(_signed(figures[0]), bytes(result[:needed]))
-    if word == 1:
-        return Breach(*figures)
-    return _refusal(word, figures)
+    return _verdict(word, figures, bytes(result))
+
+
+def judge_batch(case: bytes, plans: Iterable[bytes]) -> Union[List[Verdict], Refused]:
+    """The verdict on each plan, as judge gives it, with the case read for all of them at once; or the case's refusal."""
+    # No plan is as long as a batch takes a message, so one that is cut there is refused as it would be whole.
+    taken = [plan[:LONGEST_MESSAGE] for plan in plans]
+    batch = b"".join(len(message).to_bytes(3, "big") + message for message in taken)
+    table = (ctypes.c_uint64 * (BATCH_NUMBERS * len(taken)))()
+    needed, room = LONGEST_COMPLETION, 0
+    while needed > room:
+        room = needed
+        results = (ctypes.c_ubyte * room)()
+        word, figures = _call("kadunfo_judge_batch", case, batch, results, table)
+        if word != 0:
+            return _refusal(word, figures, BATCH)
+        turns = [table[k : k + BATCH_NUMBERS] for k in range(0, len(table), BATCH_NUMBERS)]
+        needed = figures[1] + sum(turn[2] for turn in turns if turn[0] == 4)
+    verdicts, completions, at = [], bytes(results), 0
+    for word, *told, length in turns:
+        verdicts.append(_verdict(word, told, completions[at : at + length]))
+        at += length
+    return verdicts
 
 
 def breaches(case: bytes, plan: bytes) -> Union[List[Breach], Refused]:

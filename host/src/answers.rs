@@ -101,7 +101,7 @@ pub enum Framed {
 /// What several functions answer in the place of what they were asked for.
 pub enum Refused {
     Case(Fault),
-    /// Of the plan, or of the message that is read.
+    /// Of the plan, of the batch, or of the message that is read.
     Message(Fault),
     TooShort {
         bytes: usize,
@@ -254,6 +254,7 @@ mod tests {
     fn words_are_the_headers() {
         let named = [
             ("ACCEPTED", word::ACCEPTED),
+            ("JUDGED", word::JUDGED),
             ("INSPECTED", word::INSPECTED),
             ("LISTED", word::LISTED),
             ("WRITTEN", word::WRITTEN),
@@ -268,6 +269,7 @@ mod tests {
             ("FRAMING_REFUSED", word::FRAMING_REFUSED),
             ("PLAN_REFUSED", word::PLAN_REFUSED),
             ("MESSAGE_REFUSED", word::MESSAGE_REFUSED),
+            ("BATCH_REFUSED", word::BATCH_REFUSED),
             ("RESULT_REFUSED", word::RESULT_REFUSED),
             ("UNMENDABLE", word::UNMENDABLE),
             ("NOT_DISPATCHED", word::NOT_DISPATCHED),

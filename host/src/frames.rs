@@ -1,4 +1,4 @@
-//! A batch, message by message, as the plan unit splits it.
+//! A batch, message by message, as the plan unit splits it, and what it is joined of.
 
 use crate::{split, Framed};
 
@@ -19,6 +19,13 @@ pub fn messages(batch: &[u8]) -> Messages<'_> {
     Messages { batch, at: 0 }
 }
 
+impl<'a> Messages<'a> {
+    /// What is behind the messages that were taken, a batch itself.
+    pub fn rest(&self) -> &'a [u8] {
+        &self.batch[self.at as usize..]
+    }
+}
+
 impl<'a> Iterator for Messages<'a> {
     type Item = Result<&'a [u8], Fault>;
 
@@ -36,4 +43,10 @@ impl<'a> Iterator for Messages<'a> {
         self.at = self.batch.len() as u64;
         Some(Err(fault))
     }
+}
+
+/// A message behind its length of 24 bits, as it stands in a batch.
+pub fn framed(message: &[u8]) -> Vec<u8> {
+    let length = (message.len() as u32).to_be_bytes();
+    [&length[1..], message].concat()
 }

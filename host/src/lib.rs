@@ -3,6 +3,7 @@
 
 mod answers;
 pub mod balance;
+mod batches;
 pub mod bill;
 pub mod compare;
 mod comparison;
@@ -29,8 +30,9 @@ pub mod table;
 pub mod text;
 
 pub use answers::{with_buffer, Framed, Inspected, Lent, Listed, Verdict, Written};
+pub use batches::{judge_batch, Batched, Turn, BATCH_NUMBERS};
 pub use copies::{market, read_completion, read_market, Copied, Read, LONGEST_COPY, MOST_NUMBERS};
-pub use frames::{messages, Fault, Messages};
+pub use frames::{framed, messages, Fault, Messages};
 pub use mend::{mend, Mend, Mended};
 
 extern "C" {
@@ -90,6 +92,8 @@ extern "C" {
 /// The words of the header; that of too few figures is never met here.
 mod word {
     pub const ACCEPTED: u64 = 0;
+    /// The same word from `judge_batch`.
+    pub const JUDGED: u64 = 0;
     /// The same word from `breaches`.
     pub const LISTED: u64 = 0;
     /// The same word from `write_case` and `write_plan`.
@@ -115,6 +119,8 @@ mod word {
     pub const PLAN_REFUSED: u64 = 3;
     /// The same word from `read_completion` and `read_market`.
     pub const MESSAGE_REFUSED: u64 = 3;
+    /// The same word from `judge_batch`.
+    pub const BATCH_REFUSED: u64 = 3;
     pub const RESULT_REFUSED: u64 = 4;
     /// From `mend` alone.
     pub const UNMENDABLE: u64 = 6;

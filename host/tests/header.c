@@ -1,5 +1,6 @@
 /* Prints what the functions of the header tell of files: of a case and a plan each of those that take a case, of these
-   two behind the word "market" what concerns the market's copy, behind "mend" the mend, of a batch the splitter. */
+   two behind the word "market" what concerns the market's copy, behind "mend" the mend, of a batch the splitter; of a case
+   and a batch of its plans, behind "batch" and so many bytes of room, how all are judged. */
 #include "kadunfo.h"
 
 #include <inttypes.h>
@@ -11,7 +12,7 @@
 #define LONGEST_FILE (2 * KADUNFO_LONGEST_MESSAGE)
 
 static uint8_t kase[LONGEST_FILE], plan[LONGEST_FILE], batch[LONGEST_FILE];
-static uint8_t result[KADUNFO_LONGEST_COMPLETION], list[KADUNFO_LONGEST_LIST];
+static uint8_t result[KADUNFO_LONGEST_COMPLETION], results[KADUNFO_LONGEST_COMPLETION], list[KADUNFO_LONGEST_LIST];
 static uint8_t new_case[KADUNFO_LONGEST_CASE], new_plan[KADUNFO_LONGEST_PLAN], again[KADUNFO_LONGEST_CASE];
 static uint8_t copy[KADUNFO_LONGEST_COPY];
 static uint64_t table[KADUNFO_MOST_NUMBERS];
@@ -43,6 +44,13 @@ static void tell_list(size_t breaches) {
 static int figures_untouched(void) {
     for (int i = 0; i < 4; i++)
         if (figures[i] != UINT64_C(0xa5a5a5a5a5a5a5a5))
+            return 0;
+    return 1;
+}
+
+static int table_untouched(size_t from) {
+    for (size_t i = from; i < KADUNFO_MOST_NUMBERS; i++)
+        if (table[i] != UINT64_C(0xa5a5a5a5a5a5a5a5))
             return 0;
     return 1;
 }
@@ -129,10 +137,7 @@ static int uncopied_when_short(size_t case_length, size_t plan_length) {
     for (size_t i = 0; i < sizeof copy; i++)
         if (copy[i] != BEFORE)
             return 0;
-    for (size_t i = 0; i < KADUNFO_MOST_NUMBERS; i++)
-        if (table[i] != UINT64_C(0xa5a5a5a5a5a5a5a5))
-            return 0;
-    return figures_untouched();
+    return table_untouched(0) && figures_untouched();
 }
 
 /* The completion and the copy of a plan, each by both readers, with tables of one number and of enough. */
@@ -173,6 +178,57 @@ static int tell_batch(size_t length) {
     return kadunfo_split(batch, length, 0, figures, 3) == KADUNFO_FIGURES_SHORT && figures_untouched();
 }
 
+/* Behind so many completions' bytes and so many numbers nothing has changed. */
+static int batch_untouched(size_t bytes, size_t numbers) {
+    for (size_t i = bytes; i < sizeof results; i++)
+        if (results[i] != BEFORE)
+            return 0;
+    return table_untouched(numbers);
+}
+
+/* Each plan of the batch by itself, with what is left of the room, has the numbers of the table and the bytes of the
+   results; behind them nothing has changed. */
+static int as_alone(size_t case_length, size_t batch_length, size_t room) {
+    size_t used = 0, place = 0;
+    for (uint64_t at = 0; kadunfo_split(batch, batch_length, at, figures, 4) == KADUNFO_MESSAGE;) {
+        const uint64_t *numbers = table + place;
+        const uint8_t *message = batch + figures[0];
+        size_t length = (size_t)(figures[1] - figures[0]), bytes = (size_t)numbers[KADUNFO_BATCH_NUMBERS - 1];
+        at = figures[1];
+        uint64_t word = kadunfo_judge(kase, case_length, message, length, result, room - used, figures, 4);
+        if (numbers[0] != word || memcmp(numbers + 1, figures, sizeof figures) != 0
+            || (bytes != 0) != (word == KADUNFO_ACCEPTED) || memcmp(results + used, result, bytes) != 0)
+            return 0;
+        used += bytes;
+        place += KADUNFO_BATCH_NUMBERS;
+    }
+    return batch_untouched(used, place);
+}
+
+static void tell_numbers(size_t plans) {
+    for (size_t i = 0; i < KADUNFO_BATCH_NUMBERS * plans; i++)
+        printf("%" PRIu64 "%s", table[i], (i + 1) % KADUNFO_BATCH_NUMBERS == 0 ? "\n" : " ");
+}
+
+/* With a table of one number, with three figures, where nothing is done, and with enough of both. */
+static int tell_judged(size_t case_length, size_t batch_length, size_t room) {
+    memset(results, BEFORE, sizeof results);
+    memset(table, BEFORE, sizeof table);
+    tell("table-short", kadunfo_judge_batch(kase, case_length, batch, batch_length, results, room, table, 1, figures, 4));
+    memset(figures, BEFORE, sizeof figures);
+    if (kadunfo_judge_batch(kase, case_length, batch, batch_length, results, room, table, KADUNFO_MOST_NUMBERS, figures, 3)
+            != KADUNFO_FIGURES_SHORT
+        || !figures_untouched() || !batch_untouched(0, 0))
+        return 0;
+    uint64_t word =
+        kadunfo_judge_batch(kase, case_length, batch, batch_length, results, room, table, KADUNFO_MOST_NUMBERS, figures, 4);
+    tell("judge-batch", word);
+    if (word != KADUNFO_JUDGED)
+        return batch_untouched(0, 0);
+    tell_numbers((size_t)figures[0]);
+    return as_alone(case_length, batch_length, room);
+}
+
 int main(int count, char **words) {
     if (count == 2)
         return tell_batch(load(words[1], batch)) ? 0 : 2;
@@ -182,5 +238,7 @@ int main(int count, char **words) {
         return tell_copies(load(words[2], kase), load(words[3], plan)) ? 0 : 2;
     if (count == 4 && strcmp(words[1], "mend") == 0)
         return tell_mend(load(words[2], kase), load(words[3], plan)) ? 0 : 2;
+    if (count == 5 && strcmp(words[1], "batch") == 0)
+        return tell_judged(load(words[3], kase), load(words[4], batch), strtoul(words[2], NULL, 10)) ? 0 : 2;
     return 1;
 }

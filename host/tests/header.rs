@@ -9,8 +9,8 @@ use std::sync::LazyLock;
 
 use common::{compiled, ran, Scratch};
 use host::{
-    LONGEST_CASE, LONGEST_COMPLETION, LONGEST_COPY, LONGEST_LIST, LONGEST_MESSAGE, LONGEST_PLAN,
-    MOST_NUMBERS, STACK,
+    BATCH_NUMBERS, LONGEST_CASE, LONGEST_COMPLETION, LONGEST_COPY, LONGEST_LIST, LONGEST_MESSAGE,
+    LONGEST_PLAN, MOST_NUMBERS, STACK,
 };
 use reference::batch;
 use reference::busiest::busiest_batch;
@@ -205,6 +205,37 @@ fn mend_in_c() {
     }
 }
 
+/// Plans (a), (b), (a) cut behind its first byte and (a): in 106 bytes both completions of 53, in one
+/// byte fewer the first alone. The lengths stand at bytes 0, 83, 166 and 170, and the table takes 8
+/// times 24 bytes; the batch is cut inside its last length and inside its last message.
+#[test]
+fn judge_batch_in_c() {
+    let days = lettered_days();
+    let (case, plan_a) = days[0].1.messages();
+    let (_, plan_b) = days[1].1.messages();
+    let plans = batch::join(&[&plan_a[..], &plan_b, &plan_a[..1], &plan_a]);
+    let tell = |room: &str, case: &[u8], plans: &[u8]| {
+        run_with(&["batch", room], "judge-batch", &[case, plans])
+    };
+    let judged = "0 167860 0 0 0 53\n1 5 2 1 0 0\n3 1 8 0 0 0\n";
+    assert_eq!(
+        tell("106", &case, &plans),
+        format!("table-short 4 7 192 0 0\njudge-batch 0 4 106 0 0\n{judged}0 167860 0 0 0 53\n")
+    );
+    assert_eq!(
+        tell("105", &case, &plans),
+        format!("table-short 4 7 192 0 0\njudge-batch 0 4 53 0 0\n{judged}4 7 53 0 0 0\n")
+    );
+    for cut in [&plans[..172], &plans[..plans.len() - 1]] {
+        let refused = "table-short 3 1 1360 0 0\njudge-batch 3 1 1360 0 0\n";
+        assert_eq!(tell("106", &case, cut), refused);
+        let refused = "table-short 2 1 8 0 0\njudge-batch 2 1 8 0 0\n";
+        assert_eq!(tell("106", &case[..1], cut), refused);
+    }
+    let empty = "table-short 0 0 0 0 0\njudge-batch 0 0 0 0 0\n";
+    assert_eq!(tell("106", &case, &[]), empty);
+}
+
 /// The example batch has a case of 210 bytes (66, 455 and 430, 361 and 366 bits), two plans of 80
 /// (19 and 616) and one of 1.
 #[test]
@@ -242,6 +273,7 @@ fn figures_are_the_headers() {
         ("LONGEST_CASE", LONGEST_CASE, 328_113),
         ("LONGEST_PLAN", LONGEST_PLAN, 158_427),
         ("LONGEST_MESSAGE", LONGEST_MESSAGE, 1_048_576),
+        ("BATCH_NUMBERS", BATCH_NUMBERS, 6),
         ("STACK", STACK, 1_500_000),
     ] {
         assert_eq!(wrapper, by_hand, "{name}");

@@ -12,7 +12,7 @@ use common::Scratch;
 use host::bill::grouped;
 use host::explain::Breach;
 use host::judged::broken_rules;
-use host::{with_buffer, Mend, Mended};
+use host::{with_buffer, Mend, Mended, LONGEST_MESSAGE};
 use reference::day_text::read_day;
 use reference::judge::{judge, Verdict};
 use reference::rng::Rng;
@@ -262,6 +262,56 @@ fn several_plans_are_judged_with_the_highest_status() {
     );
     assert!(lines[1].contains("\"place\":{\"rule\":5,\"interval\":2,\"device\":1,\"window\":0}"));
     assert!(lines[1].ends_with(&format!("\"breaches\":1,\"mend\":{MEND_JSON}}}")));
+}
+
+/// What is told of a plan alone, whether it is an answer or a complaint.
+fn told_alone(case: &str, plan: &str) -> String {
+    let ran = run_in(&["judge", case, plan], b"");
+    let complaint = ran.err.strip_prefix("kadunfo: ").unwrap_or(&ran.err);
+    String::from_utf8(ran.out).expect("text") + complaint
+}
+
+/// A message cut, longer than a batch takes it and of another day, a text that is wrong and a file
+/// that is not there: among several each plan is told as it is alone.
+#[test]
+fn a_plan_is_told_among_several_as_alone() {
+    let scratch = Scratch::new("among");
+    let [_, other] = Scratch::new("among-other").messages("island", "island");
+    let [_, whole] = scratch.messages("two-sets", "two-sets");
+    let message = bytes(&whole);
+    let mut behind = message.clone();
+    behind.resize(LONGEST_MESSAGE + 1, 0);
+    let long = scratch.file("long", &behind);
+    let plans = [
+        plan("two-sets"),
+        scratch.file("cut", &message[..1]),
+        scratch.path("missing"),
+        plan("two-sets-ramp"),
+        long.clone(),
+        scratch.file("wrong", b"plan\nset 3 on 1\n"),
+        other,
+        whole,
+    ];
+    let case = case("two-sets");
+    let mut words = vec!["judge", &case];
+    words.extend(plans.iter().map(String::as_str));
+    let expected: String = plans
+        .iter()
+        .map(|plan| format!("{plan}: {}", told_alone(&case, plan)))
+        .collect();
+    assert_eq!(answer(&words, 3), expected);
+    assert_eq!(expected.lines().count(), plans.len());
+    let told = format!("{long}: refused 6 640: plan {long}: a byte behind the message's end\n");
+    assert!(expected.contains(&told), "{expected}");
+}
+
+/// Completions of 64 sets in 96 intervals, one for each plan.
+#[test]
+fn large_plans_are_judged_together() {
+    let (case, plan) = (case("grid"), plan("grid"));
+    let line = answer(&["judge", &case, &plan], 0);
+    let text = answer(&["judge", &case, &plan, &plan, &plan], 0);
+    assert_eq!(text, format!("{plan}: {line}").repeat(3));
 }
 
 /// 150 kW of the Diesel in place of 151: 109,060 by hand, see `tests/desk.rs`.

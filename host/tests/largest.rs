@@ -6,9 +6,10 @@ mod common;
 use common::in_promised_stack;
 use host::messages::read_case;
 use host::{
-    breaches, inspect, judge, market, mend, messages, read_completion, read_market, write_case,
-    write_plan, Copied, Inspected, Listed, Mend, Mended, Read, Verdict, Written, LONGEST_CASE,
-    LONGEST_COMPLETION, LONGEST_COPY, LONGEST_MESSAGE, LONGEST_PLAN, MOST_NUMBERS,
+    breaches, framed, inspect, judge, judge_batch, market, mend, messages, read_completion,
+    read_market, write_case, write_plan, Batched, Copied, Inspected, Listed, Mend, Mended, Read,
+    Turn, Verdict, Written, LONGEST_CASE, LONGEST_COMPLETION, LONGEST_COPY, LONGEST_MESSAGE,
+    LONGEST_PLAN, MOST_NUMBERS,
 };
 use reference::busiest::busiest_batch;
 use reference::edition::Edition;
@@ -59,8 +60,23 @@ fn promised_stack_is_enough_for_the_largest_day() {
     assert!(new_plan == plan);
     let mut completion = vec![0; LONGEST_COMPLETION];
     judge(case, plan, &mut completion);
+    hold_batch(case, plan, judged, &completion);
     hold_copies(case, plan, &completion);
     hold_mends(case, plan, surplus);
+}
+
+/// The largest plan twice in a batch, with room for both completions.
+fn hold_batch(case: &[u8], plan: &[u8], verdict: Verdict, completion: &[u8]) {
+    let plans = framed(plan).repeat(2);
+    let mut results = vec![0; 2 * LONGEST_COMPLETION];
+    let batched = in_promised_stack(|| judge_batch(case, &plans, &mut results));
+    let turn = |from| Turn {
+        verdict,
+        completion: from..from + LONGEST_COMPLETION,
+    };
+    let turns = [0, LONGEST_COMPLETION].map(turn);
+    assert_eq!(batched, Batched::Judged(turns.to_vec()));
+    assert!(results == completion.repeat(2));
 }
 
 /// The largest plan as it is, with a power of its last interval too high, and with a set that is off

@@ -9,7 +9,7 @@ use std::path::{Path, PathBuf};
 use std::process::{Command, Stdio};
 use std::sync::LazyLock;
 
-use common::{each_pair, found, ran};
+use common::{each_case, each_pair, found, ran};
 use host::{
     breaches, inspect, judge, market, mend, read_completion, read_market, write_case, write_plan,
     Copied, Fault, Inspected, Listed, Mend, Mended, Read, Verdict, Written, LONGEST_CASE,
@@ -243,6 +243,38 @@ fn the_python_module_dispatches() {
         let (case, _) = two_set_day().messages();
         assert_eq!(by_python("dispatch.py", hex(&case)), "dispatched\n");
     }
+}
+
+/// A part of the corpora's batches, and the two-set day behind them.
+#[test]
+fn the_python_module_judges_batches() {
+    if !found("python3") {
+        return;
+    }
+    let (mut asked, mut cases, mut verdicts) = (String::new(), 0, [0; 3]);
+    let mut ask = |case: &[u8], plans: &[&[u8]]| {
+        let line: Vec<String> = [case].iter().chain(plans).map(|bytes| hex(bytes)).collect();
+        writeln!(asked, "{}", line.join(" ")).expect("into a string");
+        for plan in plans {
+            match judge(case, plan, &mut [0; LONGEST_COMPLETION]) {
+                Verdict::Accepted { .. } => verdicts[0] += 1,
+                Verdict::Broken(_) => verdicts[1] += 1,
+                Verdict::PlanRefused(_) => verdicts[2] += 1,
+                other => assert!(matches!(other, Verdict::CaseRefused(_))),
+            }
+        }
+    };
+    each_case(|case, plans| {
+        cases += 1;
+        if cases % 20 == 0 {
+            ask(case, plans);
+        }
+    });
+    let (case, plan) = two_set_day().messages();
+    ask(&case, &[&plan]);
+    let expected = verdicts.map(|count| count.to_string()).join(" ");
+    assert!(verdicts.iter().all(|&count| count > 10), "{expected}");
+    assert_eq!(by_python("batches.py", asked), expected + "\n");
 }
 
 #[test]

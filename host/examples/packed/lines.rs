@@ -2,11 +2,15 @@
 //! its completion's length and CRC-32, behind a broken one with those of the list of its breaches,
 //! and behind each case and plan that passes reading with those of it in the newest edition; with
 //! copies, behind an accepted plan those of its market copy, and behind a refused message what both
-//! readers make of it; with copies also what mending a plan comes to.
+//! readers make of it; with copies also what mending a plan comes to. The plans of each batch are
+//! judged by one call besides, which must give the same.
 
+#[path = "batches.rs"]
+mod batches;
 #[path = "mends.rs"]
 mod mends;
 
+use batches::Alone;
 use host::{
     breaches, inspect, judge, market, messages, read_completion, read_market, write_case,
     write_plan, Copied, Fault, Inspected, Listed, Read, Verdict, Written, LONGEST_CASE,
@@ -20,7 +24,11 @@ use reference::packed::Extent;
 pub fn of_batch(extent: Extent, number: usize, batch: &[u8]) -> String {
     let mut output = format!("batch {number}\n");
     let mut case = None;
-    for (index, message) in messages(batch).enumerate() {
+    let mut messages = messages(batch);
+    for index in 0.. {
+        let Some(message) = messages.next() else {
+            break;
+        };
         match (message, &mut case) {
             (Err(fault), _) => output += &format!("framing {}\n", fault.number),
             (Ok(message), None) => {
@@ -30,10 +38,13 @@ pub fn of_batch(extent: Extent, number: usize, batch: &[u8]) -> String {
                     output += &mend_line(extent, message, &[]);
                     break;
                 }
-                case = Some(Judging::by(extent, message));
+                case = Some(Judging::by(extent, message, messages.rest()));
             }
             (Ok(plan), Some(judging)) => output += &judging.plan_lines(index, plan),
         }
+    }
+    if let Some(judging) = case {
+        judging.alone.hold(judging.case, judging.plans);
     }
     output
 }
@@ -96,20 +107,25 @@ fn reading_line(reader: &str, answer: Read, table: &[u64]) -> String {
 struct Judging<'a> {
     extent: Extent,
     case: &'a [u8],
+    /// The batch behind the case.
+    plans: &'a [u8],
     /// As long as each completion of the case, once it is known.
     completion: Vec<u8>,
     list: Vec<u8>,
     table: Vec<u64>,
+    alone: Alone,
 }
 
 impl<'a> Judging<'a> {
-    fn by(extent: Extent, case: &'a [u8]) -> Judging<'a> {
+    fn by(extent: Extent, case: &'a [u8], plans: &'a [u8]) -> Judging<'a> {
         Judging {
             extent,
             case,
+            plans,
             completion: Vec::new(),
             list: vec![0; LONGEST_LIST],
             table: vec![0; MOST_NUMBERS],
+            alone: Alone::default(),
         }
     }
 
@@ -126,6 +142,7 @@ impl<'a> Judging<'a> {
 
     fn plan_lines(&mut self, index: usize, plan: &[u8]) -> String {
         let verdict = self.judge(plan);
+        self.alone.note(verdict, &self.completion);
         let mend = mend_line(self.extent, self.case, plan);
         match verdict {
             Verdict::Accepted { surplus } => {

@@ -1,4 +1,5 @@
-//! Fields of a message, and who goes over them: a reader, a writer, a namer of bits and a lister.
+//! Fields of a message, and who goes over them: a reader, a writer, a namer of bits, a lister and a
+//! measure.
 
 /// A field's width in bits and its range; it is in two's complement exactly where the range goes
 /// below 0.
@@ -233,6 +234,26 @@ impl Walk for Lister<'_> {
             value: Some(*value),
         });
         self.at += field.width;
+        Ok(())
+    }
+}
+
+/// Counts the bits of a message; nothing stops it.
+#[derive(Default)]
+pub struct Measure {
+    bits: usize,
+}
+
+impl Measure {
+    /// The bytes that the bits take.
+    pub fn bytes(&self) -> usize {
+        self.bits.div_ceil(8)
+    }
+}
+
+impl Walk for Measure {
+    fn field(&mut self, _: Name, field: Field, _: &mut i64) -> Step {
+        self.bits += field.width;
         Ok(())
     }
 }

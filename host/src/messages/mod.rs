@@ -13,7 +13,7 @@ pub use fields::{Field, Misfit, Place};
 pub use layout::{COSTS, RAMPS};
 pub use model::*;
 
-use fields::{Lister, Namer, Reader, Step, Walk, Writer};
+use fields::{Lister, Measure, Namer, Reader, Step, Walk, Writer};
 
 /// The edition is one whose fields are described.
 fn is_known(edition: i64) -> bool {
@@ -106,6 +106,23 @@ pub fn plan_message(plan: &Plan) -> Result<Vec<u8>, Misfit> {
 /// That of a completion or a market copy.
 pub fn outcome_message(kind: Kind, outcome: &Outcome) -> Result<Vec<u8>, Misfit> {
     written(|walk| layout::outcome(walk, kind, &mut outcome.clone()))
+}
+
+/// How many bytes each completion of a case has.
+pub fn completion_length(case: &Case) -> usize {
+    let row = Chosen {
+        choices: vec![Choice::default(); case.devices.len()],
+        shortfalls: vec![Default::default(); case.zones.len()],
+        ..Chosen::default()
+    };
+    let mut outcome = Outcome {
+        edition: case.edition,
+        rows: vec![row; case.intervals.len()],
+        ..with_windows(case.energy_windows())
+    };
+    let mut measure = Measure::default();
+    let _ = layout::outcome(&mut measure, Kind::Completion, &mut outcome);
+    measure.bytes()
 }
 
 /// Goes over a message as one of a kind; what is left of it is not looked at.

@@ -1,21 +1,22 @@
 //! The verbs that judge: `judge` and `breaches`.
 
 use std::collections::BTreeMap;
-use std::path::Path;
+use std::path::{Path, PathBuf};
 
 use super::arguments::Arguments;
 use super::input::{load_case, load_plan, LoadedCase, Message};
 use super::machine::{accepted_members, broken_members, first_members, place_json, plan_member};
 use super::output::{hold_apart, put_all};
 use super::progress::Progress;
-use super::trouble::{shown_path, unknown_word, Done, Trouble};
+use super::trouble::{differs, shown, shown_path, unknown_word, Done, Trouble};
 use super::Answer;
 use crate::day::Day;
 use crate::explain::{Breach, RULES};
 use crate::json::Json;
 use crate::judged::{broken, broken_rules, day_of, judged, ruled, told, Judged, Unjudged};
+use crate::messages::completion_length;
 use crate::text::csv_row;
-use crate::{judge, with_buffer};
+use crate::{framed, judge_batch, word, Batched, Turn, Verdict, LONGEST_MESSAGE, LONGEST_PLAN};
 
 /// What is told where the plan unit gives no verdict, or one that is not borne out.
 pub fn trouble(case: &LoadedCase, plan: &Message, unjudged: Unjudged) -> Trouble {
@@ -84,17 +85,40 @@ impl Said {
     }
 }
 
-/// The verdict on a plan, and the completion of one that is accepted.
-fn verdict(case: &LoadedCase, plan: &Message) -> Done<(Said, Vec<u8>)> {
-    let bytes = &case.message.bytes;
-    let (verdict, completion) = with_buffer(|buffer| judge(bytes, &plan.bytes, buffer));
+const _: () = assert!(LONGEST_PLAN < LONGEST_MESSAGE);
+
+/// A plan of a batch. One that is longer than a batch takes it passes no reading, and cut there it is
+/// refused as it would be whole.
+fn framed_plan(plan: &Message) -> Vec<u8> {
+    let length = plan.bytes.len().min(LONGEST_MESSAGE);
+    framed(&plan.bytes[..length])
+}
+
+/// The plan unit's verdict on each plan, by one call, and the completions of the accepted ones.
+fn verdicts(case: &LoadedCase, plans: &[&Message]) -> Done<(Vec<Turn>, Vec<u8>)> {
+    let mut batch = Vec::new();
+    for plan in plans {
+        batch.extend(framed_plan(plan));
+    }
+    let mut results = vec![0; completion_length(&case.case) * plans.len()];
+    match judge_batch(&case.message.bytes, &batch, &mut results) {
+        Batched::Judged(turns) => Ok((turns, results)),
+        Batched::CaseRefused(fault) => Err(case.message.refused(fault)),
+        Batched::BatchRefused(_) => Err(unknown_word(word::BATCH_REFUSED)),
+        Batched::Unknown { word } => Err(unknown_word(word)),
+    }
+}
+
+/// A verdict with what else is told of a plan that is broken.
+fn said(case: &LoadedCase, plan: &Message, verdict: Verdict) -> Done<Said> {
     let unjudged = |unjudged| trouble(case, plan, unjudged);
     match ruled(verdict).map_err(unjudged)? {
-        Ok(surplus) => Ok((Said::Accepted(surplus), completion)),
+        Ok(surplus) => Ok(Said::Accepted(surplus)),
         Err(first) => {
+            let bytes = &case.message.bytes;
             let judged = broken(&case.case, bytes, &plan.bytes, first).map_err(unjudged)?;
             let words = judged.lines(1).map_err(Trouble::Defect)?.concat();
-            Ok((Said::Broken { words, judged }, Vec::new()))
+            Ok(Said::Broken { words, judged })
         }
     }
 }
@@ -123,9 +147,13 @@ fn judge_one(
     if let Some(result) = result {
         hold_apart(&[case_path, plan_path], &[result])?;
     }
-    let (told, completion) = verdict(&case, &plan)?;
+    let (turns, results) = verdicts(&case, &[&plan])?;
+    let [turn] = turns.as_slice() else {
+        return Err(differs());
+    };
+    let told = said(&case, &plan, turn.verdict)?;
     if let (Some(result), Said::Accepted(_)) = (result, &told) {
-        put_all(&[(result, &completion)])?;
+        put_all(&[(result, &results[turn.completion.clone()])])?;
     }
     let text = if arguments.has("--json") {
         told.json(plan_path).line()
@@ -136,34 +164,46 @@ fn judge_one(
 }
 
 /// A line for each plan, its file ahead; a plan that is refused has its line too.
-fn judge_many(arguments: &Arguments, case: &Path, plans: &[impl AsRef<Path>]) -> Done<Answer> {
+fn judge_many(arguments: &Arguments, case: &Path, plans: &[PathBuf]) -> Done<Answer> {
     let case = load_case(case)?;
+    let load = |path: &PathBuf| load_plan(&case.case, path);
+    let loaded: Vec<Done<Message>> = plans.iter().map(load).collect();
+    let there: Vec<&Message> = loaded.iter().flatten().collect();
+    let (turns, _) = verdicts(&case, &there)?;
+    let mut turns = turns.into_iter();
     let mut progress = Progress::new(plans.len());
     let (mut text, mut status) = (String::new(), 0);
-    for path in plans {
-        let path = path.as_ref();
+    for (path, plan) in plans.iter().zip(loaded) {
         progress.step();
-        let found = load_plan(&case.case, path).and_then(|plan| verdict(&case, &plan));
-        let (line, json, own) = match found {
-            Ok((told, _)) => (told.line(), told.json(path), told.status()),
-            Err(trouble @ (Trouble::Refused(_) | Trouble::File { .. })) => {
-                let told = trouble.to_string();
-                let json = Json::Object(vec![
-                    plan_member(path),
-                    ("verdict", Json::text("refused")),
-                    ("words", Json::text(told.clone())),
-                ]);
-                (told, json, trouble.status())
-            }
-            Err(defect) => return Err(defect),
-        };
+        let found = plan.and_then(|plan| {
+            let turn = turns.next().ok_or_else(differs)?;
+            said(&case, &plan, turn.verdict)
+        });
+        let (line, json, own) = among_several(path, found)?;
         text += &match arguments.has("--json") {
             true => json.line(),
-            false => format!("{}: {}\n", shown_path(path), super::trouble::shown(&line)),
+            false => format!("{}: {}\n", shown_path(path), shown(&line)),
         };
         status = status.max(own);
     }
     Ok(Answer::new(text, status))
+}
+
+/// How a plan is told among several, and its status; only a defect ends the others too.
+fn among_several(plan: &Path, found: Done<Said>) -> Done<(String, Json, u8)> {
+    match found {
+        Ok(told) => Ok((told.line(), told.json(plan), told.status())),
+        Err(trouble @ (Trouble::Refused(_) | Trouble::File { .. })) => {
+            let told = trouble.to_string();
+            let json = Json::Object(vec![
+                plan_member(plan),
+                ("verdict", Json::text("refused")),
+                ("words", Json::text(told.clone())),
+            ]);
+            Ok((told, json, trouble.status()))
+        }
+        Err(defect) => Err(defect),
+    }
 }
 
 /// Which breaches are asked for.

@@ -42,6 +42,7 @@ pub const VERBS: &[Verb] = &[
         about: "the verdict on each plan",
         more: "Prints 'accepted SURPLUS', or 'broken RULE INTERVAL DEVICE WINDOW' with the first breach in \
 words, how many more there are and the smallest change of one online power that mends the plan, if one does. \
+All plans are judged by one call, which reads the case once. \
 With several plans each line has its file ahead, and a plan that is refused \
 has its line too. With one plan --result writes the completion of an accepted plan to FILE, which is not \
 touched otherwise. --json prints an object for each plan.",

@@ -16,8 +16,8 @@ use crate::messages::{read_case, Case};
 use crate::renumber::Order;
 use crate::text::template;
 use crate::{
-    inspect, judge, market, messages, with_buffer, word, write_case, write_plan, Copied, Fault,
-    Inspected, Written, LONGEST_MESSAGE,
+    framed, inspect, judge, market, messages, with_buffer, word, write_case, write_plan, Copied,
+    Fault, Inspected, Written, LONGEST_MESSAGE,
 };
 
 /// A case and a plan of it.
@@ -313,10 +313,4 @@ pub fn join_verb(arguments: &Arguments) -> Done<Answer> {
         batch.extend(framed(&plan.bytes));
     }
     put_made(&arguments.files, place, batch, 0)
-}
-
-/// A message behind its length of 24 bits.
-fn framed(message: &[u8]) -> Vec<u8> {
-    let length = (message.len() as u32).to_be_bytes();
-    [&length[1..], message].concat()
 }
