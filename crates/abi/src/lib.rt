@@ -1,16 +1,10 @@
 // The judgement for hosts in other languages: a word and four numbers.
 use dispatch_unit::dispatch_told;
 use offers::Offer;
-use stack_tellings::tell_stack;
+use task_unit::serve;
+use tasks::Task;
 use tellings::split;
 use tellings::store;
-use tellings::tell;
-use tellings::tell_case;
-use tellings::tell_copy;
-use tellings::tell_list;
-use tellings::tell_mending;
-use tellings::tell_reading;
-use tellings::tell_writing;
 ghost use mathlib.Core.Bool.{true, false};
 ghost use Rattle.abi.specs.Hosts.{HostJudges, HostInspects, HostLists, HostWritesCase, HostWritesPlan, HostCopies, HostReads, HostMends, HostStacks};
 ghost use Rattle.dispatch_tellings.specs.Hosts.{HostDispatches};
@@ -29,8 +23,7 @@ pub extern "C" fn kadunfo_judge(
     if figures.len() < 4 {
         return 5;
     }
-    let v = plan_unit::judge(case, plan, result);
-    let t = tell(v);
+    let t = serve(Task::Judge, case, plan, result, figures);
     let word = t.word;
     store(figures, t);
     word
@@ -52,8 +45,7 @@ pub extern "C" fn kadunfo_judge_batch(
     if figures.len() < 4 {
         return 5;
     }
-    let x = stack_unit::judge_batch(case, plans, results, table);
-    let t = tell_stack(x);
+    let t = serve(Task::Batch, case, plans, results, table);
     let word = t.word;
     store(figures, t);
     word
@@ -67,8 +59,8 @@ pub extern "C" fn kadunfo_inspect(case: &[u8], figures: &mut [u64]) -> u64
     if figures.len() < 4 {
         return 5;
     }
-    let x = case_inspection::inspect(case);
-    let t = tell_case(x);
+    let mut none = [0u8; 1];
+    let t = serve(Task::Inspect, case, case, &mut none, figures);
     let word = t.word;
     store(figures, t);
     word
@@ -87,8 +79,7 @@ pub extern "C" fn kadunfo_breaches(
     if figures.len() < 4 {
         return 5;
     }
-    let x = breach_unit::breaches(case, plan, list);
-    let t = tell_list(x);
+    let t = serve(Task::Breaches, case, plan, list, figures);
     let word = t.word;
     store(figures, t);
     word
@@ -102,8 +93,7 @@ pub extern "C" fn kadunfo_write_case(case: &[u8], result: &mut [u8], figures: &m
     if figures.len() < 4 {
         return 5;
     }
-    let x = rewrite_unit::rewrite_case(case, result);
-    let t = tell_writing(x);
+    let t = serve(Task::WriteCase, case, case, result, figures);
     let word = t.word;
     store(figures, t);
     word
@@ -122,8 +112,7 @@ pub extern "C" fn kadunfo_write_plan(
     if figures.len() < 4 {
         return 5;
     }
-    let x = rewrite_unit::rewrite_plan(case, plan, result);
-    let t = tell_writing(x);
+    let t = serve(Task::WritePlan, case, plan, result, figures);
     let word = t.word;
     store(figures, t);
     word
@@ -143,8 +132,7 @@ pub extern "C" fn kadunfo_market(
     if figures.len() < 4 {
         return 5;
     }
-    let x = market_unit::market_copy(case, plan, result);
-    let t = tell_copy(x);
+    let t = serve(Task::Copy, case, plan, result, figures);
     let word = t.word;
     store(figures, t);
     word
@@ -164,8 +152,8 @@ pub extern "C" fn kadunfo_read_completion(
     if figures.len() < 4 {
         return 5;
     }
-    let x = reader_unit::read_completion(case, message, table);
-    let t = tell_reading(x);
+    let mut none = [0u8; 1];
+    let t = serve(Task::ReadCompletion, case, message, &mut none, table);
     let word = t.word;
     store(figures, t);
     word
@@ -184,8 +172,8 @@ pub extern "C" fn kadunfo_read_market(
     if figures.len() < 4 {
         return 5;
     }
-    let x = reader_unit::read_market(case, message, table);
-    let t = tell_reading(x);
+    let mut none = [0u8; 1];
+    let t = serve(Task::ReadMarket, case, message, &mut none, table);
     let word = t.word;
     store(figures, t);
     word
@@ -200,8 +188,8 @@ pub extern "C" fn kadunfo_mend(case: &[u8], plan: &[u8], figures: &mut [u64]) ->
     if figures.len() < 4 {
         return 5;
     }
-    let x = mend_unit::mend(case, plan);
-    let t = tell_mending(x);
+    let mut none = [0u8; 1];
+    let t = serve(Task::Mend, case, plan, &mut none, figures);
     let word = t.word;
     store(figures, t);
     word

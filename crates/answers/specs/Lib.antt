@@ -1,5 +1,6 @@
 pub mod Answers
 pub mod Stream
 pub mod Room
+pub mod Inspected
 pub mod Whole
 pub mod Steps

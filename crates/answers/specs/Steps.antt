@@ -31,13 +31,13 @@ use Rattle.case_inspection.specs.Inspection.{inspectedOf}
 use Rattle.plan_judgement.specs.JudgesPlan.{JudgesPlan}
 use Rattle.decoded_cases.specs.Decoded.{Decoded, statedRows, statedFirst}
 use Rattle.decoded_cases.specs.Cases.{decoded-first}
-use Rattle.case_inspection.specs.Steps.{inspect-passes}
 use Rattle.wording.specs.Text.{text, texts}
 use Rattle.wording.specs.Writes.{Writes}
 use Rattle.wording.specs.Lines.{no-line, one-line}
 use Rattle.frames.specs.Frames.{limit, framed}
 use Rattle.case_lines.specs.Lines.{endedLines, endedMore, WritesCase}
 use Rattle.answers.specs.Answers.{readLine, caseLines, caseAfter, afterOf, moreOf, accepts, AnswersCase, AnswersPlan}
+use Rattle.answers.specs.Inspected.{inspect-passes}
 use Rattle.answers.specs.Room.{resultRoom, completion-fits, enough}
 
 -- ---- the case

@@ -71,3 +71,14 @@ module _ (l : Largest) (most : l .devices ≤ mostDevices) (long : l .intervals 
       → Holds l cs interval sets before after all count target r
   case-passes interval sets before after all count target r t k = holds l most long (λ os c g.
       k os c g ∙ on l cs interval sets before os target held (passed l most long cs halves zones minima devices cells e front n h t))
+
+-- what two readers read alike, both dispatch alike
+dispatch-alike : (l l′ : Largest) (cs : List ℕ) (interval : ℕ) (sets before : List ℕ) (os : List Offer) (target : ℕ) → statedIn l cs ≡ statedIn l′ cs
+    → dispatch l cs interval sets before os target ≡ dispatch l′ cs interval sets before os target
+unfolding dispatch
+dispatch-alike l l′ cs interval sets before os target e = rw e refl
+
+pub holds-alike : (l l′ : Largest) → l′ .devices ≤ mostDevices → l′ .intervals ≤ mostIntervals
+    → {cs : List ℕ} {interval : ℕ} {sets before after : List ℕ} {all : List Offer} {count target : ℕ} {r : Held} → statedIn l cs ≡ statedIn l′ cs
+    → Holds l cs interval sets before after all count target r → Holds l′ cs interval sets before after all count target r
+holds-alike l l′ most long {cs} {interval} {sets} {before} {target = target} e h = holds l′ most long (λ os c g. h .is os c g ∙ dispatch-alike l l′ cs interval sets before os target e)

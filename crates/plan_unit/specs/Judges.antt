@@ -1,4 +1,4 @@
--- The promises of `judge`, for any bytes of a case and a plan and any result buffer; nothing is required of the caller.
+-- The promises of judging, for any bytes of a case and a plan and any result buffer; nothing is required of the caller.
 use mathlib.Core.Path.{_≡_, subst}
 use mathlib.Core.List.{List}
 use Prim.Native.Nat.{ℕ, _≤_}

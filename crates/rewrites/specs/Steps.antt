@@ -2,7 +2,6 @@
 use mathlib.Core.Path.{_≡_, refl, sym, ap, ap₂, _∙_, subst}
 use mathlib.Core.List.{List}
 use Prim.Native.Nat.{ℕ, _*_, _≤_}
-use native.Mathlib.Omega.{arith}
 use lib.ListN.{length}
 use Rattle.bits.specs.Bits.{reach}
 use Rattle.layouts.specs.declared.Fault.{Fault}
@@ -20,10 +19,10 @@ use Rattle.row_places.specs.declared.Counts.{Counts}
 use Rattle.records.specs.Views.{planIn}
 use Rattle.front_reader.specs.Fronts.{largest}
 use Rattle.case_reader.specs.Whole.{caseOf, CaseDone}
-use Rattle.plan_header.specs.Plans.{PlanRoom, PlanDone}
+use Rattle.plan_header.specs.Plans.{PlanDone}
 use Rattle.writing.specs.declared.Writing.{Writing}
 use Rattle.writing.specs.declared.Writing.the-variants.{Refused}
-use Rattle.writing.specs.Anew.{caseBytes, rowsBytes, Writings, writing, put, caseAnew, putRows}
+use Rattle.writing.specs.Anew.{caseBytes, Writings, writing, put, caseAnew, putRows}
 use Rattle.writing.specs.Promise.{CasePromise, case-promised}
 use Rattle.writing.specs.CaseSplices.{caseSplice}
 use Rattle.writing.specs.PlanSplices.{planSplice, frontOf}
@@ -45,8 +44,19 @@ pub record RewritesCase (l : Largest) (cs before after : List ℕ) (r : Writing)
   -- refusals with no byte touched; the written message reads back, is its own where it was of the newest edition, goes with its content, and is judged as before
   pub promise : CasePromise l cs before (record { answer = r; result = after })
 
-rewrites-case : (l : Largest) {cs before after : List ℕ} {r : Writing} → r ≡ caseAnew l cs before .answer → after ≡ caseAnew l cs before .result → RewritesCase l cs before after r
+pub rewrites-case : (l : Largest) {cs before after : List ℕ} {r : Writing} → r ≡ caseAnew l cs before .answer → after ≡ caseAnew l cs before .result → RewritesCase l cs before after r
 rewrites-case l {cs} {before} e f = record { answer = e; result = f; promise = subst (CasePromise l cs before) (same-writings e f) (case-promised l cs before) }
+
+-- a case of edition e that passed reading, copied from its own bits
+pub record RenewsCase (e : ℕ) (cs before after : List ℕ) (r : Writing) : Type 0 where
+  pub needed : ℕ
+  pub renews : Renews (caseSplice e) 8 cs before after needed
+  pub is : r ≡ writing needed (length before)
+
+-- then its content is written
+pub renewed : (l : Largest) (cs : List ℕ) (x : Stated) → statedIn l cs ≡ passes x → {before after : List ℕ} {r : Writing} → RenewsCase (x .edition) cs before after r
+    → (r ≡ put (caseBytes (x .case)) before .answer) × (after ≡ put (caseBytes (x .case)) before .result)
+renewed l cs x e k = let g = case-written l cs x e (k .renews) in (k .is ∙ g .2, g .1)
 
 -- what writing a case that failed, or passed, is
 case-off : (l : Largest) (cs before : List ℕ) (f : Fault) → statedIn l cs ≡ fails f → (Refused S.Case f ≡ caseAnew l cs before .answer) × (before ≡ caseAnew l cs before .result)
@@ -76,12 +86,11 @@ module _ (i j : ℕ) (cs halves : List ℕ) (zones minima devices cells : List (
   pub case-some : e ≡ Passes → 1 ≤ reach cs
   case-some t = some-byte (largest i j) cs held (passed t)
 
-  pub case-passes : {before after : List ℕ} {needed : ℕ} {r : Writing} → e ≡ Passes → Renews (caseSplice (front .edition)) 8 cs before after needed → r ≡ writing needed (length before)
-      → RewritesCase (largest i j) cs before after r
-  case-passes {before} t w k =
+  pub case-passes : {before after : List ℕ} {r : Writing} → e ≡ Passes → RenewsCase (front .edition) cs before after r → RewritesCase (largest i j) cs before after r
+  case-passes {before} t k =
       let on = case-on (largest i j) cs before held (passed t) in
-      let g = case-written (largest i j) cs held (passed t) w in
-      rewrites-case (largest i j) (k ∙ g .2 ∙ on .0) (g .1 ∙ on .1)
+      let g = renewed (largest i j) cs held (passed t) k in
+      rewrites-case (largest i j) (g .0 ∙ on .0) (g .1 ∙ on .1)
 
 -- ---- a plan, of a case of edition e with d devices and n intervals
 

@@ -9,11 +9,13 @@ use row_places::SettingRow;
 use row_places::ZoneRow;
 use writing::Writing;
 ghost use mathlib.Core.Path.{_≡_};
+ghost use Prim.Native.Nat.{_≤_};
+ghost use Rattle.bits.specs.Bits.{reach};
 ghost use Rattle.case_reader.specs.Whole.{CaseRoom};
 ghost use Rattle.front_reader.specs.Fronts.{largest};
 ghost use Rattle.plan_header.specs.Plans.{PlanRoom};
 ghost use Rattle.writing.specs.Anew.{writing};
-ghost use Rattle.rewrites.specs.Steps.{RewritesCase, RewritesRows};
+ghost use Rattle.rewrites.specs.Steps.{RenewsCase, RewritesCase, RewritesRows};
 
 // So many bytes written, or 7 where the buffer has fewer.
 fn answer(needed: u64, room: usize) -> Writing
@@ -23,6 +25,16 @@ fn answer(needed: u64, room: usize) -> Writing
         return Writing::Refused(Subject::Result, Fault::TooShort(needed));
     }
     Writing::Written(needed)
+}
+
+// The bytes of a case of this edition that passed reading.
+pub fn rewrite_read_case(case: &[u8], edition: u32, result: &mut [u8]) -> Writing
+    requires { ⌜ 1 ≤ reach (now case) ⌝ }
+    ensures { λ r. ⌜ RenewsCase edition (now (case .entry)) (now (result .entry)) (now (result .exit)) r ⌝ }
+{
+    let room = result.len();
+    let needed = case_copier::renew_case(case, result, edition);
+    answer(needed, room)
 }
 
 // A case's bytes, by a reader that takes counts up to these.
@@ -40,7 +52,6 @@ pub fn rewrite_case_by(
     requires { ⌜ CaseRoom «most_devices» «most_intervals» (now halves) (now zones) (now minima) (now devices) (now cells) ⌝ }
     ensures { λ r. ⌜ RewritesCase (largest «most_devices» «most_intervals») (now (case .entry)) (now (result .entry)) (now (result .exit)) r ⌝ }
 {
-    let room = result.len();
     let read = case_reader::read_case(
         case,
         most_devices,
@@ -55,10 +66,7 @@ pub fn rewrite_case_by(
     let front = read.front;
     match ending {
         Ending::Fails(f) => Writing::Refused(Subject::Case, f),
-        Ending::Passes => {
-            let needed = case_copier::renew_case(case, result, front.edition);
-            answer(needed, room)
-        }
+        Ending::Passes => rewrite_read_case(case, front.edition, result),
     }
 }
 

@@ -1,17 +1,18 @@
 -- Too few places, or the answer told.
-use borrow.Author.Needs.{needs}
+use denote.Ref.{now}
 use Rattle.abi.specs.Hosts.{inspects-short, inspects-told}
+use borrow.Author.Needs.{needs}
 use Rattle.abi.proofs.kadunfo_inspect.Statement.{statement}
 use Rattle.abi.proofs.kadunfo_inspect.Tie as tie
 
 returns : tie.Need-returns
 returns c = inspects-short _ _ (c .if1 .taken)
 
-inspect-requires : tie.Need-inspect-requires
-inspect-requires c κs = search needs
+slice-aggregate-serve : tie.Need-slice-aggregate-serve
+slice-aggregate-serve c = search needs
 
-tell-case-requires : tie.Need-tell-case-requires
-tell-case-requires c κs = search needs
+serve-requires : tie.Need-serve-requires
+serve-requires c κs = search needs
 
 store-requires : tie.Need-store-requires
 store-requires c κs = search needs
@@ -21,11 +22,11 @@ same-length c = search needs
 
 returns-2 : tie.Need-returns-2
 returns-2 c =
-    let at-tell : _ = c .before .before .before .before in
-    let at-inspect : _ = at-tell .before in
-    inspects-told _ _ _ (at-inspect .before .if1 .left) (at-inspect .inspect .ensures) (at-tell .tell-case .ensures) (c .before .before .store .ensures)
+    let storing : _ = c .before .before in
+    let serving : _ = storing .before .before .before .before .before in
+    let tested : _ = serving .before .before .before in
+    let start : _ = tested .before .before .before in
+    inspects-told _ _ (now (start .args .case)) _ (tested .if1 .left) (serving .serve .ensures) (storing .store .ensures)
 
 pub kadunfo-inspect-spec : {M : Type 1} → statement M
-kadunfo-inspect-spec =
-    tie.close
-    (tie.spec returns inspect-requires tell-case-requires store-requires same-length returns-2)
+kadunfo-inspect-spec = tie.close (tie.spec returns slice-aggregate-serve serve-requires store-requires same-length returns-2)

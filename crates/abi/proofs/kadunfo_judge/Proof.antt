@@ -1,17 +1,14 @@
 -- Too few places, or the answer told.
-use borrow.Author.Needs.{needs}
 use Rattle.abi.specs.Hosts.{judges-short, judges-told}
+use borrow.Author.Needs.{needs}
 use Rattle.abi.proofs.kadunfo_judge.Statement.{statement}
 use Rattle.abi.proofs.kadunfo_judge.Tie as tie
 
 returns : tie.Need-returns
 returns c = judges-short _ _ _ _ (c .if1 .taken)
 
-judge-requires : tie.Need-judge-requires
-judge-requires c κs = search needs
-
-tell-requires : tie.Need-tell-requires
-tell-requires c κs = search needs
+serve-requires : tie.Need-serve-requires
+serve-requires c κs = search needs
 
 store-requires : tie.Need-store-requires
 store-requires c κs = search needs
@@ -24,18 +21,10 @@ same-length-2 c = search needs
 
 returns-2 : tie.Need-returns-2
 returns-2 c =
-    let at-tell : _ = c .before .before .before .before in
-    let at-judge : _ = at-tell .before .before .before in
-    judges-told _ _ _ _ _ (at-judge .before .before .if1 .left) (at-judge .judge .ensures) (at-tell .tell .ensures) (c .before .before .store .ensures)
+    let storing : _ = c .before .before in
+    let serving : _ = storing .before .before .before .before .before .before in
+    let tested : _ = serving .before .before .before in
+    judges-told _ _ _ _ (tested .if1 .left) (serving .serve .ensures) (storing .store .ensures)
 
 pub kadunfo-judge-spec : {M : Type 1} → statement M
-kadunfo-judge-spec =
-    tie.close
-    (tie.spec
-    returns
-    judge-requires
-    tell-requires
-    store-requires
-    same-length
-    same-length-2
-    returns-2)
+kadunfo-judge-spec = tie.close (tie.spec returns serve-requires store-requires same-length same-length-2 returns-2)

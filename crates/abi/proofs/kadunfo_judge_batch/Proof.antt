@@ -1,17 +1,14 @@
 -- Too few places, or the answer told.
-use borrow.Author.Needs.{needs}
 use Rattle.abi.specs.Hosts.{stacks-short, stacks-told}
+use borrow.Author.Needs.{needs}
 use Rattle.abi.proofs.kadunfo_judge_batch.Statement.{statement}
 use Rattle.abi.proofs.kadunfo_judge_batch.Tie as tie
 
 returns : tie.Need-returns
 returns c = stacks-short _ _ _ _ _ (c .if1 .taken)
 
-judge-batch-requires : tie.Need-judge-batch-requires
-judge-batch-requires c κs = search needs
-
-tell-stack-requires : tie.Need-tell-stack-requires
-tell-stack-requires c κs = search needs
+serve-requires : tie.Need-serve-requires
+serve-requires c κs = search needs
 
 store-requires : tie.Need-store-requires
 store-requires c κs = search needs
@@ -27,19 +24,10 @@ same-length-3 c = search needs
 
 returns-2 : tie.Need-returns-2
 returns-2 c =
-    let at-tell : _ = c .before .before .before .before in
-    let at-judge : _ = at-tell .before .before .before .before .before in
-    stacks-told _ _ _ _ _ _ (at-judge .before .before .before .if1 .left) (at-judge .judge-batch .ensures) (at-tell .tell-stack .ensures) (c .before .before .store .ensures)
+    let storing : _ = c .before .before in
+    let serving : _ = storing .before .before .before .before .before .before in
+    let tested : _ = serving .before .before .before in
+    stacks-told _ _ _ _ _ (tested .if1 .left) (serving .serve .ensures) (storing .store .ensures)
 
 pub kadunfo-judge-batch-spec : {M : Type 1} → statement M
-kadunfo-judge-batch-spec =
-    tie.close
-    (tie.spec
-    returns
-    judge-batch-requires
-    tell-stack-requires
-    store-requires
-    same-length
-    same-length-2
-    same-length-3
-    returns-2)
+kadunfo-judge-batch-spec = tie.close (tie.spec returns serve-requires store-requires same-length same-length-2 same-length-3 returns-2)

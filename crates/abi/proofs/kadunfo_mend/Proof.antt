@@ -1,17 +1,17 @@
 -- Too few places, or the answer told.
-use borrow.Author.Needs.{needs}
 use Rattle.abi.specs.Hosts.{mends-short, mends-told}
+use borrow.Author.Needs.{needs}
 use Rattle.abi.proofs.kadunfo_mend.Statement.{statement}
 use Rattle.abi.proofs.kadunfo_mend.Tie as tie
 
 returns : tie.Need-returns
 returns c = mends-short _ _ _ (c .if1 .taken)
 
-mend-requires : tie.Need-mend-requires
-mend-requires c κs = search needs
+slice-aggregate-serve : tie.Need-slice-aggregate-serve
+slice-aggregate-serve c = search needs
 
-tell-mending-requires : tie.Need-tell-mending-requires
-tell-mending-requires c κs = search needs
+serve-requires : tie.Need-serve-requires
+serve-requires c κs = search needs
 
 store-requires : tie.Need-store-requires
 store-requires c κs = search needs
@@ -21,11 +21,10 @@ same-length c = search needs
 
 returns-2 : tie.Need-returns-2
 returns-2 c =
-    let at-tell : _ = c .before .before .before .before in
-    let at-mend : _ = at-tell .before in
-    mends-told _ _ _ _ (at-mend .before .if1 .left) (at-mend .mend .ensures) (at-tell .tell-mending .ensures) (c .before .before .store .ensures)
+    let storing : _ = c .before .before in
+    let serving : _ = storing .before .before .before .before .before in
+    let tested : _ = serving .before .before .before in
+    mends-told _ _ _ _ (tested .if1 .left) (serving .serve .ensures) (storing .store .ensures)
 
 pub kadunfo-mend-spec : {M : Type 1} → statement M
-kadunfo-mend-spec =
-    tie.close
-    (tie.spec returns mend-requires tell-mending-requires store-requires same-length returns-2)
+kadunfo-mend-spec = tie.close (tie.spec returns slice-aggregate-serve serve-requires store-requires same-length returns-2)

@@ -1,17 +1,18 @@
 -- Too few places, or the answer told.
-use borrow.Author.Needs.{needs}
+use mathlib.Core.Bool.{true}
 use Rattle.abi.specs.Hosts.{reads-short, reads-told}
+use borrow.Author.Needs.{needs}
 use Rattle.abi.proofs.kadunfo_read_completion.Statement.{statement}
 use Rattle.abi.proofs.kadunfo_read_completion.Tie as tie
 
 returns : tie.Need-returns
 returns c = reads-short _ _ _ _ _ (c .if1 .taken)
 
-read-completion-requires : tie.Need-read-completion-requires
-read-completion-requires c κs = search needs
+slice-aggregate-serve : tie.Need-slice-aggregate-serve
+slice-aggregate-serve c = search needs
 
-tell-reading-requires : tie.Need-tell-reading-requires
-tell-reading-requires c κs = c .before .before .read-completion .ensures .few
+serve-requires : tie.Need-serve-requires
+serve-requires c κs = search needs
 
 store-requires : tie.Need-store-requires
 store-requires c κs = search needs
@@ -24,18 +25,10 @@ same-length-2 c = search needs
 
 returns-2 : tie.Need-returns-2
 returns-2 c =
-    let at-tell : _ = c .before .before .before .before in
-    let at-read : _ = at-tell .before .before .before in
-    reads-told _ _ _ _ _ _ (at-read .before .before .if1 .left) (at-read .read-completion .ensures) (at-tell .tell-reading .ensures) (c .before .before .store .ensures)
+    let storing : _ = c .before .before in
+    let serving : _ = storing .before .before .before .before .before in
+    let tested : _ = serving .before .before .before in
+    reads-told _ _ _ _ true _ (tested .if1 .left) (serving .serve .ensures) (storing .store .ensures)
 
 pub kadunfo-read-completion-spec : {M : Type 1} → statement M
-kadunfo-read-completion-spec =
-    tie.close
-    (tie.spec
-    returns
-    read-completion-requires
-    tell-reading-requires
-    store-requires
-    same-length
-    same-length-2
-    returns-2)
+kadunfo-read-completion-spec = tie.close (tie.spec returns slice-aggregate-serve serve-requires store-requires same-length same-length-2 returns-2)

@@ -13,11 +13,8 @@ enum-known-ending c = search needs
 enum-told : tie.Need-enum-told
 enum-told c = search needs
 
-renew-case-requires : tie.Need-renew-case-requires
-renew-case-requires c κs = case-some _ _ _ _ _ _ _ _ _ _ _ (c .before .before .before .before .before .before .before .before .before .before .read-case .ensures) (c .before .enum-told .given .1)
-
-answer-requires : tie.Need-answer-requires
-answer-requires c κs = search needs
+rewrite-read-case-requires : tie.Need-rewrite-read-case-requires
+rewrite-read-case-requires c κs = case-some _ _ _ _ _ _ _ _ _ _ _ (c .before .before .before .before .before .before .before .before .before .before .read-case .ensures) (c .before .enum-told .given .1)
 
 same-length : tie.Need-same-length
 same-length c = search needs
@@ -56,29 +53,7 @@ same-length-11 : tie.Need-same-length-11
 same-length-11 c = search needs
 
 returns-2 : tie.Need-returns-2
-returns-2 c = let reading : _ = c .before .before .before .before .before .before .before .before .before .before .before .before in
-    case-passes _ _ _ _ _ _ _ _ _ _ _ (reading .before .before .read-case .ensures) (c .before .before .before .before .before .enum-told .given .1)
-    (c .before .before .before .renew-case .ensures) (c .answer .ensures)
+returns-2 c = case-passes _ _ _ _ _ _ _ _ _ _ _ (c .before .before .before .before .before .before .before .before .before .before .before .before .before .read-case .ensures) (c .before .before .before .before .enum-told .given .1) (c .before .before .rewrite-read-case .ensures)
 
 pub rewrite-case-by-spec : {M : Type 1} → statement M
-rewrite-case-by-spec =
-    tie.close
-    (tie.spec
-    read-case-requires
-    enum-known-ending
-    enum-told
-    renew-case-requires
-    answer-requires
-    same-length
-    same-length-2
-    same-length-3
-    same-length-4
-    same-length-5
-    returns
-    same-length-6
-    same-length-7
-    same-length-8
-    same-length-9
-    same-length-10
-    same-length-11
-    returns-2)
+rewrite-case-by-spec = tie.close (tie.spec read-case-requires enum-known-ending enum-told rewrite-read-case-requires same-length same-length-2 same-length-3 same-length-4 same-length-5 returns same-length-6 same-length-7 same-length-8 same-length-9 same-length-10 same-length-11 returns-2)
