@@ -10,7 +10,7 @@ ghost use Rattle.abi.specs.Hosts.{HostJudges, HostInspects, HostLists, H
 ghost use Rattle.dispatch_tellings.specs.Hosts.{HostDispatches};
 ghost use Rattle.tellings.specs.Splitting.{HostSplits};
 
-// `judge` for hosts: the word and the figures of the verdict; 5, with nothing done, where `figures` has fewer than four places.
+// A plan judged: the word and the figures of the verdict; 5, with nothing done, where `figures` has fewer than four places.
 #[no_mangle]
 pub extern "C" fn kadunfo_judge(
     case: &[u8],
@@ -29,7 +29,7 @@ pub extern "C" fn kadunfo_judge(
     word
 }
 
-// `judge_batch` for hosts: 0, how many plans were judged and the bytes of their completions, or the refusal, of the table by 7 and its bytes; 5, with nothing done,
+// A batch of plans judged: 0, how many plans were judged and the bytes of their completions, or the refusal, of the table by 7 and its bytes; 5, with nothing done,
 // where `figures` has fewer than four places.
 #[no_mangle]
 pub extern "C" fn kadunfo_judge_batch(
@@ -51,7 +51,7 @@ pub extern "C" fn kadunfo_judge_batch(
     word
 }
 
-// `inspect` for hosts: 0 and the counts, or 2 and the fault; 5, with nothing done, where `figures` has fewer than four places.
+// A case inspected: 0 and the counts, or 2 and the fault; 5, with nothing done, where `figures` has fewer than four places.
 #[no_mangle]
 pub extern "C" fn kadunfo_inspect(case: &[u8], figures: &mut [u64]) -> u64
     ensures { λ r. ⌜ HostInspects (now (case .entry)) (now (figures .entry)) (now (figures .exit)) r ⌝ }
@@ -66,7 +66,7 @@ pub extern "C" fn kadunfo_inspect(case: &[u8], figures: &mut [u64]) -> u64
     word
 }
 
-// `breaches` for hosts: 0 and how many were listed, or the refusal; 5, with nothing done, where `figures` has fewer than four places.
+// Every broken rule of a plan listed: 0 and how many were listed, or the refusal; 5, with nothing done, where `figures` has fewer than four places.
 #[no_mangle]
 pub extern "C" fn kadunfo_breaches(
     case: &[u8],
@@ -85,7 +85,7 @@ pub extern "C" fn kadunfo_breaches(
     word
 }
 
-// `rewrite_case` for hosts: 0 and how many bytes were written, or the refusal; 5, with nothing done, where `figures` has fewer than four places.
+// A case written in the newest edition: 0 and how many bytes were written, or the refusal; 5, with nothing done, where `figures` has fewer than four places.
 #[no_mangle]
 pub extern "C" fn kadunfo_write_case(case: &[u8], result: &mut [u8], figures: &mut [u64]) -> u64
     ensures { λ r. ⌜ HostWritesCase (now (case .entry)) (now (result .entry)) (now (result .exit)) (now (figures .entry)) (now (figures .exit)) r ⌝ }
@@ -99,7 +99,7 @@ pub extern "C" fn kadunfo_write_case(case: &[u8], result: &mut [u8], figures: &m
     word
 }
 
-// `rewrite_plan` for hosts, likewise.
+// A plan with its case, likewise.
 #[no_mangle]
 pub extern "C" fn kadunfo_write_plan(
     case: &[u8],
@@ -118,7 +118,7 @@ pub extern "C" fn kadunfo_write_plan(
     word
 }
 
-// `market_copy` for hosts: 0 and how many bytes were written, 1 and the broken rule with its place, or the refusal, and never the surplus; 5, with nothing done,
+// The market's copy of a plan's completion: 0 and how many bytes were written, 1 and the broken rule with its place, or the refusal, and never the surplus; 5, with nothing done,
 // where `figures` has fewer than four places.
 #[no_mangle]
 pub extern "C" fn kadunfo_market(
@@ -138,7 +138,7 @@ pub extern "C" fn kadunfo_market(
     word
 }
 
-// `read_completion` for hosts: 0 and how many numbers stand in the table, or the refusal, of the table by 7 and its bytes; 5, with nothing done, where `figures`
+// A completion read back: 0 and how many numbers stand in the table, or the refusal, of the table by 7 and its bytes; 5, with nothing done, where `figures`
 // has fewer than four places.
 #[no_mangle]
 pub extern "C" fn kadunfo_read_completion(
@@ -159,7 +159,7 @@ pub extern "C" fn kadunfo_read_completion(
     word
 }
 
-// `read_market` for hosts, likewise.
+// A market copy, likewise.
 #[no_mangle]
 pub extern "C" fn kadunfo_read_market(
     case: &[u8],
@@ -179,7 +179,7 @@ pub extern "C" fn kadunfo_read_market(
     word
 }
 
-// `mend` for hosts: 0 and the surplus, 1 and the interval, device and new online power, 6 where nothing mends the plan, or the refusal; 5, with nothing done, where
+// A plan mended: 0 and the surplus, 1 and the interval, device and new online power, 6 where nothing mends the plan, or the refusal; 5, with nothing done, where
 // `figures` has fewer than four places.
 #[no_mangle]
 pub extern "C" fn kadunfo_mend(case: &[u8], plan: &[u8], figures: &mut [u64]) -> u64
