@@ -7,6 +7,7 @@
 mod answers;
 mod changes;
 mod day;
+mod edits;
 mod examples;
 mod figures;
 mod limits;
