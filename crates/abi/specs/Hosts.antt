@@ -14,7 +14,7 @@ use Rattle.model.specs.declared.Inspected.{Inspected}
 use Rattle.plan_unit.specs.Judges.{Judges, judges}
 use Rattle.case_inspection.specs.Inspection.{Inspects, inspected_of}
 use Rattle.case_inspection.specs.Steps.{inspects}
-use Rattle.tellings.specs.Told.{told-of, told_case, told_list, told_writing, told_copy, told_reading, told_mending, figures_of}
+use Rattle.tellings.specs.Told.{told_of, told_case, told_list, told_writing, told_copy, told_reading, told_mending, figures_of}
 use Rattle.writing.specs.declared.Writing.{Writing}
 use Rattle.writing.specs.Anew.{case_anew, plan_anew}
 use Rattle.rewrites.specs.Steps.{RewritesCase, rewrites-case}
@@ -42,7 +42,7 @@ use Rattle.task_work.specs.Steps.{reading}
 -- four numbers stored at the front of a lent slice; nothing is done, and 5 is answered, where it has fewer places
 pub record HostJudges (cs ps before after figures told : List ℕ) (r : ℕ) : Type 0 where
   pub short : length figures < 4 → (r ≡ 5) × (after ≡ before) × (told ≡ figures)
-  pub judges : 4 ≤ length figures → (v : Verdict) × Judges host cs ps before after v × (r ≡ (told-of v).word) × (told ≡ figures_of (told-of v) ++ drop 4 figures)
+  pub judges : 4 ≤ length figures → (v : Verdict) × Judges host cs ps before after v × (r ≡ (told_of v).word) × (told ≡ figures_of (told_of v) ++ drop 4 figures)
 
 pub record HostInspects (cs figures told : List ℕ) (r : ℕ) : Type 0 where
   pub short : length figures < 4 → (r ≡ 5) × (told ≡ figures)

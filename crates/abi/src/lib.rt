@@ -1,4 +1,6 @@
 // The judgement for hosts in other languages: a word and four numbers.
+#![tactic(auto)]
+
 ghost use Rattle.std.specs.Prelude.{true, false};
 ghost use Rattle.abi.specs.Hosts.{HostJudges, HostInspects, HostLists, HostWritesCase, HostWritesPlan, HostCopies, HostReads, HostMends, HostStacks};
 ghost use Rattle.dispatch_tellings.specs.Hosts.{HostDispatches};

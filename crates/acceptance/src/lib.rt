@@ -1,4 +1,6 @@
 // A plan that breaks no rule is accepted: its completion is written, or the bytes needed are told.
+#![tactic(auto)]
+
 ghost use Rattle.acceptance.specs.Decided.{Decides, Kept};
 
 use layouts::Fault;

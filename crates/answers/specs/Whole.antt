@@ -27,16 +27,16 @@ unfolding texts
 one-text l = append-nil (text l ++ [])
 
 -- the definition of the batch's lines, by what the splitter finds
-abbrev lines-at : Stated → List ℕ → ℕ → ℕ → Framed → List Line
-lines-at c s n index x = elim x [
+abbrev lines_at : Stated → List ℕ → ℕ → ℕ → Framed → List Line
+lines_at c s n index x = elim x [
   | B.End ↦ []
   | B.Message from until ↦ answer index (plan_verdict c (read_plan c (part s from until))) ∷ plan_lines c s n (suc index) until
   | B.Refused f ↦ framing (number_of f) ∷ []
 ]
 
-lines-at : (c : Stated) (s : List ℕ) (n index at : ℕ) {x : Framed} → framed_at limit s at ≡ x → plan_lines c s (suc n) index at ≡ lines-at c s n index x
+lines-at : (c : Stated) (s : List ℕ) (n index at : ℕ) {x : Framed} → framed_at limit s at ≡ x → plan_lines c s (suc n) index at ≡ lines_at c s n index x
 unfolding plan_lines
-lines-at c s n index at e = ap (lines-at c s n index) e
+lines-at c s n index at e = ap (lines_at c s n index) e
 
 abbrev first_lines : List ℕ → Framed → List Line
 first_lines s x = elim x [

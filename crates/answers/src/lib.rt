@@ -1,4 +1,6 @@
 // The batch program's answers on slices: to a frame, which is a message behind its length as far as the batch goes, its lines as text and how the batch goes on.
+#![tactic(auto)]
+
 ghost use Rattle.std.specs.Prelude.{◌≡◌, ◌≤◌, length};
 ghost use Rattle.model.specs.Editions.{batch};
 ghost use Rattle.case_reader.specs.Whole.{CaseRoom};
@@ -25,7 +27,7 @@ pub const MINIMA: usize = ZONES * INTERVALS;
 pub const TIMES: usize = INTERVALS + 1;
 
 // The line's bytes; whether plans may follow, and the front and counts of the case that they are for.
-#[derive(Drop)]
+#[derive(Clone, Copy)]
 pub struct CaseAnswer {
     pub bytes: usize,
     pub more: bool,
@@ -83,7 +85,7 @@ fn accepted(v: Verdict) -> bool
 }
 
 // The line's bytes; whether others may follow; whether a completion was written.
-#[derive(Drop)]
+#[derive(Clone, Copy)]
 pub struct PlanAnswer {
     pub bytes: usize,
     pub more: bool,

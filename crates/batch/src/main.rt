@@ -1,4 +1,6 @@
 // The batch program: a batch by standard input, case first; a line for each message. It owns the tables of a case of up to 16 devices and 48 intervals.
+#![tactic(auto)]
+
 ghost use Rattle.std.specs.Prelude.{◌≡◌, ◌^◌, ◌≤◌, ◌<◌, length};
 ghost use Rattle.model.specs.Editions.{batch};
 ghost use Rattle.decoded_cases.specs.Decoded.{Decoded, Work};

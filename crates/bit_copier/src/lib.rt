@@ -1,4 +1,6 @@
 // A message written anew: its bits copied as they stand, with others put in between, through a pen.
+#![tactic(auto)]
+
 ghost use Rattle.std.specs.Prelude.{◌≡◌, length, ◌+◌, ◌*◌, ◌^◌, ◌≤◌, ◌<◌};
 ghost use Rattle.bits.specs.Bits.{field_at, reach};
 ghost use Rattle.pen.specs.Pens.{Ready};
@@ -11,7 +13,7 @@ use bits::{bits_at, reached};
 use pen::{Pen, finish, push};
 
 // How far a message is copied, in bits, and the pen that writes the new one.
-#[derive(Drop)]
+#[derive(Clone, Copy)]
 pub struct Copier {
     pub from: u64,
     pub pen: Pen,

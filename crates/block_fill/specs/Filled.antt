@@ -16,7 +16,7 @@ use Rattle.numbers.specs.Base.{range}
 use Rattle.numbers.specs.Every.{all-up_to}
 use Rattle.numbers.specs.Tests.{same_test}
 use Rattle.ranges.specs.Kept.{less}
-use Rattle.block_pick.specs.Order.{ahead-in}
+use Rattle.block_pick.specs.Order.{ahead_in}
 use Rattle.model.specs.Rules.{blocks}
 use Rattle.model.specs.Ours.{filling}
 pub use Rattle.theorems.specs.Best.{filling-total}
@@ -42,15 +42,15 @@ cap_of caps k = (get_or caps k (record { 0 = 0 })).0
 
 -- the order of the prices kept is the order of the prices
 module _ (o p : ℕ) (caps : List Kw) (prices : List ℕ) (k : ℕ) where
-  lower-first : (j : ℕ) → ahead-in false prices j k ≡ first (price_of o prices) j k
+  lower-first : (j : ℕ) → ahead_in false prices j k ≡ first (price_of o prices) j k
   lower-first j = rw (kept-lower o (get_or prices j 0) (get_or prices k 0), kept-lower o (get_or prices k 0) (get_or prices j 0)) refl
 
-  higher-first : (j : ℕ) → ahead-in true prices j k ≡ first (turned (price_of o prices)) j k
+  higher-first : (j : ℕ) → ahead_in true prices j k ≡ first (turned (price_of o prices)) j k
   higher-first j =
       rw (neg-lower (price_of o prices j) (price_of o prices k), neg-lower (price_of o prices k) (price_of o prices j)) (
       rw (kept-lower o (get_or prices j 0) (get_or prices k 0), kept-lower o (get_or prices k 0) (get_or prices j 0)) refl)
 
-  pub fill-is-filling : (b : Bool) → F.fill (cap_of caps) (ahead-in b prices) p blocks k ≡ filling b (price_of o prices) (cap_of caps) p k
+  pub fill-is-filling : (b : Bool) → F.fill (cap_of caps) (ahead_in b prices) p blocks k ≡ filling b (price_of o prices) (cap_of caps) p k
   unfolding filling cheapest dearest F.fill F.before
   fill-is-filling false = ap (λ (n : ℕ). min (cap_of caps k) (p - n)) (sumℕ-cong _ _ blocks (all (λ j. ap (λ t. gate t (cap_of caps j)) (lower-first j)) blocks))
   fill-is-filling true = ap (λ (n : ℕ). min (cap_of caps k) (p - n)) (sumℕ-cong _ _ blocks (all (λ j. ap (λ t. gate t (cap_of caps j)) (higher-first j)) blocks))

@@ -15,7 +15,7 @@ use Rattle.numbers.specs.Sum.{sumℕ, sumℕ-cong, gate}
 use Rattle.numbers.specs.Fill as F
 use Rattle.kilowatts.specs.declared.Kw.{Kw}
 use Rattle.kilowatts.specs.Power.{kw}
-use Rattle.block_pick.specs.Order.{Linear, ahead-in}
+use Rattle.block_pick.specs.Order.{Linear, ahead_in}
 use Rattle.block_pick.specs.Ranks.{taken, NextIs, Picked, none, more, held, Front, pick-sum, picked-length, picked-front}
 use Rattle.block_pick.specs.Ranks.{sum-le, marked, unmarked, held_more, held_none}
 use Rattle.model.specs.Rules.{blocks}
@@ -150,13 +150,13 @@ as-four (a ∷ b ∷ c ∷ d ∷ e ∷ r) l = absurd (omega arith)
 
 -- four powers, of which those of the offer's blocks are each as filling has it and the others are 0
 module _ (side p n : ℕ) (caps : List Kw) (prices : List ℕ) (offer : Offered n caps) (r : List Kw) (l : length r ≡ 4)
-    (h : (k : ℕ) → k < n → cap_of r k ≡ F.fill (cap_of caps) (ahead-in (eqb side 1) prices) p (up_to n) k) (z : (k : ℕ) → n ≤ k → cap_of r k ≡ 0) where
-  all-four : (k : ℕ) → k < 4 → cap_of r k ≡ F.fill (cap_of caps) (ahead-in (eqb side 1) prices) p blocks k
+    (h : (k : ℕ) → k < n → cap_of r k ≡ F.fill (cap_of caps) (ahead_in (eqb side 1) prices) p (up_to n) k) (z : (k : ℕ) → n ≤ k → cap_of r k ≡ 0) where
+  all-four : (k : ℕ) → k < 4 → cap_of r k ≡ F.fill (cap_of caps) (ahead_in (eqb side 1) prices) p blocks k
   all-four k i = go (dec_le n k)
     where
-      go : Dec (n ≤ k) → cap_of r k ≡ F.fill (cap_of caps) (ahead-in (eqb side 1) prices) p blocks k
-      go (yes j) = z k j ∙ fill-absent (ahead-in (eqb side 1) prices) n 4 (cap_of caps) p offer.few offer.absent k j i
-      go (no j) = h k (omega arith) ∙ fill-offered (ahead-in (eqb side 1) prices) n 4 (cap_of caps) p offer.few offer.absent k
+      go : Dec (n ≤ k) → cap_of r k ≡ F.fill (cap_of caps) (ahead_in (eqb side 1) prices) p blocks k
+      go (yes j) = z k j ∙ fill-absent (ahead_in (eqb side 1) prices) n 4 (cap_of caps) p offer.few offer.absent k j i
+      go (no j) = h k (omega arith) ∙ fill-offered (ahead_in (eqb side 1) prices) n 4 (cap_of caps) p offer.few offer.absent k
 
   each : (o k : ℕ) → k < 4 → cap_of r k ≡ filling (eqb side 1) (price_of o prices) (cap_of caps) p k
   each o k i = all-four k i ∙ fill-is-filling o p caps prices k (eqb side 1)

@@ -1,4 +1,6 @@
 // The powers of a device's blocks, filled pick by pick: each block picked takes the lesser of its cap and what is left.
+#![tactic(auto)]
+
 ghost use Rattle.std.specs.Prelude.{◌≡◌, ◌+◌, ◌-◌, ◌^◌, ◌<◌};
 ghost use Rattle.block_fill.specs.Filled.{Filled, Offered, cap_of};
 ghost use Rattle.block_fill.specs.Above.{Four, sum_of, FloorsFit, FilledAbove, SumsFit};

@@ -10,8 +10,8 @@ abbrev pub ahead : Bool → ℕ → ℕ → Bool → Bool
 ahead consuming a b lower = pick consuming (rank (ltb b a) (ltb a b) lower) (rank (ltb a b) (ltb b a) lower)
 
 -- block j goes ahead of block k
-abbrev pub ahead-in : Bool → List ℕ → ℕ → ℕ → Bool
-ahead-in consuming prices j k = ahead consuming (get_or prices j 0) (get_or prices k 0) (ltb j k)
+abbrev pub ahead_in : Bool → List ℕ → ℕ → ℕ → Bool
+ahead_in consuming prices j k = ahead consuming (get_or prices j 0) (get_or prices k 0) (ltb j k)
 
 -- a block of a higher number goes ahead only by its price
 higher : (a b : Bool) → a ≡ rank a b false
@@ -53,6 +53,6 @@ first-linear price = record {
     go j k differ (no h) = two k j (omega arith)
 
 -- prices as they are when producing, turned round when consuming
-pub ahead-linear : (consuming : Bool) (prices : List ℕ) → Linear (ahead-in consuming prices)
+pub ahead-linear : (consuming : Bool) (prices : List ℕ) → Linear (ahead_in consuming prices)
 ahead-linear false prices = first-linear (λ k. pos (get_or prices k 0))
 ahead-linear true prices = first-linear (λ k. negsuc (get_or prices k 0))

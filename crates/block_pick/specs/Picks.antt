@@ -6,7 +6,7 @@ use Rattle.numbers.specs.Blocks.{rank}
 use Rattle.bits.specs.Pick.{pick}
 use Rattle.block_pick.specs.declared.Pick.{Pick}
 use Rattle.block_pick.specs.declared.Pick.TheVariants.{Block, None}
-use Rattle.block_pick.specs.Order.{Linear, ahead, ahead-in, ahead-linear}
+use Rattle.block_pick.specs.Order.{Linear, ahead, ahead_in, ahead-linear}
 use Rattle.block_pick.specs.Ranks.{taken, NextIs, Picked, rank_in, pick-rank}
 
 -- of the answer for lower numbers and block k, the one ahead
@@ -21,7 +21,7 @@ next_up_to ahead picked (suc n) = pick (taken picked n) (next_up_to ahead picked
 
 -- the next of the n blocks that an offer has
 abbrev pub next_of : Bool → List ℕ → ℕ → List Bool → Pick
-next_of consuming prices n picked = next_up_to (ahead-in consuming prices) picked n
+next_of consuming prices n picked = next_up_to (ahead_in consuming prices) picked n
 
 -- a block answered is the next one; none says that all are picked
 abbrev pub Says : (ℕ → ℕ → Bool) → ℕ → List Bool → Pick → Type 0
@@ -69,7 +69,7 @@ pub record Picks (consuming : Bool) (prices : List ℕ) (n : ℕ) (picked : List
   pub is : r ≡ next_of consuming prices n picked
   pub block : (k : ℕ) → r ≡ Block k → BestPriced consuming prices n picked (number_of k)
   pub none : (r ≡ None) ↔ AllPicked n picked
-  pub next-is : (k : ℕ) → r ≡ Block k → NextIs (ahead-in consuming prices) n picked k
+  pub next-is : (k : ℕ) → r ≡ Block k → NextIs (ahead_in consuming prices) n picked k
 
 -- prices 5, 2, 5, 1: the second pick when producing and when consuming, and none
 ex-picks : (next_of false (5 ∷ 2 ∷ 5 ∷ 1 ∷ []) 4 (false ∷ false ∷ false ∷ true ∷ []) ≡ Block 1)
@@ -167,7 +167,7 @@ ahead-priced consuming a b lower = go consuming (ltb a b) (ltb b a) refl refl
     go true true false e f t = absurd t
     go true false false e f t = inr (omega (arith, ltb-false a b e, ltb-false b a f), t)
 
-next-best : (consuming : Bool) (prices : List ℕ) (n : ℕ) (picked : List Bool) (k : ℕ) → NextIs (ahead-in consuming prices) n picked k → BestPriced consuming prices n picked (number_of k)
+next-best : (consuming : Bool) (prices : List ℕ) (n : ℕ) (picked : List Bool) (k : ℕ) → NextIs (ahead_in consuming prices) n picked k → BestPriced consuming prices n picked (number_of k)
 next-best consuming prices n picked k s = record { offered = (omega arith, omega (arith, s.one)); fresh = s.fresh; best = best }
   where
     best : (y : ℕ) → Numbered n y → T (not (picked_at picked y)) → (y ≡ suc k → ⊥)
@@ -181,8 +181,8 @@ next-best consuming prices n picked k s = record { offered = (omega arith, omega
         go (inr e) = inr (e.0, omega (arith, ltb→lt k j e.1))
 
 -- all are picked, by number and by place
-pub all-places : {n : ℕ} {picked : List Bool} → AllPicked n picked → (k : ℕ) → k < n → T (taken picked k)
-all-places h k l = h (suc k) (omega arith, omega arith)
+pub all-places : (n : ℕ) (picked : List Bool) → AllPicked n picked → (k : ℕ) → k < n → T (taken picked k)
+all-places n picked h k l = h (suc k) (omega arith, omega arith)
 
 all-numbers : (n : ℕ) (picked : List Bool) → ((k : ℕ) → k < n → T (taken picked k)) → AllPicked n picked
 all-numbers n picked h zero i = absurd (omega (arith, i.0))
@@ -197,22 +197,22 @@ module _ (consuming : Bool) (prices : List ℕ) (n : ℕ) (picked : List Bool) w
     next-is = block r says;
   }
     where
-      says : Says (ahead-in consuming prices) n picked r
+      says : Says (ahead_in consuming prices) n picked r
       says = rw e (next-says (ahead-linear consuming prices) picked n)
 
-      block : (r : Pick) → Says (ahead-in consuming prices) n picked r → (k : ℕ) → r ≡ Block k → NextIs (ahead-in consuming prices) n picked k
+      block : (r : Pick) → Says (ahead_in consuming prices) n picked r → (k : ℕ) → r ≡ Block k → NextIs (ahead_in consuming prices) n picked k
       block r s k e = rw e at s
 
-      none : (r : Pick) → Says (ahead-in consuming prices) n picked r → r ≡ None → AllPicked n picked
+      none : (r : Pick) → Says (ahead_in consuming prices) n picked r → r ≡ None → AllPicked n picked
       none r s e = all-numbers n picked (rw e at s)
 
-      all : (r : Pick) → Says (ahead-in consuming prices) n picked r → AllPicked n picked → r ≡ None
+      all : (r : Pick) → Says (ahead_in consuming prices) n picked r → AllPicked n picked → r ≡ None
       all None s h = refl
       all (Block k) s h = absurd (T_not (taken picked k) s.fresh (all-places h k s.one))
 
   -- the block answered after m picks has rank m: m of the n go ahead of it
-  pub answer-rank : {m k : ℕ} → Picked (ahead-in consuming prices) n picked m → Picks consuming prices n picked (Block k)
-      → rank_in (ahead-in consuming prices) n k ≡ m
+  pub answer-rank : {m k : ℕ} → Picked (ahead_in consuming prices) n picked m → Picks consuming prices n picked (Block k)
+      → rank_in (ahead_in consuming prices) n k ≡ m
   answer-rank s r = pick-rank (ahead-linear consuming prices) s (r.next-is _ refl)
 
 -- ---- the loop over the blocks
@@ -226,31 +226,31 @@ pub lower : {found : Pick} {j k : ℕ} → found ≡ Block j → Below k found �
 lower e below = rw e at below
 
 module _ (consuming : Bool) (prices : List ℕ) {found : Pick} (k : ℕ) where
-  pub better-none : found ≡ None → Block k ≡ better (ahead-in consuming prices) found k
+  pub better-none : found ≡ None → Block k ≡ better (ahead_in consuming prices) found k
   better-none e = rw e refl
 
   module _ {j : ℕ} {b : Bool} (e : found ≡ Block j) (below : Below k found) (is : b ≡ ahead consuming (get_or prices k 0) (get_or prices j 0) false) where
-    same : ahead-in consuming prices k j ≡ b
+    same : ahead_in consuming prices k j ≡ b
     same = rw (le-ltb k j (omega (arith, lower e below))) (sym is)
 
-    pub better-ahead : b ≡ true → Block k ≡ better (ahead-in consuming prices) found k
+    pub better-ahead : b ≡ true → Block k ≡ better (ahead_in consuming prices) found k
     better-ahead t = rw (e, same, t) refl
 
-    pub better-behind : b ≡ false → Block j ≡ better (ahead-in consuming prices) found k
+    pub better-behind : b ≡ false → Block j ≡ better (ahead_in consuming prices) found k
     better-behind t = rw (e, same, t) refl
 
-module _ (consuming : Bool) (prices : List ℕ) (picked : List Bool) (n : ℕ) {r : Pick} (e : r ≡ next_up_to (ahead-in consuming prices) picked n) where
+module _ (consuming : Bool) (prices : List ℕ) (picked : List Bool) (n : ℕ) {r : Pick} (e : r ≡ next_up_to (ahead_in consuming prices) picked n) where
   pub found_below : Below n r
   found_below = go r (rw e (next-says (ahead-linear consuming prices) picked n))
     where
-      go : (r : Pick) → Says (ahead-in consuming prices) n picked r → Below n r
+      go : (r : Pick) → Says (ahead_in consuming prices) n picked r → Below n r
       go None s = tt
       go (Block k) s = s.one
 
-  pub found-same : taken picked n ≡ true → r ≡ next_up_to (ahead-in consuming prices) picked (n + 1)
+  pub found-same : taken picked n ≡ true → r ≡ next_up_to (ahead_in consuming prices) picked (n + 1)
   unfolding next_up_to
   found-same t = rw (add-one n, t) e
 
-  pub found-better : {s : Pick} → taken picked n ≡ false → s ≡ better (ahead-in consuming prices) r n → s ≡ next_up_to (ahead-in consuming prices) picked (n + 1)
+  pub found-better : {s : Pick} → taken picked n ≡ false → s ≡ better (ahead_in consuming prices) r n → s ≡ next_up_to (ahead_in consuming prices) picked (n + 1)
   unfolding next_up_to
   found-better t b = rw (add-one n, t, ← e) b

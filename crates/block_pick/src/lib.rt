@@ -1,4 +1,6 @@
 // The next of a device's blocks, straight from its offer: the cheapest first when producing, the dearest when consuming; "lower-numbered block first".
+#![tactic(auto)]
+
 ghost use Rattle.std.specs.Prelude.{◌≡◌, false, ◌≤◌, ◌<◌, eqb};
 ghost use Rattle.block_pick.specs.Order.{ahead, ahead_in};
 ghost use Rattle.block_pick.specs.Picks.{Below, better, next_of, Picks};
@@ -7,7 +9,7 @@ ghost use Rattle.block_pick.specs.Picks.{Below, better, next_of, Picks};
 const MOST_BLOCKS: usize = 4;
 
 // A block by its place in the offer, which is its number less 1, or none.
-#[derive(Drop)]
+#[derive(Clone, Copy)]
 pub enum Pick {
     Block(usize),
     None,

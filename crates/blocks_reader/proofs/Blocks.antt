@@ -25,7 +25,7 @@ use Rattle.fields.proofs.Chains.{then-off, then-late, then-on, kept-good, kept-b
 use Rattle.floor_reader.proofs.Floors.{block-natural as bounds-natural, cap-only, bounds-done, floor-fine}
 use Rattle.word_fields.proofs.Words.{word-figure, word-offset}
 use Rattle.cell_groups.specs.declared.Block.{Block}
-use Rattle.cell_groups.specs.Groups.{block, block-in, no_block, Empty, BlocksDone}
+use Rattle.cell_groups.specs.Groups.{block, block_in, no_block, Empty, BlocksDone}
 use Rattle.blocks_reader.specs.declared.BlockRead.{BlockRead}
 use Rattle.blocks_reader.specs.Words.{plain_bits, floor_bits, block_read, BlockFits}
 
@@ -52,19 +52,19 @@ module _ (e : ℕ) (s : List ℕ) (p : Place) {w : Went} (a : M.Block) (c : told
 
 module _ (e : ℕ) (s : List ℕ) (p : Place) {word cap price : ℕ} where
   pub plain-found : {r : BlockRead} → e < 3 → p.at + plain_bits ≤ 8 * reach s → word ≡ field_at s p.at plain_bits → cap ≡ word / 2 ^ 15 % 2 ^ 17
-      → price ≡ (word / 2 ^ 0 % 2 ^ 15 + price_offset) % 2 ^ 15 → BlockFits cap 0 price → r ≡ block_read cap 0 price (advanced p (p.at + plain_bits)) → told r.went (block-in r.block) ≡ got (block e) s p
+      → price ≡ (word / 2 ^ 0 % 2 ^ 15 + price_offset) % 2 ^ 15 → BlockFits cap 0 price → r ≡ block_read cap 0 price (advanced p (p.at + plain_bits)) → told r.went (block_in r.block) ≡ got (block e) s p
   plain-found h there w a c f d =
       let q = advanced p (p.at + 17) in
       let z = advanced p (p.at + 17 + 15) in
       let end : p.at + plain_bits ≡ p.at + 17 + 15 = omega arith in
       let high = word-figure s p 0 17 15 p (omega arith) there w 100000 a f.cap-fits in
       let last = word-offset s p 17 15 0 q refl there w 16384 price_offset refl (omega arith) c f.price-fits in
-      ap (λ (r : BlockRead). told r.went (block-in r.block)) d
-      ∙ ap (λ (n : ℕ). good (block-in (block_read cap 0 price p).block) (advanced p n)) end
+      ap (λ (r : BlockRead). told r.went (block_in r.block)) d
+      ∙ ap (λ (n : ℕ). good (block_in (block_read cap 0 price p).block) (advanced p n)) end
       ∙ block-done e s p {w = W.On q} (record { cap = cap; floor = 0 }) (cap-only e s p {r = F.Good cap q} (sym high) refl h) refl {x = F.Good price z} (sym last) refl
 
   pub floor-found : {floor : ℕ} {r : BlockRead} → 3 ≤ e → p.at + floor_bits ≤ 8 * reach s → word ≡ field_at s p.at floor_bits → cap ≡ word / 2 ^ 32 % 2 ^ 17 → floor ≡ word / 2 ^ 15 % 2 ^ 17
-      → price ≡ (word / 2 ^ 0 % 2 ^ 15 + price_offset) % 2 ^ 15 → BlockFits cap floor price → r ≡ block_read cap floor price (advanced p (p.at + floor_bits)) → told r.went (block-in r.block) ≡ got (block e) s p
+      → price ≡ (word / 2 ^ 0 % 2 ^ 15 + price_offset) % 2 ^ 15 → BlockFits cap floor price → r ≡ block_read cap floor price (advanced p (p.at + floor_bits)) → told r.went (block_in r.block) ≡ got (block e) s p
   floor-found {floor} h there w a b c f d =
       let q = advanced p (p.at + 17) in
       let z = advanced p (p.at + 17 + 17) in
@@ -73,8 +73,8 @@ module _ (e : ℕ) (s : List ℕ) (p : Place) {word cap price : ℕ} where
       let high = word-figure s p 0 17 32 p (omega arith) there w 100000 a f.cap-fits in
       let low = word-figure s p 17 17 15 q refl there w 100000 b (omega (arith, f.floor-fits, f.cap-fits)) in
       let last = word-offset s p 34 15 0 z (omega arith) there w 16384 price_offset refl (omega arith) c f.price-fits in
-      ap (λ (r : BlockRead). told r.went (block-in r.block)) d
-      ∙ ap (λ (n : ℕ). good (block-in (block_read cap floor price p).block) (advanced p n)) end
+      ap (λ (r : BlockRead). told r.went (block_in r.block)) d
+      ∙ ap (λ (n : ℕ). good (block_in (block_read cap floor price p).block) (advanced p n)) end
       ∙ block-done e s p {w = W.On z} (record { cap = cap; floor = floor })
       (bounds-done e s p {r = F.Good cap q} (sym high) refl h {x = F.Good floor z} (sym low) refl (floor-fine floor cap q.at z f.floor-fits)) refl {x = F.Good price y} (sym last) refl
 
@@ -84,7 +84,7 @@ module _ (e : ℕ) (s : List ℕ) (p : Place) {word cap price : ℕ} where
 pub record Blocking (e : ℕ) (s : List ℕ) (n : ℕ) (start : Place) (i : ℕ) (bs : List Block) (p : Place) : Type 0 where
   pub few : n ≤ 4
   pub long : length bs ≡ 4
-  pub storing : Storing (block e) block-in s n start i bs p
+  pub storing : Storing (block e) block_in s n start i bs p
   pub rest : (k : ℕ) → i ≤ k → k < 4 → Empty (get_or bs k no_block)
 
 none-there : (k : ℕ) → k < 4 → Empty (get_or (replicate 4 no_block) k no_block)
@@ -108,18 +108,18 @@ module _ (e : ℕ) (s : List ℕ) (p : Place) where
   blocking-none h t = let few = (nat-within (count_of 3 0 4) s p (figure-on h t)).1 in record { few = few; long = refl; storing = storing-none (omega arith); rest = λ k l m. none-there k m }
 
 module _ {e : ℕ} {s : List ℕ} {n : ℕ} {start : Place} {i : ℕ} {bs : List Block} {p : Place} (u : Blocking e s n start i bs p) where
-  pub blocking-more : {w : Went} (b : Block) {q : Place} → i < n → told w (block-in b) ≡ got (block e) s p → w ≡ W.On q → Blocking e s n start (i + 1) (set bs i b) q
+  pub blocking-more : {w : Went} (b : Block) {q : Place} → i < n → told w (block_in b) ≡ got (block e) s p → w ≡ W.On q → Blocking e s n start (i + 1) (set bs i b) q
   blocking-more b h g t = record {
     few = u.few;
     long = simp length-set u.long;
-    storing = storing-more u.storing (block-natural e) h (went-good (block-in b) g t);
+    storing = storing-more u.storing (block-natural e) h (went-good (block_in b) g t);
     rest = λ k l m. rw (get_or-set_other bs i k b no_block (λ z. omega (arith, z))) (u.rest k (omega arith) m);
   }
 
   module _ (o : Place) {c : Figure} (h : figured c ≡ got (nat (count_of 3 0 4)) s o) (t : c ≡ F.Good n start) where
-    pub blocking-off : {w : Went} (b : Block) {f : Fault} → i < n → told w (block-in b) ≡ got (block e) s p → w ≡ W.Off f → BlocksDone e s o (record { went = w; count = 0; blocks = bs })
+    pub blocking-off : {w : Went} (b : Block) {f : Fault} → i < n → told w (block_in b) ≡ got (block e) s p → w ≡ W.Off f → BlocksDone e s o (record { went = w; count = 0; blocks = bs })
     blocking-off b l g d = record {
-      is = told-off _ d (counted-on (count_of 3 0 4) (block e) s o (figure-on h t) ∙ storing-off u.storing (block-natural e) l (went-bad (block-in b) g d));
+      is = told-off _ d (counted-on (count_of 3 0 4) (block e) s o (figure-on h t) ∙ storing-off u.storing (block-natural e) l (went-bad (block_in b) g d));
       long = u.long;
       absent = λ q k. absurd (let z : ◌≡◌ {A = ℕ} 0 1 = cc in omega (arith, z));
     }

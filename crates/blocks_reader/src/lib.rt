@@ -1,4 +1,6 @@
 // A cell's blocks: their count and that many.
+#![tactic(auto)]
+
 ghost use Rattle.std.specs.Prelude.{◌≡◌, true, ◌+◌, ◌*◌, ◌≤◌, ◌<◌};
 ghost use Rattle.bits.specs.Bits.{reach};
 ghost use Rattle.fields.specs.Got.{got, told};
@@ -39,7 +41,7 @@ const ABSENT: Block = Block {
     price: 0,
 };
 
-#[derive(Drop)]
+#[derive(Clone, Copy)]
 pub struct BlockRead {
     pub went: Went,
     pub block: Block,
@@ -55,7 +57,7 @@ fn no_block(went: Went) -> BlockRead
 }
 
 // What was read where ok; else nothing is said.
-#[derive(Drop)]
+#[derive(Clone, Copy)]
 struct Quick {
     ok: bool,
     read: BlockRead,

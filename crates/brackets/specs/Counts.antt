@@ -39,8 +39,8 @@ module _ (r : Ramping) (cells settings : List (List ℕ)) (starts : List ℕ) (t
   bracket_at = on_at settings t + starts_above + stops_above
 
   -- "Power p = online power + psu + psd" (68)
-  unfoldable pub power-at : ℕ
-  power-at = online_at settings t + sumℕ start_power (up_to (length cells)) + sumℕ stop_power (up_to (suc t))
+  unfoldable pub power_at : ℕ
+  power_at = online_at settings t + sumℕ start_power (up_to (length cells)) + sumℕ stop_power (up_to (suc t))
 
 -- ---- no trajectory reaches t
 
@@ -53,9 +53,9 @@ counts-small : (f : ℕ → ℕ) (n : ℕ) → sumℕ (λ e. bit (ltb 0 (f e))) 
 counts-small f n = sumℕ-mono _ f (up_to n) (all (λ e. above-small (f e)) (up_to n))
 
 -- the power is the online power, so each term is 0
-pub bracket-on : (r : Ramping) (cells settings : List (List ℕ)) (starts : List ℕ) (t : ℕ) → online_at settings t ≡ power-at r cells settings starts t
+pub bracket-on : (r : Ramping) (cells settings : List (List ℕ)) (starts : List ℕ) (t : ℕ) → online_at settings t ≡ power_at r cells settings starts t
     → on_at settings t ≡ bracket_at r cells settings starts t
-unfolding power-at bracket_at starts_above stops_above
+unfolding power_at bracket_at starts_above stops_above
 bracket-on r cells settings starts t h = omega (
   arith,
   counts-small (start_power r cells settings starts t) (length cells),

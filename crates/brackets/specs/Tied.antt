@@ -19,7 +19,7 @@ use Rattle.records.specs.Ranged as G
 use Rattle.clock.specs.Times.{Clock}
 use Rattle.trajectories.specs.Terms.{start-term, stop-term}
 use Rattle.ramped_powers.specs.Changes.{ramping_of, Rampable}
-use Rattle.brackets.specs.Counts.{start_power, stop_power, starts_above, stops_above, bracket_at, power-at, Countable}
+use Rattle.brackets.specs.Counts.{start_power, stop_power, starts_above, stops_above, bracket_at, power_at, Countable}
 
 module _ {front : Front} {halves : List ℕ} {zones minima devices cells settings : List (List ℕ)} {starts powers : List ℕ}
     (ready : Ready front halves zones minima devices cells settings starts powers) (i : ℕ) (l : i < length devices) where
@@ -103,6 +103,6 @@ module _ {front : Front} {halves : List ℕ} {zones minima devices cells setting
     falling-is = sum_same _ _ (suc t) stop_is
 
     -- p of the parts
-    pub power-here : power-at (ramping_of d) own_cells own_settings starts t ≡ F.power q p t i
-    unfolding power-at F.power
+    pub power-here : power_at (ramping_of d) own_cells own_settings starts t ≡ F.power q p t i
+    unfolding power_at F.power
     power-here = rw (rising-is, falling-is, W.setting-is (length devices) (length halves) settings q t i h l) refl

@@ -1,4 +1,6 @@
 // The bracket n of the reactive limits, of a device in one interval out of its parts of the tables: on, and each trajectory above 0.
+#![tactic(auto)]
+
 ghost use Rattle.std.specs.Prelude.{◌≡◌, ◌+◌, ◌-◌, ◌*◌, ◌<◌, ◌≤◌, length};
 ghost use Rattle.records.specs.Views.{most_intervals};
 ghost use Rattle.brackets.specs.Counts.{start_count, stop_count, starts_above, stops_above, bracket_at, power_at, Countable};

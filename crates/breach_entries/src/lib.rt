@@ -1,4 +1,6 @@
 // A breach as four bytes of a lent list, entry k from the place 4·k on, where the list has room for it.
+#![tactic(auto)]
+
 ghost use Rattle.std.specs.Prelude.{◌≡◌, [], ◌∷◌, ◌++◌, ◌+◌, ◌≤◌, ◌<◌, length, drop};
 ghost use Rattle.breach_entries.specs.Noted.{entered, note_if, Notes, most_entries, InBytes};
 

@@ -1,4 +1,6 @@
 // Every broken rule of a plan in a lent list, against a decoded case: of a decoded plan, and of a plan's bytes for a stack of plans.
+#![tactic(auto)]
+
 ghost use Rattle.records.specs.Views.{Ready};
 ghost use Rattle.decoded_cases.specs.Decoded.{Decoded, Planned, Work};
 ghost use Rattle.breach_lists.specs.Lists.{ListsRows};

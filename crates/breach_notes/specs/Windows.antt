@@ -7,14 +7,14 @@ use Rattle.numbers.specs.Base.{up_to, gather}
 use Rattle.model.specs.declared.Breach.{Breach}
 use Rattle.model.specs.Rules.{window_breach}
 use Rattle.model.specs.Breaches.{failing, unless}
-use Rattle.row_places.specs.Figures.{no-start}
+use Rattle.row_places.specs.Figures.{no_start}
 use Rattle.row_places.specs.declared.Device.{Device}
 use Rattle.start_windows.specs.Windows.{starts_at}
 use Rattle.failing_rules.specs.Parts.{window_here}
 use Rattle.breach_entries.specs.Noted.{note_if, Notes, GatherLeft, gather-room, gather-more}
 
 module _ (d : Device) (settings : List (List ℕ)) (starts : List ℕ) (i : ℕ) (w : ℕ)
-    {b : Bool} (e : b ≡ leb (starts_at (get_or d.starts w no-start) d.on0 settings starts) (get_or d.starts w no-start).most) where
+    {b : Bool} (e : b ≡ leb (starts_at (get_or d.starts w no_start) d.on0 settings starts) (get_or d.starts w no_start).most) where
   pub window-noted : {x : Breach} → x ≡ window_breach i w 20 → note_if (not b) x ≡ window_here d settings starts i w
   unfolding window_here failing
   window-noted is = rw (is, ← e) (go b)

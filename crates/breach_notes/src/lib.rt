@@ -1,4 +1,6 @@
 // Every broken rule of a day noted in a lent list, in the order of the rules.
+#![tactic(auto)]
+
 ghost use Rattle.std.specs.Prelude.{◌≡◌, ◌+◌, ◌*◌, ◌≤◌, ◌<◌, length};
 ghost use Rattle.model.specs.Breaches.{cell_breaches, window_breaches};
 ghost use Rattle.records.specs.Views.{system_in, plan_in, most_windows, most_devices, most_intervals, Ready};

@@ -6,7 +6,7 @@ use borrow.Author.Tests.{not-true, not-false}
 use Rattle.model.specs.Case.{System, Plan}
 use Rattle.model.specs.Rules.{link_breach, window_breach}
 use Rattle.model.specs.Breaches.{failing, cell_tests, cell_breaches}
-use Rattle.row_places.specs.Figures.{no-start}
+use Rattle.row_places.specs.Figures.{no_start}
 use Rattle.row_places.specs.declared.Device.{Device}
 use Rattle.cell_bounds.specs.Word.{numbers_in}
 use Rattle.start_windows.specs.Windows.{starts_at}
@@ -24,7 +24,7 @@ word_first q p t i word e f = f ∙ rw e refl
 
 -- the test of one window, as the code makes it
 module _ (d : Device) (settings : List (List ℕ)) (starts : List ℕ) (i : ℕ) (w : ℕ)
-    {b : Bool} (e : b ≡ leb (starts_at (get_or d.starts w no-start) d.on0 settings starts) (get_or d.starts w no-start).most) where
+    {b : Bool} (e : b ≡ leb (starts_at (get_or d.starts w no_start) d.on0 settings starts) (get_or d.starts w no_start).most) where
   pub window-held : not b ≡ false → Held ≡ first (window_here d settings starts i w)
   unfolding window_here failing first
   window-held h = rw (sym e ∙ not-false b h) refl

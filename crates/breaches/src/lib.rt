@@ -1,4 +1,6 @@
 // The numbered rules of a day: whether a plan breaks none, and the first that it breaks.
+#![tactic(auto)]
+
 ghost use Rattle.std.specs.Prelude.{◌≡◌, true, ◌↔◌, [], ◌*◌, ◌≤◌, ◌<◌, length};
 ghost use Rattle.model.specs.Breaches.{cell_breaches, window_breaches, breaches};
 ghost use Rattle.records.specs.Views.{system_in, plan_in, most_windows, most_devices, most_intervals, Ready};
@@ -22,7 +24,7 @@ use row_places::{CellRow, Device, DeviceRow, Front, MinimaRow, SettingRow, ZoneR
 use start_windows::{all_starts, window_kept};
 
 // Every rule holds, or the first that is broken.
-#[derive(Drop)]
+#[derive(Clone, Copy)]
 pub enum Check {
     Held,
     Broken(Breach),

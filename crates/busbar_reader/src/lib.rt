@@ -1,4 +1,6 @@
 // What a case says of two busbars and the link between them, which came with edition 5: a bar for each device, a limit for the link.
+#![tactic(auto)]
+
 ghost use Rattle.std.specs.Prelude.{◌≡◌, ◌≤◌};
 ghost use Rattle.layouts.specs.Layout.{figure};
 ghost use Rattle.layouts.specs.Since.{since};

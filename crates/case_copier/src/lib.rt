@@ -1,4 +1,6 @@
 // A case's message in the newest edition, copied from its own bits.
+#![tactic(auto)]
+
 ghost use Rattle.std.specs.Prelude.{◌^◌, ◌≤◌, ◌<◌};
 ghost use Rattle.bits.specs.Bits.{reach};
 ghost use Rattle.model.specs.Editions.{interval_bits};

@@ -1,4 +1,6 @@
 // The host library's reader of a case: how many rows its tables have; and what inspecting a case finds.
+#![tactic(auto)]
+
 use case_sizes::{SMALL_DEVICES, SMALL_INTERVALS};
 
 // The largest counts that the host library takes, and the rows that its tables need.

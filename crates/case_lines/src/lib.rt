@@ -1,4 +1,6 @@
 // The line to a batch's first frame, which is of the case, as text at the front of a lent buffer.
+#![tactic(auto)]
+
 ghost use Rattle.std.specs.Prelude.{◌≤◌, length};
 ghost use Rattle.wording.specs.Writes.{line_room};
 ghost use Rattle.frames.specs.Frames.{framed};
@@ -11,7 +13,7 @@ use model::{Subject, Verdict};
 use row_places::Counts;
 
 // The line's bytes; whether plans may follow.
-#[derive(Drop)]
+#[derive(Clone, Copy)]
 pub struct CaseLine {
     pub bytes: usize,
     pub more: bool,

@@ -1,4 +1,6 @@
 // A case message of every edition, read once into the rows of lent tables. The largest counts that are taken are the caller's.
+#![tactic(auto)]
+
 ghost use Rattle.case_reader.specs.Whole.{CaseRoom, BodyRoom, BodyDone, FieldsDone, CaseDone};
 
 use fields::Went;
@@ -15,7 +17,7 @@ const LEAST_HALF: u32 = 1;
 
 const MOST_HALF: u32 = 180;
 
-#[derive(Drop)]
+#[derive(Clone, Copy)]
 pub struct CaseRead {
     pub ending: Ending,
     pub front: Front,

@@ -1,4 +1,6 @@
 // Which tables a case needs, by the counts that its message states.
+#![tactic(auto)]
+
 ghost use Rattle.std.specs.Prelude.{◌≡◌};
 ghost use Rattle.case_sizes.specs.Sizes.{Sized, by_size};
 
@@ -15,7 +17,7 @@ const KIND_BITS: u64 = 4;
 const EDITION_BITS: u64 = 4;
 
 // What a message states of its counts: not both, since it ends ahead of them or has no known edition; at most those of a small case; or more.
-#[derive(Drop)]
+#[derive(Clone, Copy)]
 pub enum Size {
     Unstated,
     Small,

@@ -1,4 +1,6 @@
 // What the rules of one device in one interval read: the bounds of the device, what the clock and the other intervals say.
+#![tactic(auto)]
+
 ghost use Rattle.std.specs.Prelude.{◌≡◌, ◌-◌, ◌^◌, ◌<◌, ◌≤◌};
 ghost use Rattle.cell_bounds.specs.Tests.{limits_of, bounds_of};
 ghost use Rattle.cell_bounds.specs.Word.{bit_unless};
@@ -7,7 +9,7 @@ use kilowatts::Kw;
 use row_places::{Device, Reserves};
 
 // What the rules of a device's intervals read of it; the ramps are in kW/min.
-#[derive(Drop)]
+#[derive(Clone, Copy)]
 pub struct Bounds {
     pub side: u32,
     pub on0: u32,
@@ -57,7 +59,7 @@ pub fn bounds_of(d: Device) -> Bounds
 }
 
 // What the clock and the other intervals say of a device in one interval: su; whether rules 3 and 4 hold; S and d; p and previous p.
-#[derive(Drop)]
+#[derive(Clone, Copy)]
 pub struct Moment {
     pub started: u32,
     pub rested: bool,

@@ -1,4 +1,6 @@
 // A device's cells copied bit by bit into a message of the newest edition.
+#![tactic(auto)]
+
 ghost use Rattle.bits.specs.Pick.{pick};
 ghost use Rattle.layouts.specs.Since.{has};
 ghost use Rattle.std.specs.Prelude.{◌^◌, ◌<◌};

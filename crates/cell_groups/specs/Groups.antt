@@ -50,8 +50,8 @@ reserve_prices = eight (figure 14 0 10000)
 abbrev pub limits_in : LimitsRead → ℕ × (ℕ × ℕ)
 limits_in r = (r.status, (r.pmin.0, r.pmax.0))
 
-abbrev pub block-in : Block → M.Block × ℤ
-block-in b = (record { cap = b.cap.0; floor = b.floor.0 }, less price_offset b.price)
+abbrev pub block_in : Block → M.Block × ℤ
+block_in b = (record { cap = b.cap.0; floor = b.floor.0 }, less price_offset b.price)
 
 abbrev pub no_block : Block
 no_block = record { cap = kw 0; floor = kw 0; price = 0 }
@@ -65,7 +65,7 @@ pub record Absent (bs : List Block) (n : ℕ) : Type 0 where
   pub rest : (k : ℕ) → n ≤ k → k < 4 → Empty (get_or bs k no_block)
 
 pub record BlocksDone (e : ℕ) (s : List ℕ) (p : Place) (r : BlocksRead) : Type 0 where
-  pub is : told r.went (map block-in (take r.count r.blocks)) ≡ got (blocks e) s p
+  pub is : told r.went (map block_in (take r.count r.blocks)) ≡ got (blocks e) s p
   pub long : length r.blocks ≡ 4
   pub absent : (q : Place) → r.went ≡ On q → Absent r.blocks r.count
 

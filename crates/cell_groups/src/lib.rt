@@ -1,4 +1,6 @@
 // The groups of a cell's fields as they are read, and the first of them: status, pmin, pmax.
+#![tactic(auto)]
+
 ghost use Rattle.std.specs.Prelude.{◌≡◌, true, ◌+◌, ◌*◌, ◌≤◌, leb};
 ghost use Rattle.bits.specs.Bits.{reach};
 ghost use Rattle.layouts.specs.Layout.{noted};
@@ -24,7 +26,7 @@ pub const MOST_POWER: u32 = 100000;
 // The three in a row.
 const LIMITS_BITS: u64 = STATUS_BITS + 2 * POWER_BITS;
 
-#[derive(Drop)]
+#[derive(Clone, Copy)]
 pub struct LimitsRead {
     pub went: Went,
     pub status: u32,
@@ -54,7 +56,7 @@ fn limits_checked(pmin: u32, pmax: u32, p: Place, b: u64) -> Place
 }
 
 // What was read where ok; else nothing is said.
-#[derive(Drop)]
+#[derive(Clone, Copy)]
 struct Quick {
     ok: bool,
     read: LimitsRead,
@@ -148,14 +150,14 @@ pub fn read_limits(s: &[u8], p: Place) -> LimitsRead
 }
 
 // One block; its price is kept from 0: the price and 10,000.
-#[derive(Drop)]
+#[derive(Clone, Copy)]
 pub struct Block {
     pub cap: Kw,
     pub floor: Kw,
     pub price: u32,
 }
 
-#[derive(Drop)]
+#[derive(Clone, Copy)]
 pub struct BlocksRead {
     pub went: Went,
     pub count: u32,

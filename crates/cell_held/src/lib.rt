@@ -1,4 +1,6 @@
 // Whether no rule of one device in one interval fails, in one go and by whether it is on.
+#![tactic(auto)]
+
 ghost use Rattle.std.specs.Prelude.{◌≡◌, true, ◌↔◌, [], ◌+◌, ◌≤◌};
 ghost use Rattle.model.specs.Breaches.{failing};
 ghost use Rattle.cell_bounds.specs.Tests.{Sized, Small, state_tests, ramp_tests, on_tests, off_tests, power_tests, tests, ups, downs, off_ups};

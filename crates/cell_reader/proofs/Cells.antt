@@ -32,7 +32,7 @@ use Rattle.field_rows.proofs.Steps.{eight-natural}
 use Rattle.cell_groups.specs.declared.LimitsRead.{LimitsRead}
 use Rattle.cell_groups.specs.declared.Block.{Block}
 use Rattle.cell_groups.specs.declared.BlocksRead.{BlocksRead}
-use Rattle.cell_groups.specs.Groups.{limits, blocks, reserve_prices, limits_in, block-in, no_block, Empty, BlocksDone, cell_with}
+use Rattle.cell_groups.specs.Groups.{limits, blocks, reserve_prices, limits_in, block_in, no_block, Empty, BlocksDone, cell_with}
 use Rattle.cell_reader.specs.Cells.{CellDone, CellsDone}
 use Rattle.cell_groups.proofs.Limits.{limits-natural}
 use Rattle.blocks_reader.proofs.Blocks.{block-natural}
@@ -114,17 +114,17 @@ module _ (l : LimitsRead) (n : ℕ) (bs : List Block) (prices : ReservePrices) (
   prices-are : c.prices ≡ map (λ b. b.price) bs
   prices-are = ap (map (λ (b : Block). b.price)) (four bs no_block long)
 
-  blocks-are : four_blocks c ≡ map (λ b. (block-in b).0) bs
-  blocks-are = ap (map (λ (b : Block). (block-in b).0)) (four bs no_block long)
+  blocks-are : four_blocks c ≡ map (λ b. (block_in b).0) bs
+  blocks-are = ap (map (λ (b : Block). (block_in b).0)) (four bs no_block long)
 
-  row-holds : cell_pair (cell_row c) ≡ grouped (limits_in l) (map block-in (take n bs)) (eight_prices_in prices) (reactive_pair figures)
+  row-holds : cell_pair (cell_row c) ≡ grouped (limits_in l) (map block_in (take n bs)) (eight_prices_in prices) (reactive_pair figures)
   row-holds = ap₂ (λ (x : M.Cell) (y : M.CellPrices). (x, y)) (cell-stored c refl refl refl) (cell-prices-stored c refl refl refl)
       ∙ ap₂ (λ (x : List M.Block) (y : List ℤ). (
         record { status = l.status; pmin = l.pmin.0; pmax = l.pmax.0; blocks = x; reactive = reactive_limits_in figures },
         record { blocks = y; reserves = eight_prices_in prices; reactive = reactive_prices_in figures },
       ))
-      (ap (take n) blocks-are ∙ seen (λ b. (block-in b).0) block-in (λ x. x.0) (λ b. refl) n bs)
-      (ap (λ (x : List ℕ). map (less price_offset) (take n x)) prices-are ∙ parts (λ b. b.price) (less price_offset) block-in (λ x. x.1) (λ b. refl) n bs)
+      (ap (take n) blocks-are ∙ seen (λ b. (block_in b).0) block_in (λ x. x.0) (λ b. refl) n bs)
+      (ap (λ (x : List ℕ). map (less price_offset) (take n x)) prices-are ∙ parts (λ b. b.price) (less price_offset) block_in (λ x. x.1) (λ b. refl) n bs)
 
   row-padded : n ≤ 4 → ((k : ℕ) → n ≤ k → k < 4 → Empty (get_or bs k no_block)) → Padded (cell_row c)
   row-padded few rest = cell-padded c refl refl refl few (λ k m o. (
@@ -159,7 +159,7 @@ module _ (e : ℕ) (s : List ℕ) (p : Place) (l : LimitsRead) (h : told l.went 
           → c ≡ cell_with l b.count b.blocks prices x → CellDone e s p w c
       cell-done {p₃} {w} x m i j = rw j (record {
         is = ap (told w) (row-holds l b.count b.blocks prices x g.long)
-            ∙ mapped (reactive-natural e) (grouped (limits_in l) (map block-in (take b.count b.blocks)) (eight_prices_in prices)) s p₃ w (reactive_pair x)
+            ∙ mapped (reactive-natural e) (grouped (limits_in l) (map block_in (take b.count b.blocks)) (eight_prices_in prices)) s p₃ w (reactive_pair x)
             (cell-4 e s p (went-good (limits_in l) h t) (went-good _ g.is k) (went-good _ o m)) i;
         padded = λ q n. let a = g.absent p₂ k in row-padded l b.count b.blocks prices x g.long a.few a.rest;
       })

@@ -1,4 +1,6 @@
 // A device's cells of a case message, one for each interval, read into rows. A cell is read in groups: limits, blocks, the prices of the eight, reactive power.
+#![tactic(auto)]
+
 ghost use Rattle.std.specs.Prelude.{◌≡◌, ◌≤◌, length};
 ghost use Rattle.records.specs.Views.{most_intervals};
 ghost use Rattle.cell_groups.specs.Groups.{limits, cell_with};
@@ -13,7 +15,7 @@ use price_words::{prices_of, read_prices};
 use reactive_cells::{NEUTRAL, read_reactive};
 use row_places::{Cell, CellRow, ReactiveCell, ReservePrices};
 
-#[derive(Drop)]
+#[derive(Clone, Copy)]
 struct CellRead {
     went: Went,
     cell: Cell,

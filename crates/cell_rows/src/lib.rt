@@ -1,4 +1,6 @@
 // A device in one interval from its row, and into it.
+#![tactic(auto)]
+
 ghost use Rattle.std.specs.Prelude.{◌≡◌, [], ◌<◌, get_or, length, set};
 ghost use Rattle.row_places.specs.Figures.{cell_row, cell_of, pmin_at, reactive_cell_at};
 

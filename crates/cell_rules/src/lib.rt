@@ -1,4 +1,6 @@
 // Rules 1 to 19 of one device in one interval, from its records: the word of those that fail.
+#![tactic(auto)]
+
 ghost use Rattle.std.specs.Prelude.{◌≡◌, ◌+◌, ◌-◌, ◌^◌, ◌<◌};
 ghost use Rattle.cell_bounds.specs.Word.{failing_word};
 ghost use Rattle.cell_bounds.specs.Tests.{Sized, Small, state_tests, ramp_tests, on_tests, off_tests, power_tests, tests};

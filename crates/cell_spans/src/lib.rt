@@ -1,4 +1,6 @@
 // The span of online powers that the moved rules of an interval and device leave.
+#![tactic(auto)]
+
 ghost use Rattle.std.specs.Prelude.{◌≡◌, ◌+◌, ◌-◌, ◌*◌, ◌≤◌, ◌<◌, length, get_or};
 ghost use Rattle.spans.specs.Spans.{whole, within};
 ghost use Rattle.mending.specs.Mending.{most_online};

@@ -1,4 +1,6 @@
 // The choices for a device in an interval, written through a pen.
+#![tactic(auto)]
+
 ghost use Rattle.std.specs.Prelude.{◌++◌, ◌+◌, ◌^◌, ◌≤◌, ◌<◌};
 ghost use Rattle.layouts.specs.Layout.{bits_of};
 ghost use Rattle.model.specs.ByEdition.{device_choice};

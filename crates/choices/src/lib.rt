@@ -1,4 +1,6 @@
 // Our choices for a device in an interval: "Floors first, then price order", "lower-numbered block first; lowest-numbered cheapest state, and none unless it costs below 0".
+#![tactic(auto)]
+
 ghost use Rattle.std.specs.Prelude.{◌≡◌, ◌≤◌, ◌<◌, ◌-◌, ◌*◌, eqb, length};
 ghost use Rattle.bits.specs.Pick.{pick};
 ghost use Rattle.row_places.specs.Figures.{device_at, on_at};
@@ -21,7 +23,7 @@ use setting_rows::{on_at, started_at, stopped_at};
 const NO_COST: u32 = 1_000_000_000;
 
 // The startup state chosen so far, 0 none, and its cost kept from 0.
-#[derive(Drop)]
+#[derive(Clone, Copy)]
 pub struct Chosen {
     pub state: u32,
     pub least: u32,
@@ -143,7 +145,7 @@ fn blocks_of(
 }
 
 // Our choices for one device in one interval; state 0 is none.
-#[derive(Drop)]
+#[derive(Clone, Copy)]
 pub struct Choice {
     pub started: u32,
     pub stopped: u32,

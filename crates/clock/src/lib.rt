@@ -1,4 +1,6 @@
 // S of each interval, and the last E.
+#![tactic(auto)]
+
 ghost use Rattle.std.specs.Prelude.{◌≡◌, ◌+◌, ◌*◌, ◌<◌, length};
 ghost use Rattle.clock.specs.Times.{Halves, Times};
 

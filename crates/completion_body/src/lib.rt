@@ -1,4 +1,6 @@
 // What stands behind the front of a completion or of the market's copy, by widths alone: its figures in a lent table, or where it is cut.
+#![tactic(auto)]
+
 ghost use Rattle.std.specs.Prelude.{◌≡◌, ◌≤◌};
 ghost use Rattle.model.specs.Editions.{most_zones};
 ghost use Rattle.figure_reader.specs.Walks.{Runs};
@@ -22,7 +24,7 @@ const REACTIVE_SHORTFALLS: u64 = 2;
 const SURPLUS_BITS: u64 = 64;
 
 // What is read: a completion for the desk or a copy for the market, by its case's edition and counts.
-#[derive(Drop)]
+#[derive(Clone, Copy)]
 pub struct Form {
     pub desk: bool,
     pub edition: u32,

@@ -1,4 +1,6 @@
 // A completion or the market's copy from its bytes, against what its case gives: refused, or its figures in a lent table.
+#![tactic(auto)]
+
 ghost use Rattle.std.specs.Prelude.{◌≡◌, ◌*◌, ◌≤◌};
 ghost use Rattle.bits.specs.Bits.{reach};
 ghost use Rattle.layouts.specs.Layout.{begin};

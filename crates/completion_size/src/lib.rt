@@ -1,4 +1,6 @@
 // The widths of a completion's fields, and how many bytes its message takes, of every edition.
+#![tactic(auto)]
+
 ghost use Rattle.std.specs.Prelude.{◌≡◌, ◌+◌, ◌*◌, ◌^◌, ◌≤◌, ◌<◌};
 ghost use Rattle.model.specs.Editions.{most_devices, most_intervals, most_zones, most_windows};
 ghost use Rattle.completion_size.specs.Size.{front_width, zone_width, bars_width, mismatches_width, interval_width, needed};

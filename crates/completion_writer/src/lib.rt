@@ -1,4 +1,6 @@
 // A completion's shortfalls, mismatches, overruns and surplus, written through a pen.
+#![tactic(auto)]
+
 ghost use Rattle.std.specs.Prelude.{◌++◌, ◌+◌, ◌^◌, ◌<◌};
 ghost use Rattle.layouts.specs.Layout.{bits_of, any, int};
 ghost use Rattle.model.specs.Messages.{six};

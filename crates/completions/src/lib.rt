@@ -1,4 +1,6 @@
 // Our completion of a plan that breaks no rule, as its message: the intervals, the overruns, and the surplus behind them.
+#![tactic(auto)]
+
 ghost use Rattle.std.specs.Prelude.{◌≡◌, ◌≤◌, length};
 ghost use Rattle.model.specs.Judgement.{counts_of};
 ghost use Rattle.theorems.specs.Back.{Countable};

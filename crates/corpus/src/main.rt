@@ -1,5 +1,7 @@
 // Runs the batches of a corpus, each behind a 32-bit byte length, with a line on each completion's bytes, on each list of breaches and on each message in the
 // newest edition.
+#![tactic(auto)]
+
 ghost use Rattle.std.specs.Prelude.{◌≡◌, ◌^◌, ◌≤◌, ◌<◌, length};
 ghost use Rattle.model.specs.Editions.{batch};
 ghost use Rattle.decoded_cases.specs.Decoded.{Decoded, Work};

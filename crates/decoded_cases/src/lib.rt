@@ -1,1 +1,2 @@
 // No code: a case and a plan decoded into rows, and the tables that hold them.
+#![tactic(auto)]

@@ -1,4 +1,6 @@
 // A case's devices copied bit by bit into a message of the newest edition.
+#![tactic(auto)]
+
 ghost use Rattle.bits.specs.Pick.{pick};
 ghost use Rattle.layouts.specs.Since.{has};
 ghost use Rattle.model.specs.ByEdition.{first_line, second_line};

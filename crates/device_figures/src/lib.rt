@@ -1,4 +1,6 @@
 // What a case says of a device ahead of its intervals, part by part but for its lists: side and zone bits; single figures; its link and its bar.
+#![tactic(auto)]
+
 ghost use Rattle.std.specs.Prelude.{◌≡◌, true, ◌-◌, ◌*◌, ◌%◌, ◌^◌, ◌≤◌, length, eqb};
 ghost use Rattle.layouts.specs.Layout.{noted};
 ghost use Rattle.fields.specs.Got.{got, told};
@@ -26,7 +28,7 @@ const MOST_COST: u32 = 1000000000;
 
 // ---- single figures
 
-#[derive(Drop)]
+#[derive(Clone, Copy)]
 pub struct SidesRead {
     pub went: Went,
     pub side: u32,
@@ -127,7 +129,7 @@ const COSTS: [u32; 9] = [
 ];
 
 // A group of up to five fields.
-#[derive(Drop)]
+#[derive(Clone, Copy)]
 pub struct GroupRead {
     pub went: Went,
     pub values: [u32; 5],
@@ -143,7 +145,7 @@ fn read_group(s: &[u8], p: Place, n: usize, fields: &[u32]) -> GroupRead
 }
 
 // What stands behind the zone bits, up to the lists.
-#[derive(Drop)]
+#[derive(Clone, Copy)]
 pub struct FiguresRead {
     pub went: Went,
     pub initial: [u32; 5],
@@ -202,7 +204,7 @@ pub fn read_figures(s: &[u8], p: Place) -> FiguresRead
 // ---- link and bar
 
 // What stands last ahead of the intervals.
-#[derive(Drop)]
+#[derive(Clone, Copy)]
 pub struct LinkedRead {
     pub went: Went,
     pub link: Link,

@@ -1,4 +1,6 @@
 // What a case says of a device ahead of its intervals, in every edition, as a record by value.
+#![tactic(auto)]
+
 ghost use Rattle.std.specs.Prelude.{◌≡◌, ◌≤◌};
 ghost use Rattle.device_reader.specs.Parts.{MoneyMade, limits_from, DeviceMade};
 ghost use Rattle.model.specs.Editions.{most_zones};
@@ -81,7 +83,7 @@ fn device_of(
     }
 }
 
-#[derive(Drop)]
+#[derive(Clone, Copy)]
 pub struct HeadRead {
     pub went: Went,
     pub device: Device,

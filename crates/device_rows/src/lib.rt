@@ -1,4 +1,6 @@
 // A device from its row, whole or one figure of it.
+#![tactic(auto)]
+
 ghost use Rattle.std.specs.Prelude.{◌≡◌, [], ◌<◌, get_or, length};
 ghost use Rattle.grains.specs.Money.{grains};
 ghost use Rattle.model.specs.Editions.{most_states, most_windows};

@@ -15,7 +15,7 @@ use Rattle.model.specs.Rules as R
 use Rattle.model.specs.Breaches.{apart, first_tests, real_tests}
 use Rattle.row_places.specs.Figures.{cell_of, setting_of, device_of, started_at, stopped_at, previous_at, on_at, on_before}
 use Rattle.numbers.specs.Parts.{part, part-long}
-use Rattle.records.specs.Views.{system_in, plan_in, device_in, cell-in, setting_in, most_power, Ready}
+use Rattle.records.specs.Views.{system_in, plan_in, device_in, cell_in, setting_in, most_power, Ready}
 use Rattle.records.specs.Viewed as W
 use Rattle.records.specs.Ranged as G
 use Rattle.kilowatts.specs.Power.{kw}
@@ -213,7 +213,7 @@ module _ {front : Front} {halves : List ℕ} {zones minima devices cells setting
 
     pub of-cell : OfCell q p t i (cell_of row)
     of-cell =
-        let e : F.cell q t i ≡ cell-in row = G.cell-here ready.case_rows i l t h in
+        let e : F.cell q t i ≡ cell_in row = G.cell-here ready.case_rows i l t h in
         record {
           status = sym (ap (λ (x : M.Cell). x.status) e);
           pmin = sym (ap (λ (x : M.Cell). x.pmin) e);

@@ -1,4 +1,6 @@
 // Rules 1 to 19 of a device in one interval, out of its parts of the tables, which t alone indexes.
+#![tactic(auto)]
+
 ghost use Rattle.std.specs.Prelude.{◌≡◌, true, ◌↔◌, [], ◌<◌, length};
 ghost use Rattle.model.specs.Breaches.{failing};
 ghost use Rattle.cell_bounds.specs.Word.{failing_word};

@@ -1,4 +1,6 @@
 // A device into its row.
+#![tactic(auto)]
+
 ghost use Rattle.std.specs.Prelude.{◌≡◌, ◌<◌, ◌^◌, [], length, get_or, set};
 ghost use Rattle.row_places.specs.Figures.{state_figures, start_figures, energy_figures, EnergiesSmall, DeviceSmall, device_row, with_limit};
 

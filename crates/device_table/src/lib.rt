@@ -1,4 +1,6 @@
 // A case's devices: a row each, and each with its part of the cells.
+#![tactic(auto)]
+
 ghost use Rattle.std.specs.Prelude.{◌≤◌, length};
 ghost use Rattle.model.specs.Editions.{most_zones};
 ghost use Rattle.records.specs.Views.{most_intervals};

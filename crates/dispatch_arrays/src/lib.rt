@@ -1,4 +1,6 @@
 // Between offers, places and named sets: what the offers of each place have as floors, and the powers of the places in the order that their sets are named.
+#![tactic(auto)]
+
 ghost use Rattle.std.specs.Prelude.{◌≡◌, map, ◌-◌, length, get_or, take};
 ghost use Rattle.dispatch_arrays.specs.Arrays.{SaneTo, Floors, Named};
 

@@ -1,4 +1,6 @@
 // The cheapest dispatch of one interval, from a case's bytes; the lent offers in an array. Nothing is required of the caller; every dispatch ends.
+#![tactic(auto)]
+
 ghost use Rattle.model.specs.Editions.{batch, host};
 ghost use Rattle.dispatch_core.specs.Holds.{Holds};
 

@@ -1,4 +1,6 @@
 // The powers that meet a target: from the floors and the least powers on, the sets are raised offer by offer.
+#![tactic(auto)]
+
 ghost use Rattle.dispatch_powers.specs.Powers.{Startable, Dispatches};
 
 use offers::Offer;

@@ -1,1 +1,2 @@
 // What is promised of a dispatch, and its proof. No code.
+#![tactic(auto)]

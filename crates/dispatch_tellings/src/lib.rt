@@ -1,4 +1,6 @@
 // A dispatch as hosts in other languages are told of it: a word, four numbers, and the offers as they are left.
+#![tactic(auto)]
+
 ghost use Rattle.std.specs.Prelude.{◌≡◌};
 ghost use Rattle.dispatch_tellings.specs.Hosts.{told_dispatch};
 
@@ -12,7 +14,7 @@ const CASE: u64 = 2;
 const NOT_DISPATCHED: u64 = 7;
 
 // The word, and the offers as they are left: the host's list goes by an array.
-#[derive(Drop)]
+#[derive(Clone, Copy)]
 pub struct Finished {
     pub word: u64,
     pub offers: [Offer; 256],

@@ -1,4 +1,6 @@
 // A dispatch for hosts in other languages, of a list of offers that stands in an array. Nothing is required of the caller.
+#![tactic(auto)]
+
 ghost use Rattle.dispatch_tellings.specs.Hosts.{Tells};
 
 use dispatch_core::dispatch_held;

@@ -1,4 +1,6 @@
 // The cheapest dispatch of one interval against a decoded case. One body for owners of tables of any size.
+#![tactic(auto)]
+
 ghost use Rattle.decoded_cases.specs.Decoded.{Decoded};
 ghost use Rattle.dispatches.specs.Cases.{Ready, Given, DispatchesCase};
 
@@ -7,7 +9,7 @@ use offers::Offer;
 use row_places::{CellRow, DeviceRow, Front, MinimaRow, ZoneRow};
 
 // The answer, and the offers as they are found again.
-#[derive(Drop)]
+#[derive(Clone, Copy)]
 pub struct Held {
     pub answer: Dispatch,
     pub offers: [Offer; 256],

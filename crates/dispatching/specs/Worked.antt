@@ -57,16 +57,16 @@ on_day t s e o g n p l = record { case = the_day; interval = t; sets = s; earlie
 abbrev turned : List Offer
 turned = dear ∷ cheap ∷ []
 
-abbrev in-order : List Offer
-in-order = cheap ∷ dear ∷ []
+abbrev in_order : List Offer
+in_order = cheap ∷ dear ∷ []
 
 day_rows : List Row
 day_rows =
-    on_day 2 (1 ∷ []) (150 ∷ []) turned 160 (0 ∷ 0 ∷ []) (160 ∷ []) in-order ∷
+    on_day 2 (1 ∷ []) (150 ∷ []) turned 160 (0 ∷ 0 ∷ []) (160 ∷ []) in_order ∷
     on_day 2 (1 ∷ []) (150 ∷ []) turned 149 (9 ∷ 149 ∷ []) (150 ∷ []) turned ∷
-    on_day 2 (1 ∷ []) (150 ∷ []) in-order 201 (9 ∷ 201 ∷ []) (150 ∷ []) in-order ∷
+    on_day 2 (1 ∷ []) (150 ∷ []) in_order 201 (9 ∷ 201 ∷ []) (150 ∷ []) in_order ∷
     on_day 2 (1 ∷ []) (801 ∷ []) turned 200 (9 ∷ 200 ∷ []) (801 ∷ []) turned ∷
-    on_day 2 (1 ∷ []) (800 ∷ []) turned 200 (0 ∷ 0 ∷ []) (200 ∷ []) in-order ∷
+    on_day 2 (1 ∷ []) (800 ∷ []) turned 200 (0 ∷ 0 ∷ []) (200 ∷ []) in_order ∷
     on_day 0 (1 ∷ []) (150 ∷ []) turned 160 (8 ∷ 0 ∷ []) (150 ∷ []) turned ∷
     on_day 3 (1 ∷ []) (150 ∷ []) turned 160 (8 ∷ 0 ∷ []) (150 ∷ []) turned ∷
     on_day 2 (2 ∷ []) (150 ∷ []) turned 160 (8 ∷ 0 ∷ []) (150 ∷ []) turned ∷

@@ -1,4 +1,6 @@
 // What depends on a message's edition, in code: widths and limits, each an equation with its definition. An edition is a number.
+#![tactic(auto)]
+
 ghost use Rattle.std.specs.Prelude.{◌≡◌, min};
 ghost use Rattle.numbers.specs.Sum.{gate};
 ghost use Rattle.layouts.specs.Since.{has};
@@ -11,7 +13,7 @@ pub const NEWEST: u32 = 5;
 const WIDE: u32 = 4;
 
 // The largest counts that a reader takes, in whatever edition.
-#[derive(Drop)]
+#[derive(Clone, Copy)]
 pub struct Largest {
     pub devices: u32,
     pub intervals: u32,

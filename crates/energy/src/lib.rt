@@ -1,15 +1,17 @@
 // "Units: power kW, time minutes, energy kW·min, money grains. Power, energy and money are never added to one another": energy, and the power in
 // which shortfalls are told, as types of their own, whose methods keep the unit.
+#![tactic(auto)]
+
 ghost use Rattle.std.specs.Prelude.{◌≡◌, ◌+◌, ◌-◌, ◌*◌, ◌<◌, ◌^◌};
 
 use grains::Grains;
 
 // Energy.
-#[derive(Drop)]
+#[derive(Clone, Copy)]
 pub struct KwMin(pub u64);
 
 // Power in thousandths of a kW.
-#[derive(Drop)]
+#[derive(Clone, Copy)]
 pub struct Watts(pub u64);
 
 fn wide(x: u32) -> u64

@@ -16,7 +16,7 @@ use Rattle.numbers.specs.Parts.{part, part_cut, part-inside, part-long}
 use Rattle.records.specs.Views.{system_in, plan_in, most_windows, most_devices, most_intervals, Ready}
 use Rattle.records.specs.Viewed as W
 use Rattle.records.specs.Ranged.{start-order}
-use Rattle.row_places.specs.Figures.{no-start}
+use Rattle.row_places.specs.Figures.{no_start}
 use Rattle.row_places.specs.declared.Device.{Device}
 use Rattle.row_places.specs.declared.Front.{Front}
 use Rattle.cell_bounds.specs.declared.Bounds.{Bounds}
@@ -39,10 +39,10 @@ unmapped f (a ∷ l) e = absurd (let z : ◌≡◌ {A = ℕ} 0 1 = cc in omega (
 
 module _ (d : Device) (settings : List (List ℕ)) (starts : List ℕ) (i : ℕ) where
   abbrev counted : ℕ → ℕ
-  counted w = starts_at (get_or d.starts w no-start) d.on0 settings starts
+  counted w = starts_at (get_or d.starts w no_start) d.on0 settings starts
 
   unfoldable pub window_here : ℕ → List Breach
-  window_here w = map (window_breach i w) (failing ((20, leb (counted w) (get_or d.starts w no-start).most) ∷ []))
+  window_here w = map (window_breach i w) (failing ((20, leb (counted w) (get_or d.starts w no_start).most) ∷ []))
 
   unfoldable pub windows_here : List Breach
   windows_here = gather window_here (up_to d.nstarts)

@@ -1,4 +1,6 @@
 // Which rules of an interval and device fail, and the breach of a rule at its place: what the first breach and the list of all read.
+#![tactic(auto)]
+
 ghost use Rattle.std.specs.Prelude.{◌≡◌, ◌*◌, ◌<◌, length};
 ghost use Rattle.model.specs.Rules.{cell_breach, link_breach, window_breach};
 ghost use Rattle.model.specs.Breaches.{failing, cell_tests};

@@ -1,4 +1,6 @@
 // Fields side by side, as one number, and pushed through a pen.
+#![tactic(auto)]
+
 ghost use Rattle.std.specs.Prelude.{◌++◌, ◌+◌, ◌^◌, ◌<◌};
 ghost use Rattle.layouts.specs.Layout.{bits_of};
 ghost use Rattle.pen.specs.Pens.{Ready, Pushes};
@@ -8,7 +10,7 @@ ghost use Rattle.field_groups.specs.Groups.{Holds, Joined, Pushable};
 use pen::{Pen, push};
 
 // Fields side by side, as one number.
-#[derive(Drop)]
+#[derive(Clone, Copy)]
 pub struct Group {
     pub width: u64,
     pub value: u64,

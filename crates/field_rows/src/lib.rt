@@ -1,4 +1,6 @@
 // Several fields of a message in a row, read against their layouts.
+#![tactic(auto)]
+
 ghost use Rattle.std.specs.Prelude.{◌≡◌, ◌*◌, ◌≤◌, length, take, true};
 ghost use Rattle.layouts.specs.Layout.{list, figure};
 ghost use Rattle.model.specs.Messages.{eight};
@@ -59,7 +61,7 @@ pub fn read_row(s: &[u8], p: Place, n: usize, fields: &[u32], out: &mut [u32]) -
     Went::On(q)
 }
 
-#[derive(Drop)]
+#[derive(Clone, Copy)]
 pub struct EightRead {
     pub went: Went,
     pub values: [u32; 8],

@@ -1,4 +1,6 @@
 // The figures of a message, field by field, into a lent table of numbers.
+#![tactic(auto)]
+
 ghost use Rattle.std.specs.Prelude.{◌≡◌, [], ◌∷◌, ◌≤◌, set};
 ghost use Rattle.completion_reading.specs.Flat.{times};
 ghost use Rattle.figure_reader.specs.Walks.{Runs};
@@ -6,7 +8,7 @@ ghost use Rattle.figure_reader.specs.Walks.{Runs};
 use bits::{Cursor, Field};
 
 // How far a message is read, in bits; how many figures that gave; and whether the next field was cut, where reading stands.
-#[derive(Drop)]
+#[derive(Clone, Copy)]
 pub struct Walk {
     pub at: u64,
     pub count: u64,

@@ -1,4 +1,6 @@
 // A block's cap and, from edition 3 on, the floor behind it. An edition that lacks floors has 0.
+#![tactic(auto)]
+
 ghost use Rattle.std.specs.Prelude.{◌≡◌, leb};
 ghost use Rattle.layouts.specs.Layout.{noted};
 ghost use Rattle.model.specs.ByEdition.{block};
@@ -16,7 +18,7 @@ pub const FLOOR_EDITION: u32 = 3;
 const NO_FLOOR: Kw = Kw(0);
 
 // What a block's power lies between.
-#[derive(Drop)]
+#[derive(Clone, Copy)]
 pub struct BoundsRead {
     pub went: Went,
     pub cap: Kw,

@@ -1,4 +1,6 @@
 // The flow of a plan's interval, which came with edition 5, read against its layout.
+#![tactic(auto)]
+
 ghost use Rattle.std.specs.Prelude.{◌≡◌};
 ghost use Rattle.layouts.specs.Since.{since};
 ghost use Rattle.model.specs.Case.{no_flow};

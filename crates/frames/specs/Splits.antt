@@ -12,7 +12,7 @@ use Rattle.layouts.specs.Faults.{number_of}
 use Rattle.layouts.specs.declared.Fault.{Fault}
 use Rattle.layouts.specs.declared.Framed.TheVariants.{End, Message, Refused}
 use Rattle.layouts.proofs.Frames.{no_byte, cut-in-length, above-limit, cut-in-message, message}
-use Rattle.frames.specs.Frames.{limit, head-bytes, frame_bytes, frame_of, framed}
+use Rattle.frames.specs.Frames.{limit, head_bytes, frame_bytes, frame_of, framed}
 
 -- ---- fields of a part of a list
 

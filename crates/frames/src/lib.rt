@@ -1,4 +1,6 @@
 // How much of a batch is read at a time: a frame, which is a message behind its length, as far as the batch goes.
+#![tactic(auto)]
+
 ghost use Rattle.std.specs.Prelude.{◌≡◌, ◌≤◌};
 ghost use Rattle.frames.specs.Frames.{frame_bytes, frame_room};
 

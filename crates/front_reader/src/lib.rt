@@ -1,4 +1,6 @@
 // What stands ahead of a case's durations: kind and edition, counts, the prices of mismatch and overrun, the link's limit; and the end of its day.
+#![tactic(auto)]
+
 ghost use Rattle.std.specs.Prelude.{◌≡◌, take};
 ghost use Rattle.model.specs.Messages.{last_end};
 ghost use Rattle.layouts.specs.Layout.{begin};
@@ -28,26 +30,26 @@ const LEAST_PRICE: u32 = 1;
 
 const MOST_PRICE: u32 = 10000;
 
-#[derive(Drop)]
+#[derive(Clone, Copy)]
 pub struct CountsRead {
     pub went: Went,
     pub counts: Counts,
 }
 
-#[derive(Drop)]
+#[derive(Clone, Copy)]
 pub struct PricesRead {
     pub went: Went,
     pub front: Front,
 }
 
-#[derive(Drop)]
+#[derive(Clone, Copy)]
 pub struct FiguresRead {
     pub went: Went,
     pub front: Front,
     pub limit: Kw,
 }
 
-#[derive(Drop)]
+#[derive(Clone, Copy)]
 pub struct FrontRead {
     pub went: Went,
     pub front: Front,

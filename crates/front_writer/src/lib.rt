@@ -1,4 +1,6 @@
 // What stands ahead of a completion's intervals, of every edition, written through a pen.
+#![tactic(auto)]
+
 ghost use Rattle.model.specs.ByEdition.{completion_front};
 ghost use Rattle.theorems.specs.Back.{Countable};
 ghost use Rattle.pen.specs.Pens.{Ready, Pushes};

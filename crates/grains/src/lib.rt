@@ -1,14 +1,16 @@
 // "Units: power kW, time minutes, energy kW·min, money grains. Power, energy and money are never added to one another": money, and money each
 // minute, as types of their own, whose methods keep the unit; and a ledger of money earned and spent.
+#![tactic(auto)]
+
 ghost use Rattle.std.specs.Prelude.{◌≡◌, ◌+◌, ◌-◌, ◌*◌, ◌<◌, ◌^◌};
 ghost use Rattle.grains.specs.Money.{balance_of, Ledgered};
 
 // Money.
-#[derive(Drop)]
+#[derive(Clone, Copy)]
 pub struct Grains(pub u64);
 
 // Money each minute.
-#[derive(Drop)]
+#[derive(Clone, Copy)]
 pub struct Rate(pub u64);
 
 fn wide(x: u32) -> u64
@@ -72,7 +74,7 @@ pub fn cost_over(rate: u32, minutes: u32) -> Grains
 }
 
 // Money earned and money spent.
-#[derive(Drop)]
+#[derive(Clone, Copy)]
 pub struct Ledger {
     pub credit: Grains,
     pub debit: Grains,

@@ -1,4 +1,6 @@
 // The intervals of our completion: each figure is computed once, its money entered in a ledger and its bits written behind those before it.
+#![tactic(auto)]
+
 ghost use Rattle.std.specs.Prelude.{◌≡◌, ◌*◌, ◌<◌, length, get_or};
 ghost use Rattle.pen.specs.Pens.{Ready};
 ghost use Rattle.pen.specs.Runs.{Room};

@@ -1,4 +1,6 @@
 // One of a device's lists: a startup state, a start window, an energy window, in every edition.
+#![tactic(auto)]
+
 ghost use Rattle.std.specs.Prelude.{◌≡◌, ◌&&◌, leb};
 ghost use Rattle.layouts.specs.Layout.{noted};
 ghost use Rattle.model.specs.Messages.{window_ends, energy_window};
@@ -24,7 +26,7 @@ const MOST_ENERGY: u32 = 4000000000;
 const ANY_16: u32 = 65535;
 
 // What a list holds.
-#[derive(Drop)]
+#[derive(Clone, Copy)]
 pub enum Listed {
     States,
     Starts,
@@ -33,10 +35,10 @@ pub enum Listed {
 
 // One of a list, in the message's order; what it lacks is 0.
 // A startup state: longest downtime, cost kept from 0. A start window: start, end, most starts. An energy window: kind, start, end, energy.
-#[derive(Drop)]
+#[derive(Clone, Copy)]
 pub struct Item(pub u32, pub u32, pub u32, pub u32);
 
-#[derive(Drop)]
+#[derive(Clone, Copy)]
 pub struct ItemRead {
     pub went: Went,
     pub item: Item,
@@ -84,7 +86,7 @@ fn read_ends(s: &[u8], p: Place, last: u32) -> ItemRead
     }
 }
 
-#[derive(Drop)]
+#[derive(Clone, Copy)]
 pub struct ItemsRead {
     pub went: Went,
     pub count: usize,

@@ -1,14 +1,16 @@
 // Reactive power in kvar, a type of its own: never added to kW by accident. Its methods keep the unit.
+#![tactic(auto)]
+
 ghost use Rattle.std.specs.Prelude.{◌≡◌, ◌+◌, ◌-◌, ◌*◌, ◌<◌, ◌^◌};
 
 use grains::{Grains, Rate, product};
 
 // An amount of reactive reserve, or of reactive mismatch.
-#[derive(Drop)]
+#[derive(Clone, Copy)]
 pub struct Kvar(pub u32);
 
 // A reactive power of either sign, kept from 0: the figure is the number less 100,000.
-#[derive(Drop)]
+#[derive(Clone, Copy)]
 pub struct SignedKvar(pub u32);
 
 // Its field, "18 bits, ±100,000" in two's complement; half is the weight of its highest bit.
@@ -22,14 +24,14 @@ pub const MOST_KVAR: u64 = 100000;
 pub const NO_KVAR: SignedKvar = SignedKvar(MOST_KVAR as u32);
 
 // Reactive power in thousandths of a kvar.
-#[derive(Drop)]
+#[derive(Clone, Copy)]
 pub struct Var(pub u64);
 
 // Prices, in grains per kvar·min and in grains per var·min.
-#[derive(Drop)]
+#[derive(Clone, Copy)]
 pub struct KvarPrice(pub u32);
 
-#[derive(Drop)]
+#[derive(Clone, Copy)]
 pub struct VarPrice(pub u32);
 
 fn wide(x: u32) -> u64

@@ -1,16 +1,18 @@
 // "Units: power kW, time minutes, energy kW·min, money grains. Power, energy and money are never added to one another": power as a type of its own,
 // whose methods keep the unit.
+#![tactic(auto)]
+
 ghost use Rattle.std.specs.Prelude.{◌≡◌, ◌+◌, ◌-◌, ◌*◌, ◌<◌, ◌^◌, min, max, leb};
 
 use energy::{KwMin, Watts};
 use grains::{Rate, product};
 
 // Power.
-#[derive(Drop)]
+#[derive(Clone, Copy)]
 pub struct Kw(pub u32);
 
 // A power of either sign, kept from 0: the figure is the number less 100,000.
-#[derive(Drop)]
+#[derive(Clone, Copy)]
 pub struct SignedKw(pub u32);
 
 // Its field, "18 bits, ±100,000" in two's complement; half is the weight of its highest bit.

@@ -1,4 +1,6 @@
 // What a message is made of: faults with their places, the place that advances by one field, and the messages of a batch.
+#![tactic(auto)]
+
 ghost use Rattle.std.specs.Prelude.{◌≡◌};
 ghost use Rattle.layouts.specs.Faults.{number_of, returned_by};
 ghost use Rattle.layouts.specs.Framing.{message_at};
@@ -7,7 +9,7 @@ ghost use Rattle.layouts.specs.Split.{Splits};
 use bits::{bits_at, reached};
 
 // "What the unit gives back": numbers 1 to 7 in this order, each with its bit or its count of bytes.
-#[derive(Drop)]
+#[derive(Clone, Copy)]
 pub enum Fault {
     Cut(u64),
     WrongKind(u64),
@@ -49,21 +51,21 @@ pub fn returned_by(f: Fault) -> u64
 }
 
 // The first contradiction met on the way to a place of a message.
-#[derive(Drop)]
+#[derive(Clone, Copy)]
 pub enum Clash {
     Clear,
     At(u64),
 }
 
 // "A message is read by a place that advances by one field": the next bit, and the first contradiction so far.
-#[derive(Drop)]
+#[derive(Clone, Copy)]
 pub struct Place {
     pub at: u64,
     pub clash: Clash,
 }
 
 // What stands at a byte of a batch: a message's bounds, which end where the next length begins; the end; or a refusal.
-#[derive(Drop)]
+#[derive(Clone, Copy)]
 pub enum Framed {
     End,
     Message(usize, usize),

@@ -1,4 +1,6 @@
 // The lent offers in the order of merit, and whether they are exactly the case's own.
+#![tactic(auto)]
+
 ghost use Rattle.std.specs.Prelude.{◌<◌, ◌≤◌, length};
 ghost use Rattle.numbers.specs.Sum.{All};
 ghost use Rattle.offers.specs.Merit.{room};
@@ -11,7 +13,7 @@ use offers::Offer;
 use row_places::{CellRow, DeviceRow, Front, MinimaRow, ZoneRow};
 
 // Whether the offers are those of the case, and the array in the order of merit.
-#[derive(Drop)]
+#[derive(Clone, Copy)]
 pub struct Lent {
     pub own: bool,
     pub all: [Offer; 256],

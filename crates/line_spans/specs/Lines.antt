@@ -7,7 +7,7 @@ use Rattle.bits.specs.Pick.{pick}
 use Rattle.numbers.specs.Z.{Ex, nat, ◌⊕◌, ◌⊝◌, ◌⊗◌, neg, by≡}
 use Rattle.spans.specs.declared.Span.{Span}
 use Rattle.spans.specs.Spans.{Bound, narrow, within, least, most}
-use Rattle.model.specs.Rules.{highest, lowest, on-line, two_lines, equality}
+use Rattle.model.specs.Rules.{highest, lowest, on_line, two_lines, equality}
 use Rattle.mending_theorems.specs.Bounds.{line_above, line_below}
 use Rattle.kilovars.specs.Reactive.{kvar_offset}
 use Rattle.records.specs.Views.{less, slope_offset, line_in, reactive_in}
@@ -61,13 +61,13 @@ bound-as slope slope' z z' e f = ap₂ (λ (a b : ℤ). record { slope = a; leas
 
 module _ (s : Span) (l : Line) (n a q reserve : ℕ) {x y : ℕ} {r : Span} where
   pub above-done : x ≡ own_level (q + reserve) n a → y ≡ line_level l n a → r ≡ narrow s (sloped_by l.slope x y) → r ≡ narrow s (above_line l n a q reserve)
-  unfolding on-line
+  unfolding on_line
   above-done e f h = h ∙ ap (narrow s) (bound-as _ _ _ _ refl
       (rw (e, f) (by≡ (nat (own_level (q + reserve) n a) ⊝ nat (line_level l n a)) (nat 1000 ⊗ (kvars q ⊕ nat reserve) ⊝ line l n a) (omega arith))))
 
   pub below-done : l.slope ≤ 2 * slope_offset → x ≡ line_level l n a + 1000 * reserve → y ≡ own_level q n a → r ≡ narrow s (sloped_by (2 * slope_offset - l.slope) x y) → r ≡ narrow s
       (below_line l n a q reserve)
-  unfolding on-line
+  unfolding on_line
   below-done g e f h = h ∙ ap (narrow s) (bound-as _ _ _ _
       (by≡ (nat (2 * slope_offset - l.slope) ⊝ nat slope_offset) (neg (nat l.slope ⊝ nat slope_offset)) (omega arith))
       (rw (e, f) (by≡ (nat (line_level l n a + 1000 * reserve) ⊝ nat (own_level q n a)) (line l n a ⊝ nat 1000 ⊗ (kvars q ⊝ nat reserve)) (omega arith))))

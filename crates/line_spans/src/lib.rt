@@ -1,4 +1,6 @@
 // The span of online powers that the lines of a device's link leave.
+#![tactic(auto)]
+
 ghost use Rattle.std.specs.Prelude.{◌≡◌, ◌+◌, ◌-◌, ◌*◌, ◌≤◌, ◌<◌, ◌^◌, eqb};
 ghost use Rattle.bits.specs.Pick.{pick};
 ghost use Rattle.spans.specs.Spans.{narrow, within};

@@ -1,4 +1,6 @@
 // The lines of the batch program besides those of verdicts, as text. Each function writes a line's bytes to the front of a lent buffer and answers how many they are.
+#![tactic(auto)]
+
 ghost use Rattle.std.specs.Prelude.{◌≡◌, ◌≤◌, length};
 ghost use Rattle.layouts.specs.Faults.{number_of};
 ghost use Rattle.model.specs.Batch.{case_line, framing};

@@ -8,7 +8,7 @@ use Rattle.layouts.specs.declared.Place.{Place}
 use Rattle.layouts.specs.Layout.{int, ◌▸◌, figure}
 use Rattle.layouts.specs.Since.{has, since, present, nothing}
 use Rattle.model.specs.Case as M
-use Rattle.model.specs.Case.{no-line, no_link}
+use Rattle.model.specs.Case.{no_line, no_link}
 use Rattle.model.specs.ByEdition.{signed_kvar, line, link, first_line, second_line}
 use Rattle.ranges.specs.Kept.{less}
 use Rattle.kilovars.specs.Reactive.{kvar_offset}
@@ -36,12 +36,12 @@ unfolding line
 line-natural = held-natural _ _ two-natural
 
 module _ (s : List ℕ) (p : Place) {r : Figure} (e : kept kvar_offset r ≡ got signed_kvar s p) where
-  pub no-offset : {w v : Went} (a : M.Line) {f : Fault} → r ≡ F.Bad f → v ≡ placed r → (w ≡ v) × (a ≡ no-line) → told w a ≡ got line s p
+  pub no-offset : {w v : Went} (a : M.Line) {f : Fault} → r ≡ F.Bad f → v ≡ placed r → (w ≡ v) × (a ≡ no_line) → told w a ≡ got line s p
   unfolding line
   no-offset a t d o = stop a t d o.0 (held-off two-natural _ _ s p (then-off (int-natural _ _) _ s p (kept-bad kvar_offset e t)))
 
   module _ {offset : ℕ} {q : Place} (t : r ≡ F.Good offset q) {x : Figure} (h : kept slope_offset x ≡ got (int 15 10000) s q) where
-    pub no-slope : {w v : Went} (a : M.Line) {f : Fault} → x ≡ F.Bad f → v ≡ placed x → (w ≡ v) × (a ≡ no-line) → told w a ≡ got line s p
+    pub no-slope : {w v : Went} (a : M.Line) {f : Fault} → x ≡ F.Bad f → v ≡ placed x → (w ≡ v) × (a ≡ no_line) → told w a ≡ got line s p
     unfolding line
     no-slope a g d o = stop a g d o.0 (held-off two-natural _ _ s p (then-late (int-natural _ _) _ s p slope-natural (kept-good kvar_offset e t) (kept-bad slope_offset h g)))
 
@@ -51,30 +51,30 @@ module _ (s : List ℕ) (p : Place) {r : Figure} (e : kept kvar_offset r ≡ got
 
 -- a line that is there, or not
 module _ {b : Bool} (s : List ℕ) (p : Place) where
-  pub line-there : (w : Went) (a : M.Line) → b ≡ true → told w a ≡ got line s p → told w a ≡ got (present b no-line line) s p
+  pub line-there : (w : Went) (a : M.Line) → b ≡ true → told w a ≡ got line s p → told w a ≡ got (present b no_line line) s p
   unfolding present
   line-there w a t e = rw t e
 
-  pub line-lacks : {w : Went} (a : M.Line) → b ≡ false → (w ≡ W.On p) × (a ≡ no-line) → told w a ≡ got (present b no-line line) s p
+  pub line-lacks : {w : Went} (a : M.Line) → b ≡ false → (w ≡ W.On p) × (a ≡ no_line) → told w a ≡ got (present b no_line line) s p
   unfolding present nothing
   line-lacks a t o = rw t (ap (λ (w : Went). told w a) o.0 ∙ ap (λ (a : M.Line). good a p) o.1)
 
 -- ---- the lines of a kind
 
-upper-natural : (kind : ℕ) → Natural (present (first_line kind) no-line line)
-upper-natural kind = present-natural _ no-line line-natural
+upper-natural : (kind : ℕ) → Natural (present (first_line kind) no_line line)
+upper-natural kind = present-natural _ no_line line-natural
 
-lower-natural : (kind : ℕ) → Natural (present (second_line kind) no-line line)
-lower-natural kind = present-natural _ no-line line-natural
+lower-natural : (kind : ℕ) → Natural (present (second_line kind) no_line line)
+lower-natural kind = present-natural _ no_line line-natural
 
 lines-natural : (kind : ℕ) → Natural (lines kind)
 lines-natural kind = then-natural (upper-natural kind) (λ _. lower-natural kind)
 
-module _ (kind : ℕ) (s : List ℕ) (p : Place) {w : Went} (upper : M.Line) (t : told w upper ≡ got (present (first_line kind) no-line line) s p) where
+module _ (kind : ℕ) (s : List ℕ) (p : Place) {w : Went} (upper : M.Line) (t : told w upper ≡ got (present (first_line kind) no_line line) s p) where
   pub no-upper : {v : Went} (x : M.Line × M.Line) {f : Fault} → w ≡ W.Off f → v ≡ w → told v x ≡ got (lines kind) s p
   no-upper x o k = pass x o k (then-off (upper-natural kind) _ s p (went-bad upper t o))
 
-  pub lines-done : {q : Place} (v : Went) (lower : M.Line) → w ≡ W.On q → told v lower ≡ got (present (second_line kind) no-line line) s q → told v (upper, lower) ≡ got (lines kind) s p
+  pub lines-done : {q : Place} (v : Went) (lower : M.Line) → w ≡ W.On q → told v lower ≡ got (present (second_line kind) no_line line) s q → told v (upper, lower) ≡ got (lines kind) s p
   lines-done v lower o k = then-told (upper-natural kind) _ s p v lower (lower-natural kind) (went-good upper t o) k
 
 -- ---- the kind, then its lines

@@ -1,4 +1,6 @@
 // How a device's reactive power is linked to its power, from edition 2 on: a link kind, then its lines. An edition that lacks it has none.
+#![tactic(auto)]
+
 ghost use Rattle.std.specs.Prelude.{◌≡◌};
 ghost use Rattle.layouts.specs.Since.{since, present};
 ghost use Rattle.model.specs.Case.{no_line, no_link};
@@ -45,7 +47,7 @@ pub const NEUTRAL: Link = Link {
 
 // ---- a line
 
-#[derive(Drop)]
+#[derive(Clone, Copy)]
 struct LineRead {
     went: Went,
     line: Line,
@@ -94,7 +96,7 @@ fn read_present(s: &[u8], p: Place, there: bool) -> LineRead
 
 // ---- the lines of a link kind
 
-#[derive(Drop)]
+#[derive(Clone, Copy)]
 struct LinesRead {
     went: Went,
     upper: Line,
@@ -129,7 +131,7 @@ fn read_lines(s: &[u8], p: Place, kind: u32) -> LinesRead
 
 // ---- the link
 
-#[derive(Drop)]
+#[derive(Clone, Copy)]
 pub struct LinkRead {
     pub went: Went,
     pub link: Link,

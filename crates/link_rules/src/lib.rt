@@ -1,4 +1,6 @@
 // Rule 27: −limit ≤ flow ≤ limit, of the link between the bars. Signed figures are kept from 0, so that both sides of a comparison are naturals.
+#![tactic(auto)]
+
 ghost use Rattle.std.specs.Prelude.{◌≡◌, true, ◌↔◌, ◌*◌, ◌≤◌, length};
 ghost use Rattle.kilovars.specs.Reactive.{kvar_offset};
 ghost use Rattle.link_rules.specs.Link.{within, link_kept, LinkRow, LinkRows, KeptTo};

@@ -1,4 +1,6 @@
 // The lists of a device: startup states, start windows, energy windows, each as a count and that many, in every edition.
+#![tactic(auto)]
+
 ghost use Rattle.std.specs.Prelude.{◌≡◌};
 ghost use Rattle.item_reader.specs.Items.{most_items, item, ItemsNone, ItemsDone};
 

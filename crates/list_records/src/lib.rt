@@ -1,4 +1,6 @@
 // The records of a device's lists as they were read.
+#![tactic(auto)]
+
 ghost use Rattle.std.specs.Prelude.{◌≡◌};
 ghost use Rattle.item_reader.specs.Items.{threes, state_from, start_from, fours, EnergyMade, EnergiesMade};
 

@@ -36,11 +36,11 @@ abbrev Rules : Type 0
 Rules = System → Plan → List Breach
 
 -- of a plan that passed reading
-unfoldable pub listed-by : Rules → System → Plan → List ℕ → Listings
-listed-by rules q p buffer = let bs = rules q p in let r = listing bs (length buffer) in record { answer = r; list = list_after r (list_bytes bs) buffer }
+unfoldable pub listed_by : Rules → System → Plan → List ℕ → Listings
+listed_by rules q p buffer = let bs = rules q p in let r = listing bs (length buffer) in record { answer = r; list = list_after r (list_bytes bs) buffer }
 
 abbrev pub list_plan_by : Rules → System → List ℕ → Whole Plan → Listings
-list_plan_by rules q buffer (passes p) = listed-by rules q p buffer
+list_plan_by rules q buffer (passes p) = listed_by rules q p buffer
 list_plan_by rules q buffer (fails f) = record { answer = Refused S.Plan f; list = buffer }
 
 -- by how its plan is read
@@ -60,8 +60,8 @@ listings_first cs ps buffer = list_case_by P.breaches (λ c. P.read_plan c.syste
 
 -- ---- the same rules broken, the same list
 
-listed-by : (rules : Rules) (x : Stated) (p : Plan) (buffer : List ℕ) → breaches x.case.system p ≡ rules x.case.system p → listed x p buffer ≡ listed-by rules x.case.system p buffer
-unfolding listed listed-by
+listed-by : (rules : Rules) (x : Stated) (p : Plan) (buffer : List ℕ) → breaches x.case.system p ≡ rules x.case.system p → listed x p buffer ≡ listed_by rules x.case.system p buffer
+unfolding listed listed_by
 listed-by rules x p buffer e = rw e refl
 
 -- a plan's bytes, where every plan that passes reading breaks the same rules

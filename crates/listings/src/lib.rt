@@ -1,1 +1,2 @@
 // Theorems on the list of every broken rule; no code.
+#![tactic(auto)]

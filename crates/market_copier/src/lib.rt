@@ -1,4 +1,6 @@
 // The market's copy of a completion, from the completion's own bits: startup states, block powers and surplus are left out.
+#![tactic(auto)]
+
 ghost use Rattle.std.specs.Prelude.{◌^◌, ◌≤◌};
 ghost use Rattle.bits.specs.Pick.{pick};
 ghost use Rattle.layouts.specs.Since.{has};

@@ -1,4 +1,6 @@
 // The market's copy of a plan's completion, from the plan's bytes against a decoded case. One body for owners of tables of any size.
+#![tactic(auto)]
+
 ghost use Rattle.std.specs.Prelude.{◌≡◌, ◌≤◌, length};
 ghost use Rattle.completions.specs.Windows.{Few};
 ghost use Rattle.completions.specs.Whole.{needed_for};

@@ -1,1 +1,2 @@
 // No code: the promises of the market's copy of a plan's completion, on bytes.
+#![tactic(auto)]

@@ -1,4 +1,6 @@
 // The smallest power change that mends a broken plan, in a decoded plan that breaks a rule: from the first breach, by at most two tries.
+#![tactic(auto)]
+
 ghost use Rattle.std.specs.Prelude.{◌≡◌, ◌+◌, ◌*◌, ◌<◌, length};
 ghost use Rattle.model.specs.Breaches.{breaches};
 ghost use Rattle.records.specs.Views.{system_in, plan_in};

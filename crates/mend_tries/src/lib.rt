@@ -1,4 +1,6 @@
 // Trying another online power in a decoded plan: whether the plan with it breaks no rule. The plan stays as it was.
+#![tactic(auto)]
+
 ghost use Rattle.std.specs.Prelude.{◌≡◌, ◌+◌, ◌*◌, ◌≤◌, ◌<◌, length};
 ghost use Rattle.model.specs.Breaches.{breaches};
 ghost use Rattle.records.specs.Views.{system_in, plan_in};
@@ -16,7 +18,7 @@ use setting_rows::online_at;
 use spans::{Span, clamp, is_empty};
 
 // The online power that mends the plan, or none in this interval and device.
-#[derive(Drop)]
+#[derive(Clone, Copy)]
 pub enum Tried {
     Found(u32),
     Missed,

@@ -4,7 +4,7 @@ use Rattle.std.specs.Prelude.{◌≡◌, refl, List, [], ◌∷◌, map, ℕ, ze
 use Rattle.std.proofs.Common.{◌∙◌, arith}
 use Rattle.std.proofs.Math.Option.{Option, none, some}
 use Rattle.model.specs.declared.Breach.{Breach}
-use Rattle.model.specs.Case.{System, Plan, Device, Link, no_reserves, no-flow, no_link}
+use Rattle.model.specs.Case.{System, Plan, Device, Link, no_reserves, no_flow, no_link}
 use Rattle.model.specs.Breaches.{breaches}
 use Rattle.model.specs.Rules.{cell_breach}
 use Rattle.model.specs.Open.{open-rules}
@@ -41,7 +41,7 @@ system link power most intervals = record { halves = replicate intervals 30; lin
 
 -- these powers, with a reactive power
 pub plan : ℤ → List ℕ → Plan
-plan q powers = record { settings = map (λ v. record { on = 1; online = v; reserves = no_reserves; reactive = record { q = q; qru = 0; qrd = 0 } } ∷ []) powers; flows = map (λ (v : ℕ). no-flow) powers }
+plan q powers = record { settings = map (λ v. record { on = 1; online = v; reserves = no_reserves; reactive = record { q = q; qru = 0; qrd = 0 } } ∷ []) powers; flows = map (λ (v : ℕ). no_flow) powers }
 
 rows : (q : ℤ) (powers : List ℕ) (t : ℕ) → t < length (plan q powers).settings → length (get_or (plan q powers).settings t []) ≡ 1
 unfolding plan

@@ -9,7 +9,7 @@ use Rattle.numbers.specs.Sum.{All}
 use Rattle.layouts.specs.Layout.{list, passes, bytes}
 use Rattle.layouts.specs.Since.{since}
 use Rattle.layouts.specs.Sure.{Any}
-use Rattle.model.specs.Case.{System, Plan, Setting, no_setting, no_reactive, no-flow}
+use Rattle.model.specs.Case.{System, Plan, Setting, no_setting, no_reactive, no_flow}
 use Rattle.model.specs.Forced.{intervals, devices}
 use Rattle.model.specs.Editions.{Largest, most_devices, most_intervals}
 use Rattle.model.specs.Messages as M
@@ -70,7 +70,7 @@ module _ (e n : ℕ) (few : n ≤ most_devices) where
   Fits = Fit (B.setting e) 206
 
   -- settings that can be written and a flow that can
-  row_fits : (ss : List Setting) (f : ℤ) → length ss ≡ n → Each Fits no_setting ss → Fit (since e 5 no-flow B.flow) 18 f → Fit (B.planned e n) 13202 (ss, f)
+  row_fits : (ss : List Setting) (f : ℤ) → length ss ≡ n → Each Fits no_setting ss → Fit (since e 5 no_flow B.flow) 18 f → Fit (B.planned e n) 13202 (ss, f)
   row_fits ss f long w z =
       fit_then _ (fit-more (mul-le-mul few (same 206)) (subst (λ (k : ℕ). Fit (list k (B.setting e)) (k * 206) ss) long (fit-each no_setting ss w))) z
 
@@ -113,29 +113,29 @@ module _ (e n m : ℕ) (few : n ≤ most_devices) (short : m ≤ most_intervals)
   abbrev after : List (List Setting)
   after = set ss c.interval changed
 
-  at_row : (t : ℕ) → t < length ss → RowHas (Changeable e) e n (get_or ss t [], get_or fs t no-flow)
-  at_row t l = subst (RowHas (Changeable e) e n) (λ i. (pairs_first [] no-flow ss fs k.step t i, pairs-second [] no-flow ss fs k.step t i))
+  at_row : (t : ℕ) → t < length ss → RowHas (Changeable e) e n (get_or ss t [], get_or fs t no_flow)
+  at_row t l = subst (RowHas (Changeable e) e n) (λ i. (pairs_first [] no_flow ss fs k.step t i, pairs-second [] no_flow ss fs k.step t i))
       (k.each t (omega (arith, pairs-long ss fs k.step)))
 
   step : length fs ≡ length after
   step = k.step ∙ sym (length-set ss c.interval changed)
 
-  row-after : (t : ℕ) → t < length ss → Fit (B.planned e n) 13202 (get_or after t [], get_or fs t no-flow)
+  row-after : (t : ℕ) → t < length ss → Fit (B.planned e n) 13202 (get_or after t [], get_or fs t no_flow)
   row-after t l = go (ℕ_discrete t c.interval)
     where
-      go : Dec (t ≡ c.interval) → Fit (B.planned e n) 13202 (get_or after t [], get_or fs t no-flow)
-      go (yes d) = rw d (subst (λ (r : List Setting). Fit (B.planned e n) 13202 (r, get_or fs c.interval no-flow))
+      go : Dec (t ≡ c.interval) → Fit (B.planned e n) 13202 (get_or after t [], get_or fs t no_flow)
+      go (yes d) = rw d (subst (λ (r : List Setting). Fit (B.planned e n) 13202 (r, get_or fs c.interval no_flow))
           (sym (get_or-set_same ss c.interval changed [] (omega (arith, d, l))))
-          (row-changed e n few row (get_or fs c.interval no-flow) c.device c.power h (at_row c.interval (omega (arith, d, l)))))
-      go (no d) = subst (λ (r : List Setting). Fit (B.planned e n) 13202 (r, get_or fs t no-flow)) (sym (get_or-set_other ss c.interval t changed [] d))
-          (row_kept e n few (get_or ss t []) (get_or fs t no-flow) (at_row t l))
+          (row-changed e n few row (get_or fs c.interval no_flow) c.device c.power h (at_row c.interval (omega (arith, d, l)))))
+      go (no d) = subst (λ (r : List Setting). Fit (B.planned e n) 13202 (r, get_or fs t no_flow)) (sym (get_or-set_other ss c.interval t changed [] d))
+          (row_kept e n few (get_or ss t []) (get_or fs t no_flow) (at_row t l))
 
   zs : List (List Setting × ℤ)
   zs = M.pairs after fs
 
   each_after : Each (Fit (B.planned e n) 13202) no_row zs
   unfolding zs
-  each_after t l = subst (Fit (B.planned e n) 13202) (sym (λ i. (pairs_first [] no-flow after fs step t i, pairs-second [] no-flow after fs step t i)))
+  each_after t l = subst (Fit (B.planned e n) 13202) (sym (λ i. (pairs_first [] no_flow after fs step t i, pairs-second [] no_flow after fs step t i)))
       (row-after t (omega (arith, l, pairs-long after fs step, length-set ss c.interval changed)))
 
   pub replaced-fits : Fit (M.apart (list m (B.planned e n))) 1267392 ((replaced p c).settings, (replaced p c).flows)

@@ -7,7 +7,7 @@ use Rattle.numbers.specs.Sum.{all, gate}
 use Rattle.layouts.specs.Layout.{Layout, bits_of, nat, int, list, ◌then◌, held}
 use Rattle.layouts.specs.Since.{has, nothing, present, since}
 use Rattle.layouts.specs.Trip.{length-bits}
-use Rattle.model.specs.Case.{Plan, Setting, Reserves, Reactive, no_setting, no_reactive, no-flow}
+use Rattle.model.specs.Case.{Plan, Setting, Reserves, Reactive, no_setting, no_reactive, no_flow}
 use Rattle.model.specs.Editions.{widths_of}
 use Rattle.model.specs.Messages as M
 use Rattle.model.specs.ByEdition as B
@@ -100,7 +100,7 @@ row-wide e n ss z h = length-append (gather (B.setting e).write ss) _
     ∙ omega (
       arith,
       gather-wide (B.setting e).write (setting_width e) ss (all (setting-wide e) ss) ∙ ap (λ (k : ℕ). k * setting_width e) h,
-      present-wide (has 5 e) no-flow B.flow 18 z (flow-wide z),
+      present-wide (has 5 e) no_flow B.flow 18 z (flow-wide z),
     )
 
 -- ---- a setting, an interval, a plan
@@ -129,19 +129,19 @@ module _ (e n m : ℕ) (p : Plan) (step : length p.flows ≡ length p.settings) 
   changed = set row c.device (with_online old c.power)
 
   abbrev flow : ℤ
-  flow = get_or p.flows c.interval no-flow
+  flow = get_or p.flows c.interval no_flow
 
   row_field : OneField (c.device * setting_width e + 1) old.online c.power ((B.planned e n).write (row, flow)) ((B.planned e n).write (changed, flow))
   unfolding ◌then◌ list
-  row_field = field-behind ((since e 5 no-flow B.flow).write flow) (field-list no_setting (B.setting e).write (setting_width e) row c.device
+  row_field = field-behind ((since e 5 no_flow B.flow).write flow) (field-list no_setting (B.setting e).write (setting_width e) row c.device
       (with_online old c.power) (omega (arith, full c.interval l)) (λ k m. setting-wide e (get_or row k no_setting)) (setting-field e old c.power))
 
-  at_row : (t : ℕ) → get_or (M.pairs p.settings p.flows) t no_row ≡ (get_or p.settings t [], get_or p.flows t no-flow)
-  at_row t i = (pairs_first [] no-flow p.settings p.flows step t i, pairs-second [] no-flow p.settings p.flows step t i)
+  at_row : (t : ℕ) → get_or (M.pairs p.settings p.flows) t no_row ≡ (get_or p.settings t [], get_or p.flows t no_flow)
+  at_row t i = (pairs_first [] no_flow p.settings p.flows step t i, pairs-second [] no_flow p.settings p.flows step t i)
 
   ahead-wide : (t : ℕ) → t < c.interval → length ((B.planned e n).write (get_or (M.pairs p.settings p.flows) t no_row)) ≡ row_width e n
   ahead-wide t m = ap (λ (r : List Setting × ℤ). length ((B.planned e n).write r)) (at_row t)
-      ∙ row-wide e n (get_or p.settings t []) (get_or p.flows t no-flow) (full t (omega (arith, l, m)))
+      ∙ row-wide e n (get_or p.settings t []) (get_or p.flows t no_flow) (full t (omega (arith, l, m)))
 
   abbrev rows_place : ℕ
   rows_place = c.interval * row_width e n + (c.device * setting_width e + 1)
@@ -151,7 +151,7 @@ module _ (e n m : ℕ) (p : Plan) (step : length p.flows ≡ length p.settings) 
 
   rows-field : OneField rows_place old.online c.power (rows_of (M.pairs p.settings p.flows)) (rows_of (M.pairs (set p.settings c.interval changed) p.flows))
   rows-field = subst (λ (zs : List (List Setting × ℤ)). OneField rows_place old.online c.power (rows_of (M.pairs p.settings p.flows)) (rows_of zs))
-      (sym (pairs_set no-flow p.settings p.flows step c.interval changed))
+      (sym (pairs_set no_flow p.settings p.flows step c.interval changed))
       (field-list no_row (B.planned e n).write (row_width e n) (M.pairs p.settings p.flows) c.interval (changed, flow)
       (omega (arith, l, pairs-long p.settings p.flows step)) ahead-wide
       (subst (λ (r : List Setting × ℤ). OneField (c.device * setting_width e + 1) old.online c.power ((B.planned e n).write r) ((B.planned e n).write (changed, flow)))

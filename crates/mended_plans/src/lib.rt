@@ -1,4 +1,6 @@
 // The smallest power change that mends a plan, against a decoded case: of a decoded plan, and of a plan's bytes for a stack of plans and owners of any size.
+#![tactic(auto)]
+
 ghost use Rattle.std.specs.Prelude.{◌≡◌, ◌≤◌, length};
 ghost use Rattle.records.specs.Views.{plan_in};
 ghost use Rattle.decoded_cases.specs.Decoded.{Decoded, Planned, Work, stated_rows};

@@ -10,7 +10,7 @@ use Rattle.numbers.specs.Tests.{and_in, and_l, and_r}
 use Rattle.numbers.specs.Every.{all_append}
 use Rattle.model.specs.Case.{System, Plan, Reserves, Reactive, Link, Line}
 use Rattle.model.specs.Forced.{intervals, device, cell, cap, consuming, setting, u, least, psu, psd, power, previous, bracket}
-use Rattle.model.specs.Rules.{blocks, raising, lowering, may_rise, may_fall, highest, lowest, on-line, two_lines, equality}
+use Rattle.model.specs.Rules.{blocks, raising, lowering, may_rise, may_fall, highest, lowest, on_line, two_lines, equality}
 use Rattle.model.specs.Breaches.{eq_z}
 use Rattle.mending_theorems.specs.Held.{Held, ramp_tests, power_tests}
 use Rattle.spans.specs.Spans.{Bound, Keeps}
@@ -24,10 +24,10 @@ at_least z = record { slope = pos 1; least = z }
 
 -- a line at powers v + a: at or above z, and at or below z
 abbrev pub line_above : Line → ℕ → ℕ → ℤ → Bound
-line_above l n a z = record { slope = l.slope; least = z -ℤ on-line l n a }
+line_above l n a z = record { slope = l.slope; least = z -ℤ on_line l n a }
 
 abbrev pub line_below : Line → ℕ → ℕ → ℤ → Bound
-line_below l n a z = record { slope = neg_ℤ l.slope; least = on-line l n a -ℤ z }
+line_below l n a z = record { slope = neg_ℤ l.slope; least = on_line l n a -ℤ z }
 
 module _ (q : System) (p : Plan) (t i : ℕ) where
   abbrev r : Reserves
@@ -178,12 +178,12 @@ module _ (v b c : ℕ) where
     line_at k = nat 1000 ⊗ (at l.offset ⊗ nat n) ⊕ at l.slope ⊗ nat k
 
     module _ (z : ℤ) where
-      line-above : Tells (le_z z (on-line l n w)) (line_above l n (b + c) z) v
-      unfolding on-line
+      line-above : Tells (le_z z (on_line l n w)) (line_above l n (b + c) z) v
+      unfolding on_line
       line-above = tells (at z) (line_at w) (at l.slope) (at z ⊝ line_at (b + c)) v (omega arith)
 
-      line-below : Tells (le_z (on-line l n w) z) (line_below l n (b + c) z) v
-      unfolding on-line
+      line-below : Tells (le_z (on_line l n w) z) (line_below l n (b + c) z) v
+      unfolding on_line
       line-below = tells (line_at w) (at z) (neg (at l.slope)) (line_at (b + c) ⊝ at z) v (omega arith)
 
 says-as : {A B : Type 0} (bs : List Bound) {v : ℕ} → (A → B) → (B → A) → Says B bs v → Says A bs v
@@ -237,7 +237,7 @@ module _ (q : System) (p : Plan) (t i v : ℕ) where
   on₀ = pos 1000 *ℤ (x q p t i).q
 
   abbrev line : Line → ℤ
-  line l = on-line l (n q p t i) (v + b + c)
+  line l = on_line l (n q p t i) (v + b + c)
 
   abbrev l₁ : Line
   l₁ = (device q i).link.upper

@@ -6,7 +6,7 @@ use Rattle.numbers.specs.Sum.{All, sumℕ}
 use Rattle.numbers.specs.Base.{implies}
 use Rattle.model.specs.Case.{System, Plan, Reserves, Reactive, Link}
 use Rattle.model.specs.Forced.{device, cell, cap, consuming, start_of, setting, u, least, su, sd, psu, psd, power, previous, bracket}
-use Rattle.model.specs.Rules.{blocks, initial_minimum, ups, downs, raising, lowering, offline, forbidden, may_rise, may_fall, highest, lowest, on-line, two_lines, equality}
+use Rattle.model.specs.Rules.{blocks, initial_minimum, ups, downs, raising, lowering, offline, forbidden, may_rise, may_fall, highest, lowest, on_line, two_lines, equality}
 use Rattle.model.specs.Breaches.{eq_z, apart, first_tests, real_tests, reactive_tests, cell_tests}
 use Rattle.mending_theorems.specs.Replaced.{SameOn, su-same, sd-same, psu-same, psd-same, bracket-same, least-same, rise-same, fall-same}
 
@@ -63,9 +63,9 @@ module _ (q : System) (p : Plan) (t i : ℕ) where
       (16, leb (o + raising (consuming q i) r) ((cell q t i).pmax * u q p t i)) ∷
       (17, le_z (pos ((cell q t i).pmin * u q p t i)) (pos o -ℤ pos (lowering (consuming q i) r))) ∷
       (19, leb (sumℕ (least q p t i) blocks) w && leb w (sumℕ (cap q t i) blocks)) ∷
-      (23, implies (eqb link.kind two_lines) (le_z (pos 1000 *ℤ highest (consuming q i) x) (on-line link.upper n w))) ∷
-      (24, implies (eqb link.kind two_lines) (le_z (on-line link.lower n w) (pos 1000 *ℤ lowest (consuming q i) x))) ∷
-      (25, implies (eqb link.kind equality) (eq_z (pos 1000 *ℤ x.q) (on-line link.upper n w))) ∷ []
+      (23, implies (eqb link.kind two_lines) (le_z (pos 1000 *ℤ highest (consuming q i) x) (on_line link.upper n w))) ∷
+      (24, implies (eqb link.kind two_lines) (le_z (on_line link.lower n w) (pos 1000 *ℤ lowest (consuming q i) x))) ∷
+      (25, implies (eqb link.kind equality) (eq_z (pos 1000 *ℤ x.q) (on_line link.upper n w))) ∷ []
 
   -- all tests of an interval and device
   pub record AllHeld (o w before : ℕ) : Type 0 where

@@ -2,7 +2,7 @@
 use Rattle.std.specs.Prelude.{◌≡◌, refl, [], ◌∷◌, ℕ, zero, suc, ◌<◌, length, get_or}
 use Rattle.std.proofs.Common.{◌∙◌, arith}
 use Rattle.std.proofs.Math.Option.{none, some}
-use Rattle.model.specs.Case.{System, Plan, Setting, no_reserves, no_reactive, no-flow}
+use Rattle.model.specs.Case.{System, Plan, Setting, no_reserves, no_reactive, no_flow}
 use Rattle.model.specs.Breaches.{breaches}
 use Rattle.model.specs.Rules.{cell_breach}
 use Rattle.model.specs.Day.{day_case, reactive_plan, none_added}
@@ -62,7 +62,7 @@ abbrev setting_of : ℕ → ℕ → Setting
 setting_of on online = record { on = on; online = online; reserves = no_reserves; reactive = no_reactive }
 
 pub off_plan : Plan
-off_plan = record { settings = (setting_of 0 7 ∷ setting_of 1 30 ∷ []) ∷ (setting_of 1 150 ∷ setting_of 1 150 ∷ []) ∷ []; flows = no-flow ∷ no-flow ∷ [] }
+off_plan = record { settings = (setting_of 0 7 ∷ setting_of 1 30 ∷ []) ∷ (setting_of 1 150 ∷ setting_of 1 150 ∷ []) ∷ []; flows = no_flow ∷ no_flow ∷ [] }
 
 off-rows : (t : ℕ) → t < 2 → length (get_or off_plan.settings t []) ≡ 2
 unfolding off_plan

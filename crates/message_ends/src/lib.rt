@@ -1,4 +1,6 @@
 // The end of a message: its fill bits, bytes behind it, and the contradictions met on the way.
+#![tactic(auto)]
+
 ghost use Rattle.std.specs.Prelude.{◌≡◌, ◌-◌, ◌*◌, ◌≤◌, length};
 ghost use Rattle.bits.specs.Bits.{reach};
 ghost use Rattle.layouts.specs.Layout.{first_one, tail_fault};
@@ -7,7 +9,7 @@ ghost use Rattle.message_ends.specs.Ended.{ending_of};
 use layouts::{Clash, Fault, Place};
 
 // Whether a message passes reading.
-#[derive(Drop)]
+#[derive(Clone, Copy)]
 pub enum Ending {
     Passes,
     Fails(Fault),

@@ -1,4 +1,6 @@
 // An interval's mismatches, one for each bar, at their needs.
+#![tactic(auto)]
+
 ghost use Rattle.std.specs.Prelude.{◌≡◌, ◌+◌, ◌-◌, ◌<◌, ◌^◌, length};
 ghost use Rattle.row_places.specs.Figures.{flow_at};
 ghost use Rattle.mismatches.specs.Sides.{Powered, Linked, BarsSo, bars_to, apart_of, mismatches_of};
@@ -9,21 +11,21 @@ use row_places::{DeviceRow, SettingRow};
 use setting_rows::flow_at;
 
 // The powers of a bar's consuming and producing devices.
-#[derive(Drop)]
+#[derive(Clone, Copy)]
 pub struct Sides {
     pub consuming: Kw,
     pub producing: Kw,
 }
 
 // Those of bar 0, and of bar 1.
-#[derive(Drop)]
+#[derive(Clone, Copy)]
 pub struct BarSides {
     pub first: Sides,
     pub second: Sides,
 }
 
 // The mismatch of bar 0, and of bar 1.
-#[derive(Drop)]
+#[derive(Clone, Copy)]
 pub struct BarMismatches {
     pub first: Kw,
     pub second: Kw,

@@ -10,7 +10,7 @@ use Rattle.layouts.specs.declared.Place.{Place}
 use Rattle.layouts.specs.Layout.{Layout, begin, advanced, nat, list, ◌then◌, ◌▸◌, held, fixed, read_whole, bits_of}
 use Rattle.layouts.specs.Since.{has, nothing, present}
 use Rattle.layouts.specs.As.{As, as_same, as-pair, as-each, as-list, as-into, as-held, ahead, only, holding, leads}
-use Rattle.model.specs.Case.{Case, System, Plan, Setting, no-flow}
+use Rattle.model.specs.Case.{Case, System, Plan, Setting, no_flow}
 use Rattle.model.specs.Editions.{Largest, device_limit, interval_limit, batch}
 use Rattle.model.specs.Messages as M
 use Rattle.model.specs.Messages.{edition1, pairs, apart, Counts, Written}
@@ -33,14 +33,14 @@ setting-as = record { reads = λ {X} s p bad next. refl; writes = λ x. simp app
 
 -- nor has it a flow
 unflowed : List (List Setting) → List (List Setting) × List ℤ
-unflowed rows = (rows, map (λ (row : List Setting). no-flow) rows)
+unflowed rows = (rows, map (λ (row : List Setting). no_flow) rows)
 
-pairs-are : (rows : List (List Setting)) → pairs rows (map (λ (row : List Setting). no-flow) rows) ≡ map (λ (row : List Setting). (row, no-flow)) rows
+pairs-are : (rows : List (List Setting)) → pairs rows (map (λ (row : List Setting). no_flow) rows) ≡ map (λ (row : List Setting). (row, no_flow)) rows
 unfolding pairs
 pairs-are [] = refl
-pairs-are (row ∷ rows) = ap (λ (xs : List (List Setting × ℤ)). (row, no-flow) ∷ xs) (pairs-are rows)
+pairs-are (row ∷ rows) = ap (λ (xs : List (List Setting × ℤ)). (row, no_flow) ∷ xs) (pairs-are rows)
 
-interval-as : (devices : ℕ) → As (planned 1 devices) (λ row. (row, no-flow)) (list devices M.setting)
+interval-as : (devices : ℕ) → As (planned 1 devices) (λ row. (row, no_flow)) (list devices M.setting)
 unfolding ◌then◌ present nothing
 interval-as devices = record {
   reads = λ s p bad next. (as-each setting-as devices).reads s p bad _;
@@ -54,7 +54,7 @@ rows_as devices intervals = as-into (as-list (interval-as devices) intervals) _ 
 
 -- a plan of edition 1 in the newest form
 abbrev pub in_form : Plan → Plan
-in_form p = record { settings = p.settings; flows = map (λ (row : List Setting). no-flow) p.settings }
+in_form p = record { settings = p.settings; flows = map (λ (row : List Setting). no_flow) p.settings }
 
 pub plan-as : (devices intervals : ℕ) → As (plan_layout 1 devices intervals) in_form (M.plan_layout edition1 devices intervals)
 unfolding plan_by M.plan_layout unflowed

@@ -6,7 +6,7 @@ use Rattle.layouts.specs.declared.Fault.TheVariants.{WrongKind}
 use Rattle.layouts.specs.Layout.{Field, Layout, Whole, nat, int, ◌then◌, ◌▸◌, list, held, counted, figure, any, count_of, fixed, read_whole, such}
 use Rattle.layouts.specs.Since.{since, present}
 use Rattle.model.specs.Case.{StartWindow, Line, Link, Block, Cell, Device, Minima, Zone, CellPrices, DevicePrices, Kinds, Case, System, Reactive, Setting}
-use Rattle.model.specs.Case.{Plan, no_reactive, ReactiveLimits, ReactiveReserves, no_reactive_limits, no_reactive_reserves, no-line, no_link, no-flow, unit_prices}
+use Rattle.model.specs.Case.{Plan, no_reactive, ReactiveLimits, ReactiveReserves, no_reactive_limits, no_reactive_reserves, no_line, no_link, no_flow, unit_prices}
 use Rattle.std.specs.Int.Signed.{le_z}
 use Rattle.model.specs.Forced.{intervals, devices}
 use Rattle.model.specs.Editions.{newest, Largest, Widths, widths_of, most_zones, most_states, most_windows}
@@ -133,7 +133,7 @@ unfoldable pub link : Layout Link
 link = held
     (λ v. record { kind = v.0; upper = v.1.0; lower = v.1.1 })
     (λ r. (r.kind, (r.upper, r.lower)))
-    (figure 2 0 2 then (λ kind. present (first_line kind) no-line line ▸ present (second_line kind) no-line line))
+    (figure 2 0 2 then (λ kind. present (first_line kind) no_line line ▸ present (second_line kind) no_line line))
 
 -- "it gives each device a bar (1 bit, last before its intervals)"
 abbrev pub bar : Layout ℕ
@@ -256,7 +256,7 @@ flow = int 18 100000
 
 -- an interval's part of a plan: "per device"; behind them, since edition 5, the flow
 abbrev pub planned : ℕ → ℕ → Layout (List Setting × ℤ)
-planned e devices = list devices (setting e) ▸ since e 5 no-flow flow
+planned e devices = list devices (setting e) ▸ since e 5 no_flow flow
 
 -- "kind 4 (2); edition 4; devices 5; intervals 6, equal to the case's; per interval, per device: .."
 unfoldable pub plan_by : Widths → ℕ → ℕ → ℕ → Layout Plan

@@ -6,7 +6,7 @@ use Rattle.numbers.specs.Base.{every}
 use Rattle.layouts.specs.declared.Fault.TheVariants.{WrongKind}
 use Rattle.layouts.specs.Layout.{passes, fails}
 use Rattle.model.specs.Open.{open-rules, open-messages}
-use Rattle.model.specs.Case.{Case, Cell, Device, DevicePrices, Link, Plan, Reserves, Setting, no-flow, no_link, no_reactive, no_reactive_reserves, no_reserves}
+use Rattle.model.specs.Case.{Case, Cell, Device, DevicePrices, Link, Plan, Reserves, Setting, no_flow, no_link, no_reactive, no_reactive_reserves, no_reserves}
 use Rattle.model.specs.Editions.{batch}
 use Rattle.model.specs.ByEdition.{stated_in, planned_in}
 use Rattle.model.specs.Judgement.{judged}
@@ -104,7 +104,7 @@ day_of intervals limit sets = record {
 -- ---- rules 7 to 15 and 18
 
 holding : ℕ → ℕ → Reserves → Plan
-holding on online r = record { settings = (record { on = on; online = online; reserves = r; reactive = no_reactive } ∷ []) ∷ []; flows = no-flow ∷ [] }
+holding on online r = record { settings = (record { on = on; online = online; reserves = r; reactive = no_reactive } ∷ []) ∷ []; flows = no_flow ∷ [] }
 
 -- a producing set that stays on at 50 kW, and a set that stays off
 while_on : Reserves → Answer → Row
@@ -252,7 +252,7 @@ whole_plan flow = record {
 -- in edition 4, and in edition 5 on bar 1 with 5 kW against the link's way
 unfoldable pub row4 : Row
 unfolding accepted eight limits whole_link whole_cell whole_device whole_prices whole_case whole_plan
-row4 = record { case = whole_case 0 0; plan = whole_plan no-flow; answer = accepted (negsuc 2952036) (63, 10640132688010600907321149256143451303035423913984518452743346862921236843285729208216837061650495098354458432723668037763750916410773260211583594984603) }
+row4 = record { case = whole_case 0 0; plan = whole_plan no_flow; answer = accepted (negsuc 2952036) (63, 10640132688010600907321149256143451303035423913984518452743346862921236843285729208216837061650495098354458432723668037763750916410773260211583594984603) }
 
 unfoldable pub row5 : Row
 unfolding accepted eight limits whole_link whole_cell whole_device whole_prices whole_case whole_plan

@@ -2,7 +2,7 @@
 use Rattle.std.specs.Prelude.{Bool, List, [], ◌∷◌, ℕ, T, replicate, ℤ, pos, negsuc}
 use Rattle.numbers.specs.Base.{every}
 use Rattle.model.specs.Open.{open-rules, open-messages}
-use Rattle.model.specs.Case.{Case, Plan, Setting, Link, Line, Reactive, ReactiveLimits, no_link, no-line, no_reactive, no-flow, no_reactive_limits, no_reactive_reserves, no_reserves, unit_prices}
+use Rattle.model.specs.Case.{Case, Plan, Setting, Link, Line, Reactive, ReactiveLimits, no_link, no_line, no_reactive, no_flow, no_reactive_limits, no_reactive_reserves, no_reserves, unit_prices}
 use Rattle.model.specs.Judgement.{verdict}
 use Rattle.model.specs.Shown.{shown, eqℤ, eq_list}
 use Rattle.model.specs.Day.{Added, none_added, block, day_case, reactive_plan}
@@ -29,7 +29,7 @@ between : Line → Line → Link
 between upper lower = record { kind = 1; upper = upper; lower = lower }
 
 equal : Line → Link
-equal l = record { kind = 2; upper = l; lower = no-line }
+equal l = record { kind = 2; upper = l; lower = no_line }
 
 accepted : ℤ → List ℤ
 accepted z = pos 0 ∷ z ∷ []
@@ -153,11 +153,11 @@ limited side = single side 7 no_link (limits (negsuc 4) (pos 10)) 1
 lines : ℕ → Case
 lines side = single side 7 (between (line (pos 2) (pos 333)) (line (negsuc 2) (negsuc 199))) (limits (negsuc 99) (pos 100)) 1
 
-on-line : Case
-on-line = single 0 7 (equal (line (pos 1) (pos 1000))) (limits (negsuc 9) (pos 10)) 1
+on_line : Case
+on_line = single 0 7 (equal (line (pos 1) (pos 1000))) (limits (negsuc 9) (pos 10)) 1
 
 at_seven : Reactive → Plan
-at_seven x = record { settings = setting 1 7 x ∷ []; flows = replicate 1 no-flow }
+at_seven x = record { settings = setting 1 7 x ∷ []; flows = replicate 1 no_flow }
 
 -- 30 kW; an interval off, where 10 kW fall and 10 kW rise; 30 kW again: in it p is 20 kW and n is 2
 crossing : Link → ReactiveLimits → Case
@@ -167,10 +167,10 @@ tied : Case
 tied = crossing (equal (line (pos 2) (pos 100))) (limits (pos 0) (pos 9))
 
 crossed : Reactive → Reactive → Reactive → Plan
-crossed x y z = record { settings = setting 1 30 x ∷ setting 0 0 y ∷ setting 1 30 z ∷ []; flows = replicate 3 no-flow }
+crossed x y z = record { settings = setting 1 30 x ∷ setting 0 0 y ∷ setting 1 30 z ∷ []; flows = replicate 3 no_flow }
 
 unfoldable pub small_rows : List Row
-unfolding limits planned line between equal accepted broken single setting limited lines on-line at_seven crossing tied crossed
+unfolding limits planned line between equal accepted broken single setting limited lines on_line at_seven crossing tied crossed
 small_rows =
     -- a producing set holds qru against qmax and qrd against qmin, a consuming one the other way round
     record { case = limited 0; plan = at_seven (planned (pos 7) 3 12); tells = accepted (negsuc 629) } ∷
@@ -187,9 +187,9 @@ small_rows =
     record { case = lines 1; plan = at_seven (planned (pos 1) 5 4); tells = broken 23 1 1 } ∷
     record { case = lines 1; plan = at_seven (planned (pos 1) 6 3); tells = broken 24 1 1 } ∷
     -- on the line; with either reserve
-    record { case = on-line; plan = at_seven (planned (pos 8) 0 0); tells = accepted (negsuc 639) } ∷
-    record { case = on-line; plan = at_seven (planned (pos 8) 1 0); tells = broken 26 1 1 } ∷
-    record { case = on-line; plan = at_seven (planned (pos 8) 0 1); tells = broken 26 1 1 } ∷
+    record { case = on_line; plan = at_seven (planned (pos 8) 0 0); tells = accepted (negsuc 639) } ∷
+    record { case = on_line; plan = at_seven (planned (pos 8) 1 0); tells = broken 26 1 1 } ∷
+    record { case = on_line; plan = at_seven (planned (pos 8) 0 1); tells = broken 26 1 1 } ∷
     -- two trajectories at once: limits and offsets count twice
     record { case = crossing no_link (limits (negsuc 2) (pos 3)); plan = crossed no_reactive (planned (pos 6) 0 0) no_reactive; tells = accepted (negsuc 6459) } ∷
     record { case = crossing no_link (limits (negsuc 2) (pos 3)); plan = crossed no_reactive (planned (pos 7) 0 0) no_reactive; tells = broken 21 2 1 } ∷

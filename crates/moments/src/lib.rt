@@ -1,4 +1,6 @@
 // What the clock and the other intervals say of a device in one interval, out of its parts of the tables, which t alone indexes.
+#![tactic(auto)]
+
 ghost use Rattle.std.specs.Prelude.{◌≡◌, true, ◌*◌, ◌<◌, length};
 ghost use Rattle.kilowatts.specs.Power.{kw};
 ghost use Rattle.row_places.specs.Figures.{previous_at};

@@ -1,4 +1,6 @@
 // The money that a device brings in an interval, entered in a ledger.
+#![tactic(auto)]
+
 ghost use Rattle.std.specs.Prelude.{◌≡◌, ◌+◌, ◌*◌, ◌≤◌, ◌<◌, pos, neg_ℤ, eqb, length};
 ghost use Rattle.row_places.specs.Figures.{device_at};
 ghost use Rattle.choices.specs.States.{cost_of};

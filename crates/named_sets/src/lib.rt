@@ -1,4 +1,6 @@
 // The sets that are named: each in the case, producing, and named once; the interval in the case; as many earlier powers as sets.
+#![tactic(auto)]
+
 ghost use Rattle.std.specs.Prelude.{◌≡◌, ◌≤◌, length, drop};
 ghost use Rattle.model.specs.Editions.{most_devices};
 ghost use Rattle.records.specs.Views.{system_in, CaseRows};

@@ -1,4 +1,6 @@
 // The answer of a try, and the better of two: the smaller change, the earlier interval among equals.
+#![tactic(auto)]
+
 ghost use Rattle.std.specs.Prelude.{◌≡◌, ◌<◌};
 ghost use Rattle.records.specs.Views.{most_devices, most_intervals};
 ghost use Rattle.mend_tries.specs.declared.Tried.TheVariants.{Found};

@@ -1,6 +1,8 @@
 // An offer of a set: one of its blocks. "Each with its set, block number (both from 1), cap, floor and price".
+#![tactic(auto)]
+
 #[repr(C)]
-#[derive(Drop)]
+#[derive(Clone, Copy)]
 pub struct Offer {
     pub set: u64,
     pub block: u64,

@@ -1,4 +1,6 @@
 // An online power into the row of its setting; the row's other figures stay.
+#![tactic(auto)]
+
 ghost use Rattle.std.specs.Prelude.{◌≡◌, [], ◌<◌, get_or, length, set};
 ghost use Rattle.online_rows.specs.Plans.{with_online_row};
 

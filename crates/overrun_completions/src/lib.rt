@@ -1,4 +1,6 @@
 // The overruns of our completion: each is computed once, its money entered in a ledger and its bits written behind those before it.
+#![tactic(auto)]
+
 ghost use Rattle.std.specs.Prelude.{◌≡◌, ◌*◌, ◌<◌, length};
 ghost use Rattle.model.specs.Judgement.{energy_windows};
 ghost use Rattle.pen.specs.Pens.{Ready};

@@ -1,4 +1,6 @@
 // An energy window's overrun, at its need.
+#![tactic(auto)]
+
 ghost use Rattle.std.specs.Prelude.{◌≡◌, ◌+◌, ◌-◌, ◌<◌, ◌≤◌, min, max, length};
 ghost use Rattle.overruns.specs.Energies.{longest, minutes_of, Running, Spent, energy_to, over_of};
 

@@ -19,7 +19,7 @@ use Rattle.kilowatts.specs.declared.Kw.{Kw}
 use Rattle.row_places.specs.declared.Cell.{Cell}
 use Rattle.row_places.specs.declared.Front.{Front}
 use Rattle.row_places.specs.Figures.{cell_of}
-use Rattle.records.specs.Views.{CaseRows, case_in, less, price_offset, number_of, cell-in, four_blocks}
+use Rattle.records.specs.Views.{CaseRows, case_in, less, price_offset, number_of, cell_in, four_blocks}
 use Rattle.records.specs.Viewed as W
 use Rattle.records.specs.Ranged as R
 use Rattle.offers.specs.declared.Offer.{Offer}

@@ -1,4 +1,6 @@
 // The blocks of the named sets in an interval, as offers.
+#![tactic(auto)]
+
 ghost use Rattle.std.specs.Prelude.{◌≡◌, ◌≤◌, ◌<◌, length, take};
 ghost use Rattle.numbers.specs.Sum.{All};
 ghost use Rattle.records.specs.Views.{CaseRows, case_in, less, price_offset};
@@ -12,7 +14,7 @@ use offers::Offer;
 use row_places::{Cell, CellRow, DeviceRow, Front, MinimaRow, ZoneRow};
 
 // Offers in an array, and how many there are.
-#[derive(Drop)]
+#[derive(Clone, Copy)]
 pub struct Listed {
     pub all: [Offer; 256],
     pub n: usize,

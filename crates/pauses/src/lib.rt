@@ -1,4 +1,6 @@
 // A short sleep, for whoever waits on something that is not ready.
+#![tactic(auto)]
+
 use libc::types::timespec;
 
 // Ten milliseconds, in nanoseconds.

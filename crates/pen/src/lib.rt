@@ -1,11 +1,13 @@
 // Fields written one behind the other through a number of pending bits, which is stored eight bytes at a time.
+#![tactic(auto)]
+
 ghost use Rattle.std.specs.Prelude.{◌≡◌, length, drop, ◌++◌, ◌+◌, ◌-◌, ◌*◌, ◌%◌, ◌^◌, ◌≤◌, ◌<◌};
 ghost use Rattle.layouts.specs.Layout.{bits_of};
 ghost use Rattle.pen.specs.Stored.{stored};
 ghost use Rattle.pen.specs.Pens.{Ready, Pushes, Finishes};
 
 // The last `n` bits of a message so far, fewer than 64, and the bytes that stand in the buffer ahead of them.
-#[derive(Drop)]
+#[derive(Clone, Copy)]
 pub struct Pen {
     pub acc: u64,
     pub n: u64,

@@ -1,4 +1,6 @@
 // Figures by place, one for each of the 64 devices that a case can have: their sum, and whether the bounds of all allow a target.
+#![tactic(auto)]
+
 ghost use Rattle.std.specs.Prelude.{◌≡◌};
 ghost use Rattle.place_totals.specs.Totals.{Small, total_of, ordered_by, meetable};
 

@@ -6,7 +6,7 @@ use Rattle.bits.specs.Pick.{pick}
 use Rattle.layouts.specs.Since.{has}
 use Rattle.pen.specs.Pens.{Ready}
 use Rattle.writing.specs.Splice.{Splice, keep, add, ◌⨾◌, times}
-use Rattle.writing.specs.PlanSplices.{setting_splice, rows_splice, plan_splice, front-of}
+use Rattle.writing.specs.PlanSplices.{setting_splice, rows_splice, plan_splice, front_of}
 use Rattle.bit_copier.specs.declared.Copier.{Copier}
 use Rattle.bit_copier.specs.Moves.{Set, Adding, Moves, start, set_after, add-moves, moves-then}
 
@@ -34,7 +34,7 @@ pub set_front : {d i : ℕ} {a b s : List ℕ} {q r : Copier} → Fronts d i a b
 set_front f h = record { ready = f.ready; inside = omega (arith, f.from, h.inside) }
 
 -- from where the rows begin
-pub plan-moves : (e d i at : ℕ) {s a b c : List ℕ} {r z : Copier} → at ≡ front-of e → Set s (start at) → Fronts d i a b (start at) r
-    → Moves (times i (times d (setting_splice e) ⨾ pick (has 5 e) (keep 18) (add 18 0))) s b c r z → Moves (plan_splice e d i) s a c (start (front-of e)) z
+pub plan-moves : (e d i at : ℕ) {s a b c : List ℕ} {r z : Copier} → at ≡ front_of e → Set s (start at) → Fronts d i a b (start at) r
+    → Moves (times i (times d (setting_splice e) ⨾ pick (has 5 e) (keep 18) (add 18 0))) s b c r z → Moves (plan_splice e d i) s a c (start (front_of e)) z
 unfolding plan_splice rows_splice
 plan-moves e d i at {s} {a} {b} {c} {r} {z} k h f m = rw (sym k) (f.does _ s c z h m)

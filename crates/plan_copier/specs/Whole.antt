@@ -14,23 +14,23 @@ use Rattle.model.specs.ByEdition.{plan_layout}
 use Rattle.writing.specs.Anew.{rows_bytes, Writings, writing, put}
 use Rattle.writing.specs.Same.{rows_fit}
 use Rattle.writing.specs.Splice.{past, spliced, past_up}
-use Rattle.writing.specs.PlanSplices.{plan_splice, front-of, plan-spliced}
+use Rattle.writing.specs.PlanSplices.{plan_splice, front_of, plan-spliced}
 use Rattle.bit_copier.specs.Moves.{Renews, most}
 
 -- a plan that passes reading has a front
-pub some-front : (e d n : ℕ) (s : List ℕ) (p : Plan) → read_whole (plan_layout e d n) s ≡ passes p → front-of e ≤ 8 * reach s
-some-front e d n s p g = omega (arith, (plan-spliced e d n s p g).1, past_up (plan_splice e d n) s (front-of e))
+pub some-front : (e d n : ℕ) (s : List ℕ) (p : Plan) → read_whole (plan_layout e d n) s ≡ passes p → front_of e ≤ 8 * reach s
+some-front e d n s p g = omega (arith, (plan-spliced e d n s p g).1, past_up (plan_splice e d n) s (front_of e))
 
 module _ (e d n : ℕ) (old : e ≤ newest) (few : d ≤ most_devices) (short : n ≤ most_intervals) (s : List ℕ) (p : Plan) (g : read_whole (plan_layout e d n) s ≡ passes p) where
-  spliced-is : bytes (spliced (plan_splice e d n) s (front-of e)) ≡ rows_bytes d n p
+  spliced-is : bytes (spliced (plan_splice e d n) s (front_of e)) ≡ rows_bytes d n p
   unfolding rows_bytes
   spliced-is = ap bytes (plan-spliced e d n s p g).0
 
-  few_bits : length (spliced (plan_splice e d n) s (front-of e)) ≤ most
+  few_bits : length (spliced (plan_splice e d n) s (front_of e)) ≤ most
   few_bits = omega (arith, ap length (plan-spliced e d n s p g).0, (rows_fit e d n old few short s p g).size)
 
   -- the code's answer and buffer are those of the definition
-  pub plan-written : {entry exit : List ℕ} {k : ℕ} → Renews (plan_splice e d n) (front-of e) s entry exit k
+  pub plan-written : {entry exit : List ℕ} {k : ℕ} → Renews (plan_splice e d n) (front_of e) s entry exit k
       → (k ≡ length (rows_bytes d n p)) × (exit ≡ (put (rows_bytes d n p) entry).result) × (writing k (length entry) ≡ (put (rows_bytes d n p) entry).answer)
   unfolding put writing
   plan-written {entry} {exit} {k} r =

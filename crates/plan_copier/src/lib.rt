@@ -1,4 +1,6 @@
 // A plan's message in the newest edition, copied from its own bits.
+#![tactic(auto)]
+
 ghost use Rattle.std.specs.Prelude.{◌≡◌, ◌*◌, ◌^◌, ◌≤◌, ◌<◌};
 ghost use Rattle.bits.specs.Bits.{reach};
 ghost use Rattle.bits.specs.Pick.{pick};

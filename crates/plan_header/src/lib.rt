@@ -1,4 +1,6 @@
 // What stands ahead of a plan's settings, of every edition, read against its layout.
+#![tactic(auto)]
+
 ghost use Rattle.std.specs.Prelude.{◌≡◌};
 ghost use Rattle.layouts.specs.Layout.{begin};
 ghost use Rattle.fields.specs.Got.{got, figured};

@@ -1,4 +1,6 @@
 // Judging a plan's bytes against a decoded case.
+#![tactic(auto)]
+
 ghost use Rattle.decoded_cases.specs.Decoded.{Decoded, Planned, Work};
 ghost use Rattle.acceptance.specs.Decided.{Decides};
 ghost use Rattle.plan_judgement.specs.JudgesPlan.{JudgesPlan};

@@ -18,7 +18,7 @@ use Rattle.layouts.specs.Since.{has, since}
 use Rattle.fields.specs.Since.{present-natural}
 use Rattle.kilovars.specs.Reactive.{kvar_offset}
 use Rattle.model.specs.Case as M
-use Rattle.model.specs.Case.{no-flow}
+use Rattle.model.specs.Case.{no_flow}
 use Rattle.model.specs.ByEdition.{setting, planned, flow}
 use Rattle.numbers.specs.Rows.{rows}
 use Rattle.row_places.specs.declared.Setting.{Setting}
@@ -43,8 +43,8 @@ use Rattle.setting_reader.proofs.Steps.{setting-natural}
 went-one : {f : Fault} {q : Place} → W.Off f ≡ W.On q → ⊥
 went-one e = let z : ◌≡◌ {A = ℕ} 0 1 = ap (λ (w : Went). elim w [ W.Off f ↦ 0 | W.On q ↦ 1 ]) e in omega arith
 
-pub flow-natural : (e : ℕ) → Natural (since e 5 no-flow flow)
-flow-natural e = present-natural (has 5 e) no-flow (int-natural 18 100000)
+pub flow-natural : (e : ℕ) → Natural (since e 5 no_flow flow)
+flow-natural e = present-natural (has 5 e) no_flow (int-natural 18 100000)
 
 pub interval-natural : (e n : ℕ) → Natural (planned e n)
 interval-natural e n = then-natural (list-natural n (setting-natural e)) (λ _. flow-natural e)
@@ -160,7 +160,7 @@ module _ {e n m t : ℕ} {s : List ℕ} {p : Place} {old new : List (List ℕ)} 
   pub interval-off : {f : Fault} → w ≡ W.Off f → IntervalDone e n m t s p old new w
   interval-off o = record { reads = told-off _ o (then-off settings-natural _ s p (went-bad _ d.reads o)); others = d.others }
 
-  module _ {q : Place} (o : w ≡ W.On q) (r : Figure) (g : kept kvar_offset r ≡ got (since e 5 no-flow flow) s q) where
+  module _ {q : Place} (o : w ≡ W.On q) (r : Figure) (g : kept kvar_offset r ≡ got (since e 5 no_flow flow) s q) where
     read-good : got (list n (setting e)) s p ≡ good (settings_at n m new t) q
     read-good = went-good _ d.reads o
 

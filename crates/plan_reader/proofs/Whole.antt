@@ -12,7 +12,7 @@ use Rattle.layouts.specs.declared.Place.{Place}
 use Rattle.layouts.specs.Layout.{held, ◌then◌, list, begin, read_whole}
 use Rattle.layouts.specs.Sure.{Any, sure-checked, whole-sure}
 use Rattle.model.specs.Case as M
-use Rattle.model.specs.Case.{no_setting, no-flow}
+use Rattle.model.specs.Case.{no_setting, no_flow}
 use Rattle.model.specs.Messages.{apart}
 use Rattle.kilovars.specs.Reactive.{kvar_offset}
 use Rattle.row_places.specs.Figures.{flow_at}
@@ -95,8 +95,8 @@ module _ (n m : ℕ) (settings : List (List ℕ)) (ok : Settings n m (plan_in n 
   unfolding plan_in
   flow-at t l = omega (
     arith,
-    kept_small kvar_offset (flow_at settings t) (rw (rows_at (λ t. less kvar_offset (flow_at settings t)) no-flow m t l)
-        at (all-or (λ z. nat_abs z ≤ kvar_offset) no-flow (omega arith) (rows (λ t. less kvar_offset (flow_at settings t)) m) ok.2 t)),
+    kept_small kvar_offset (flow_at settings t) (rw (rows_at (λ t. less kvar_offset (flow_at settings t)) no_flow m t l)
+        at (all-or (λ z. nat_abs z ≤ kvar_offset) no_flow (omega arith) (rows (λ t. less kvar_offset (flow_at settings t)) m) ok.2 t)),
   )
 
   -- row k is of device k / m and interval k % m

@@ -1,5 +1,7 @@
 // The plan message of every edition, read against its layout into rows. The message goes interval by interval, in it device by device, then the flow; the rows
 // stand device by device, and an interval's flow in the first device's.
+#![tactic(auto)]
+
 ghost use Rattle.std.specs.Prelude.{◌≡◌, ◌+◌, ◌<◌};
 ghost use Rattle.layouts.specs.Layout.{list, begin};
 ghost use Rattle.model.specs.ByEdition.{setting, planned, plan_layout};

@@ -1,4 +1,6 @@
 // The forced figures: S of each interval, and the power p of each device in each interval.
+#![tactic(auto)]
+
 ghost use Rattle.std.specs.Prelude.{◌≡◌, [], ◌+◌, ◌-◌, ◌*◌, ◌<◌, length, get_or};
 ghost use Rattle.row_places.specs.Figures.{device_of};
 ghost use Rattle.records.specs.Views.{PlanRows};

@@ -1,4 +1,6 @@
 // The eight reserve prices of a cell: by two words where the message has them and each is in its range, else field by field.
+#![tactic(auto)]
+
 ghost use Rattle.std.specs.Prelude.{◌≡◌, true, ◌+◌, ◌*◌, ◌^◌, ◌≤◌, ◌<◌};
 ghost use Rattle.bits.specs.Bits.{reach};
 ghost use Rattle.records.specs.Views.{eight_prices_in};
@@ -32,21 +34,21 @@ const MOST_FOUR: u64 = (2 << FOUR_BITS)
 
 const EIGHT_BITS: u64 = 2 * FOUR_BITS;
 
-#[derive(Drop)]
+#[derive(Clone, Copy)]
 pub struct PricesRead {
     pub went: Went,
     pub prices: ReservePrices,
 }
 
 // The prices where ok; else nothing is said.
-#[derive(Drop)]
+#[derive(Clone, Copy)]
 pub struct Quick {
     pub ok: bool,
     pub prices: ReservePrices,
 }
 
 // Four prices in a row.
-#[derive(Drop)]
+#[derive(Clone, Copy)]
 pub struct Four {
     pub a: u32,
     pub b: u32,

@@ -1,4 +1,6 @@
 // The power p of a device in each interval, in its part of the powers.
+#![tactic(auto)]
+
 ghost use Rattle.std.specs.Prelude.{◌≡◌, ◌+◌, ◌<◌, length};
 ghost use Rattle.clock.specs.Times.{Clock};
 ghost use Rattle.ramped_powers.specs.Changes.{ramping_of, Rampable, Settled, Low, Changed, added_by, Online, Powers};
@@ -10,7 +12,7 @@ use setting_rows::{on_at, online_at};
 use trajectories::{add_after, add_before, leaves_at};
 
 // What a device's trajectories are computed from: its initial state and power, its starting and stopping ramps in kW/min.
-#[derive(Drop)]
+#[derive(Clone, Copy)]
 pub struct Ramping {
     pub on0: u32,
     pub power0: Kw,

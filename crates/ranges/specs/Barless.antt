@@ -6,7 +6,7 @@ use Rattle.numbers.specs.Sum.{All}
 use Rattle.layouts.specs.Layout.{nat, list, figure, count_of, passes}
 use Rattle.layouts.specs.Since.{has}
 use Rattle.layouts.specs.Sure.{Sure, Any, nat-sure, int-sure, list-sure, held-sure, then-sure, whole-sure, weaken-sure}
-use Rattle.model.specs.Case.{Device, System, Plan, no_link, no-flow}
+use Rattle.model.specs.Case.{Device, System, Plan, no_link, no_flow}
 use Rattle.model.specs.Editions.{Largest, most_devices, most_intervals, most_states, most_windows}
 use Rattle.model.specs.ByEdition as B
 use Rattle.model.specs.ByEdition.{Stated, stated_in, planned_in}
@@ -22,7 +22,7 @@ pub record SystemBarless (q : System) : Type 0 where
   pub link_limit : q.link_limit ≡ 0
 
 pub record PlanBarless (p : Plan) : Type 0 where
-  pub flows : All (λ z. z ≡ no-flow) p.flows
+  pub flows : All (λ z. z ≡ no_flow) p.flows
 
 module _ (e : ℕ) (h : has 5 e ≡ false) where
   device-barless : (intervals zones last : ℕ) → Sure (B.device e intervals zones last) (λ v. DeviceBarless v.0 × Any v.1)
@@ -54,7 +54,7 @@ module _ (e : ℕ) (h : has 5 e ≡ false) where
   unfolding B.plan_by
   planned-sure devices intervals = held-sure _ _ _ _ _
       (pair-sure _ _ _ _ (nat-sure _) (pair-sure _ _ _ _ (nat-sure _) (pair-sure _ _ _ _ (nat-sure _) (pair-sure _ _ _ _ (nat-sure _)
-      (some-sure intervals (B.planned e devices) _ _ (pair-sure _ _ _ _ (list-sure _ (B.setting e) SettingRange (setting-sure e)) (absent 5 e h no-flow B.flow)))))))
+      (some-sure intervals (B.planned e devices) _ _ (pair-sure _ _ _ _ (list-sure _ (B.setting e) SettingRange (setting-sure e)) (absent 5 e h no_flow B.flow)))))))
       (λ v ok. record { flows = ok.1.1.1.1.2 })
 
   -- a plan of such an edition

@@ -4,8 +4,8 @@ use Rattle.std.proofs.Common.{arith, leb→le, le→leb}
 use Rattle.std.proofs.lemmas.List.{length-map}
 use Rattle.numbers.specs.Sum.{All, all_map}
 use Rattle.numbers.specs.Every.{map-of-all}
-use Rattle.model.specs.Case.{Reserves, Ramps, StartWindow, EnergyWindow, Shares, Six, Kinds, Minima, Cell, CellPrices, Device, DevicePrices, Zone, System, Prices, no-flow}
-use Rattle.model.specs.Case.{Block, Case, Plan, Reactive, Setting, no_reactive, ReactiveLimits, ReactiveReserves, Line, Link, no-line, no_link, no_reactive_reserves, unit_prices}
+use Rattle.model.specs.Case.{Reserves, Ramps, StartWindow, EnergyWindow, Shares, Six, Kinds, Minima, Cell, CellPrices, Device, DevicePrices, Zone, System, Prices, no_flow}
+use Rattle.model.specs.Case.{Block, Case, Plan, Reactive, Setting, no_reactive, ReactiveLimits, ReactiveReserves, Line, Link, no_line, no_link, no_reactive_reserves, unit_prices}
 use Rattle.layouts.specs.Layout.{Layout, Field, nat, list, counted, ◌then◌, ◌▸◌, such, passes, figure, any, count_of, int}
 use Rattle.model.specs.Widths.{bounded}
 use Rattle.model.specs.Editions.{newest, Largest, batch, devices_in, intervals_in, most_devices, most_intervals, most_zones, most_states, most_windows, starts_bits, most_starts}
@@ -168,7 +168,7 @@ pub record LinkRange (l : Link) : Type 0 where
   pub upper : LineRange l.upper
   pub lower : LineRange l.lower
 
-pub no-line : LineRange no-line
+pub no-line : LineRange no_line
 no-line = record { offset = omega arith; slope = omega arith }
 
 line-sure : Sure B.line LineRange
@@ -176,8 +176,8 @@ unfolding B.line
 line-sure = held-sure _ _ _ _ _ (pair-sure _ _ _ _ (int-sure 18 100000) (int-sure 15 10000)) (λ v ok. record { offset = ok.0; slope = ok.1 })
 
 -- a line that a link kind has or lacks
-with-line : (b : Bool) → Sure (present b no-line B.line) LineRange
-with-line b = present-sure b no-line B.line LineRange line-sure no-line
+with-line : (b : Bool) → Sure (present b no_line B.line) LineRange
+with-line b = present-sure b no_line B.line LineRange line-sure no-line
 
 pub link-sure : Sure B.link LinkRange
 unfolding B.link
@@ -476,8 +476,8 @@ setting-sure e = held-sure _ _ _ _ _
 abbrev pub Settings : ℕ → ℕ → Plan → Type 0
 Settings devices intervals p = (length p.settings ≡ intervals) × All (λ row. (length row ≡ devices) × All SettingRange row) p.settings × All (λ z. nat_abs z ≤ 100000) p.flows
 
-pub flow-sure : (e : ℕ) → Sure (since e 5 no-flow B.flow) (λ z. nat_abs z ≤ 100000)
-flow-sure e = since-sure e 5 no-flow B.flow _ (int-sure 18 100000) (omega arith)
+pub flow-sure : (e : ℕ) → Sure (since e 5 no_flow B.flow) (λ z. nat_abs z ≤ 100000)
+flow-sure e = since-sure e 5 no_flow B.flow _ (int-sure 18 100000) (omega arith)
 
 pub settings-in : (e devices intervals : ℕ) → Sure (B.plan_layout e devices intervals) (Settings devices intervals)
 unfolding B.plan_by

@@ -1,1 +1,2 @@
 // No code: what passes reading lies within its ranges.
+#![tactic(auto)]

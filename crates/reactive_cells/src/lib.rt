@@ -1,4 +1,6 @@
 // What a cell has of reactive power, from edition 2 on: qmin and qmax, then the prices of the two reactive reserves. An edition that lacks it has 0 for each.
+#![tactic(auto)]
+
 ghost use Rattle.std.specs.Prelude.{◌≡◌, true, ◌+◌, ◌*◌, ◌≤◌};
 ghost use Rattle.std.specs.Int.Signed.{le_z};
 ghost use Rattle.bits.specs.Bits.{reach};
@@ -42,7 +44,7 @@ pub const NEUTRAL: ReactiveCell = ReactiveCell {
     qrd: KvarPrice(0),
 };
 
-#[derive(Drop)]
+#[derive(Clone, Copy)]
 struct LimitsRead {
     went: Went,
     qmin: SignedKvar,
@@ -90,7 +92,7 @@ fn read_limits(s: &[u8], p: Place) -> LimitsRead
     }
 }
 
-#[derive(Drop)]
+#[derive(Clone, Copy)]
 struct PricesRead {
     went: Went,
     qru: u32,
@@ -126,7 +128,7 @@ fn read_prices(s: &[u8], p: Place) -> PricesRead
     }
 }
 
-#[derive(Drop)]
+#[derive(Clone, Copy)]
 pub struct ReactiveRead {
     pub went: Went,
     pub figures: ReactiveCell,
@@ -143,7 +145,7 @@ fn neutral(went: Went) -> ReactiveRead
 }
 
 // What was read where ok; else nothing is said.
-#[derive(Drop)]
+#[derive(Clone, Copy)]
 struct Quick {
     ok: bool,
     read: ReactiveRead,

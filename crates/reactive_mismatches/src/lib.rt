@@ -1,4 +1,6 @@
 // The reactive mismatches of an interval, one for each bar, each at its need.
+#![tactic(auto)]
+
 ghost use Rattle.std.specs.Prelude.{◌≡◌, true, ◌+◌, ◌<◌, ◌^◌, length};
 ghost use Rattle.reactive_mismatches.specs.Settled.{Settled};
 ghost use Rattle.reactive_mismatches.specs.Sides.{BarsSo, bars_to, mismatches_of, NoneTo};
@@ -10,21 +12,21 @@ use setting_rows::reactive_at;
 
 // Two sums that are as far apart as the q of a bar's consuming and producing devices: a device's q, as it is kept, on its side, and what it is kept from
 // on the other.
-#[derive(Drop)]
+#[derive(Clone, Copy)]
 pub struct ReactiveSides {
     pub consuming: Kvar,
     pub producing: Kvar,
 }
 
 // Those of bar 0, and of bar 1.
-#[derive(Drop)]
+#[derive(Clone, Copy)]
 pub struct ReactiveBarSides {
     pub first: ReactiveSides,
     pub second: ReactiveSides,
 }
 
 // The reactive mismatch of bar 0, and of bar 1.
-#[derive(Drop)]
+#[derive(Clone, Copy)]
 pub struct ReactiveMismatches {
     pub first: Kvar,
     pub second: Kvar,

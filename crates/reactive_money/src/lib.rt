@@ -1,4 +1,6 @@
 // The money that reactive reserves, reactive shortfalls and reactive mismatches cost, entered in a ledger.
+#![tactic(auto)]
+
 ghost use Rattle.std.specs.Prelude.{◌≡◌, ◌+◌, ◌*◌, ◌≤◌};
 ghost use Rattle.money.specs.Bounds.{minutes_most, short_price_most, reactive_shortfall_most};
 ghost use Rattle.money.specs.Entries.{Room};

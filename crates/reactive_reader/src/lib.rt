@@ -1,4 +1,6 @@
 // The reactive figures of a plan's setting, which came with edition 2, read against their layout.
+#![tactic(auto)]
+
 ghost use Rattle.std.specs.Prelude.{◌≡◌, true, ◌+◌, ◌*◌, ◌≤◌};
 ghost use Rattle.bits.specs.Bits.{reach};
 ghost use Rattle.layouts.specs.Since.{since};
@@ -36,7 +38,7 @@ pub const NEUTRAL: Reactive = Reactive {
     qrd: Kvar(0),
 };
 
-#[derive(Drop)]
+#[derive(Clone, Copy)]
 pub struct ReactiveRead {
     pub went: Went,
     pub reactive: Reactive,
@@ -79,7 +81,7 @@ pub fn read_three(s: &[u8], p: Place) -> ReactiveRead
 }
 
 // The three where ok; else nothing is said.
-#[derive(Drop)]
+#[derive(Clone, Copy)]
 pub struct QuickReactive {
     pub ok: bool,
     pub reactive: Reactive,

@@ -16,7 +16,7 @@ use Rattle.row_places.specs.declared.ReactiveCell.{ReactiveCell}
 use Rattle.row_places.specs.Figures.{reactive_at, reactive_cell_at}
 use Rattle.records.specs.Views.{less, link_in, reactive_in, reactive_limits_in, most_power}
 use Rattle.ramped_powers.specs.Changes.{ramping_of}
-use Rattle.brackets.specs.Counts.{bracket_at, power-at, Countable}
+use Rattle.brackets.specs.Counts.{bracket_at, power_at, Countable}
 use Rattle.cell_bounds.specs.Word.{failing_word, rising, word_none}
 use Rattle.reactive_tests.specs.Order.{below-limit, above-limit}
 use Rattle.reactive_tests.specs.Tests.{tests, tests-rise, limit_tests, line_tests, equality_tests, most_bracket, LinkSized, LimitsSized, ReactiveSized, Sized}
@@ -42,7 +42,7 @@ module _ (d : ReactiveBounds) (cells settings : List (List ℕ)) (starts powers 
     pub in_cells : t < length cells
     pub in-powers : t < length powers
     pub power : get_or powers t 0 ≤ most_power
-    pub whole : get_or powers t 0 ≡ power-at d.ramping cells settings starts t
+    pub whole : get_or powers t 0 ≡ power_at d.ramping cells settings starts t
     pub link : LinkSized d.link
     pub limits : LimitsSized (reactive_cell_at cells t)
     pub reactive : ReactiveSized (reactive_at settings t)

@@ -14,7 +14,7 @@ use Rattle.row_places.specs.declared.Device.{Device}
 use Rattle.row_places.specs.declared.Front.{Front}
 use Rattle.row_places.specs.declared.Line.{Line}
 use Rattle.row_places.specs.Figures.{device_of, reactive_at, reactive_cell_at}
-use Rattle.records.specs.Views.{less, system_in, plan_in, cell-in, setting_in, line_in, slope_offset, Ready}
+use Rattle.records.specs.Views.{less, system_in, plan_in, cell_in, setting_in, line_in, slope_offset, Ready}
 use Rattle.records.specs.Viewed as W
 use Rattle.records.specs.Ranged as G
 use Rattle.brackets.specs.Tied.{bracket-here, power-here, countable-here}
@@ -56,7 +56,7 @@ module _ {front : Front} {halves : List ℕ} {zones minima devices cells setting
   own-cells = part-long (length halves) i (length devices) cells l ready.case_rows.cells-full
 
   module _ (t : ℕ) (h : t < length halves) where
-    cell-is : F.cell q t i ≡ cell-in (get_or own_cells t [])
+    cell-is : F.cell q t i ≡ cell_in (get_or own_cells t [])
     cell-is = G.cell-here ready.case_rows i l t h
 
     setting-is : F.setting q p t i ≡ setting_in (get_or own_settings t [])

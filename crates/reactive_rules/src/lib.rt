@@ -1,4 +1,6 @@
 // Rules 21 to 26 of a device in one interval, out of its parts of the tables, which t alone indexes.
+#![tactic(auto)]
+
 ghost use Rattle.std.specs.Prelude.{◌≡◌, true, ◌↔◌, [], ◌≤◌, ◌<◌, length};
 ghost use Rattle.model.specs.Breaches.{failing};
 ghost use Rattle.row_places.specs.Figures.{reactive_at, reactive_cell_at};
@@ -17,7 +19,7 @@ use setting_rows::reactive_at;
 const NO_LINK: u32 = 0;
 
 // What the reactive rules of a device's intervals read of it.
-#[derive(Drop)]
+#[derive(Clone, Copy)]
 pub struct ReactiveBounds {
     pub side: u32,
     pub link: Link,

@@ -1,4 +1,6 @@
 // A zone's two reactive shortfalls in an interval, each at its need.
+#![tactic(auto)]
+
 ghost use Rattle.std.specs.Prelude.{◌≡◌, true, ◌-◌, ◌*◌, ◌<◌, length};
 ghost use Rattle.records.specs.Views.{most_zones};
 ghost use Rattle.reactive_mismatches.specs.Settled.{Settled};
@@ -11,7 +13,7 @@ use setting_rows::reactive_at;
 use zone_totals::in_zone;
 
 // What a zone's members hold of the two reactive reserves.
-#[derive(Drop)]
+#[derive(Clone, Copy)]
 pub struct ReactiveHeld {
     pub qru: Kvar,
     pub qrd: Kvar,
@@ -45,7 +47,7 @@ fn reactive_held(
 }
 
 // A zone's two reactive shortfalls.
-#[derive(Drop)]
+#[derive(Clone, Copy)]
 pub struct ReactiveShortfalls {
     pub qru: Var,
     pub qrd: Var,

@@ -4,7 +4,7 @@ use Rattle.std.proofs.Common.{sym, ap₂, ◌∙◌, arith, leb→le, le→leb, 
 use Rattle.std.specs.Int.Signed.{le_z, le_z_yes}
 use Rattle.numbers.specs.Tests.{same_test, and_in, and_l, and_r}
 use Rattle.numbers.specs.Z.{Ex, nat, ◌⊕◌, ◌⊝◌, ◌⊗◌, val, up, dn, by≤, of≤}
-use Rattle.model.specs.Rules.{on-line}
+use Rattle.model.specs.Rules.{on_line}
 use Rattle.model.specs.Breaches.{eq_z}
 use Rattle.model.specs.Tests.{same}
 use Rattle.kilovars.specs.Reactive.{kvar_offset}
@@ -58,14 +58,14 @@ own_level q n p = 1000 * (q + kvar_offset * n) + slope_offset * p
 
 -- rules 23 to 25
 module _ (q reserve : ℕ) (l : Line) (n p : ℕ) where
-  pub below-line : leb (own_level (q + reserve) n p) (line_level l n p) ≡ le_z (pos 1000 *ℤ (less kvar_offset q +ℤ pos reserve)) (on-line (line_in l) n p)
-  unfolding on-line
+  pub below-line : leb (own_level (q + reserve) n p) (line_level l n p) ≡ le_z (pos 1000 *ℤ (less kvar_offset q +ℤ pos reserve)) (on_line (line_in l) n p)
+  unfolding on_line
   below-line = order_is (nat 1000 ⊗ (kvars q ⊕ nat reserve)) (line l n p) (own_level (q + reserve) n p) (line_level l n p) (omega arith) (omega arith)
 
-  pub above-line : leb (line_level l n p + 1000 * reserve) (own_level q n p) ≡ le_z (on-line (line_in l) n p) (pos 1000 *ℤ (less kvar_offset q -ℤ pos reserve))
-  unfolding on-line
+  pub above-line : leb (line_level l n p + 1000 * reserve) (own_level q n p) ≡ le_z (on_line (line_in l) n p) (pos 1000 *ℤ (less kvar_offset q -ℤ pos reserve))
+  unfolding on_line
   above-line = order_is (line l n p) (nat 1000 ⊗ (kvars q ⊝ nat reserve)) (line_level l n p + 1000 * reserve) (own_level q n p) (omega arith) (omega arith)
 
-  pub on-line : eqb (own_level q n p) (line_level l n p) ≡ eq_z (pos 1000 *ℤ less kvar_offset q) (on-line (line_in l) n p)
-  unfolding on-line
+  pub on-line : eqb (own_level q n p) (line_level l n p) ≡ eq_z (pos 1000 *ℤ less kvar_offset q) (on_line (line_in l) n p)
+  unfolding on_line
   on-line = equal_is (nat 1000 ⊗ kvars q) (line l n p) (own_level q n p) (line_level l n p) (omega arith) (omega arith)

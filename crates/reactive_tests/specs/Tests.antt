@@ -5,7 +5,7 @@ use Rattle.std.proofs.Common.{arith}
 use Rattle.std.specs.Int.Signed.{le_z}
 use Rattle.numbers.specs.Base.{implies}
 use Rattle.model.specs.Case as M
-use Rattle.model.specs.Rules.{highest, lowest, on-line, two_lines, equality}
+use Rattle.model.specs.Rules.{highest, lowest, on_line, two_lines, equality}
 use Rattle.model.specs.Breaches.{eq_z}
 use Rattle.kilovars.specs.Reactive.{kvar_offset}
 use Rattle.records.specs.Views.{most_intervals, most_power, slope_offset}
@@ -27,12 +27,12 @@ module _ (consuming : Bool) (n p : ℕ) (link : M.Link) (c : M.ReactiveLimits) (
 
   unfoldable pub line_tests : List (ℕ × Bool)
   line_tests =
-      (23, implies (eqb link.kind two_lines) (le_z (pos 1000 *ℤ highest consuming x) (on-line link.upper n p))) ∷
-      (24, implies (eqb link.kind two_lines) (le_z (on-line link.lower n p) (pos 1000 *ℤ lowest consuming x))) ∷ []
+      (23, implies (eqb link.kind two_lines) (le_z (pos 1000 *ℤ highest consuming x) (on_line link.upper n p))) ∷
+      (24, implies (eqb link.kind two_lines) (le_z (on_line link.lower n p) (pos 1000 *ℤ lowest consuming x))) ∷ []
 
   unfoldable pub equality_tests : List (ℕ × Bool)
   equality_tests =
-      (25, implies (eqb link.kind equality) (eq_z (pos 1000 *ℤ x.q) (on-line link.upper n p))) ∷
+      (25, implies (eqb link.kind equality) (eq_z (pos 1000 *ℤ x.q) (on_line link.upper n p))) ∷
       (26, implies (eqb link.kind equality) (eqb x.qru 0 && eqb x.qrd 0)) ∷ []
 
   unfoldable pub tests : List (ℕ × Bool)

@@ -1,5 +1,7 @@
 // Rules 21 to 26 of one device in one interval, from its records: the word of those that fail, and whether none does. Signed figures are kept from 0, so
 // that both sides of a comparison are naturals; no product is rounded.
+#![tactic(auto)]
+
 ghost use Rattle.std.specs.Prelude.{◌≡◌, true, ◌&&◌, ◌↔◌, [], ◌+◌, ◌*◌, ◌≤◌, ◌<◌, ◌^◌, eqb, pos, ◌+ℤ◌, ◌-ℤ◌, ◌*ℤ◌};
 ghost use Rattle.std.specs.Int.Signed.{le_z};
 ghost use Rattle.bits.specs.Pick.{pick};
@@ -31,7 +33,7 @@ const TWO_LINES: u32 = 1;
 const EQUALITY: u32 = 2;
 
 // Reactive power in var, above the level that both sides of a comparison share.
-#[derive(Drop)]
+#[derive(Clone, Copy)]
 struct Vars(pub u64);
 
 // The reserve of a consuming device, or that of a producing one.

@@ -1,4 +1,6 @@
 // A completion's reactive shortfalls and mismatches, written through a pen: nothing in an edition that lacks them.
+#![tactic(auto)]
+
 ghost use Rattle.std.specs.Prelude.{◌^◌, ◌<◌};
 ghost use Rattle.layouts.specs.Since.{since};
 ghost use Rattle.model.specs.Case.{no_reactive_reserves};

@@ -1,5 +1,7 @@
 // What a zone has of reactive reserves, from edition 2 on: two shortfall prices ahead of its intervals, two minima in each. An edition that lacks them has
 // prices of 1 and minima of 0.
+#![tactic(auto)]
+
 ghost use Rattle.std.specs.Prelude.{◌≡◌, ◌≤◌};
 ghost use Rattle.layouts.specs.Layout.{figure};
 ghost use Rattle.layouts.specs.Since.{since};
@@ -32,14 +34,14 @@ pub const NEUTRAL_PRICE: u32 = 1;
 
 pub const NO_MINIMUM: Kvar = Kvar(0);
 
-#[derive(Drop)]
+#[derive(Clone, Copy)]
 pub struct TwoRead {
     pub went: Went,
     pub qru: u32,
     pub qrd: u32,
 }
 
-#[derive(Drop)]
+#[derive(Clone, Copy)]
 pub struct MinimaRead {
     pub went: Went,
     pub qru: Kvar,

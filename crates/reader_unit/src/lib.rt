@@ -1,1 +1,2 @@
 // No code: the promises of reading completions and market copies back, on bytes, each lent its case.
+#![tactic(auto)]

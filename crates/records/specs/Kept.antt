@@ -8,7 +8,7 @@ use Rattle.model.specs.Editions.{most_states, most_windows}
 use Rattle.row_places.specs.declared.StartWindow.{StartWindow}
 use Rattle.row_places.specs.declared.EnergyWindow.{EnergyWindow}
 use Rattle.row_places.specs.declared.Device.{Device}
-use Rattle.row_places.specs.Figures.{device_of, device_row, no_state, no-start, no_energy}
+use Rattle.row_places.specs.Figures.{device_of, device_row, no_state, no_start, no_energy}
 
 -- its arrays have their lengths
 pub record DeviceLong (d : Device) : Type 0 where
@@ -52,5 +52,5 @@ device-kept d h = with-same d
     (tabbed 0 4 d.ramps h.ramps)
     (tabbed (kw 0) 8 d.limits h.limits)
     (tabbed no_state most_states d.states h.states)
-    (tabbed no-start most_windows d.starts h.starts)
+    (tabbed no_start most_windows d.starts h.starts)
     (tabbed no_energy most_windows d.energies h.energies)

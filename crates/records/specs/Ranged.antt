@@ -25,7 +25,7 @@ use Rattle.row_places.specs.declared.Front.{Front}
 use Rattle.row_places.specs.Figures.{no_state, cell_of, setting_of, device_of, zone_of, minima_of, previous_at}
 use Rattle.numbers.specs.Parts.{part, part-inside, place_inside, part_at, part-long}
 use Rattle.numbers.specs.Ranges.{sum_more, sum-rises}
-use Rattle.records.specs.Views.{less, price_offset, cost_offset, limits_in, block-in, four_blocks, cell-in, cell_prices_in, setting_in, shares_in, kinds_in, link_in}
+use Rattle.records.specs.Views.{less, price_offset, cost_offset, limits_in, block_in, four_blocks, cell_in, cell_prices_in, setting_in, shares_in, kinds_in, link_in}
 use Rattle.records.specs.Views.{device_in, device_prices_in, system_in, prices_in, case_in, plan_in}
 use Rattle.records.specs.Views.{most_devices, most_intervals, most_states, most_windows, most_power, Padded, CaseRows, PlanRows, Ready}
 use Rattle.records.specs.Viewed as W
@@ -140,10 +140,10 @@ module _ {front : Front} {halves : List ℕ} {zones minima devices cells : List 
       abbrev row : List ℕ
       row = get_or (part m i cells) t []
 
-      pub cell-here : F.cell q t i ≡ cell-in row
+      pub cell-here : F.cell q t i ≡ cell_in row
       cell-here = W.cell-is halves zones minima devices cells i l t (omega (arith, part-long m i n cells l known.cells-full))
 
-      pub cell-range : CellRange (cell-in row)
+      pub cell-range : CellRange (cell_in row)
       cell-range = subst CellRange cell-here
           (all-at CellRange no_cell (F.device q i).cells device-range.cells t (omega (arith, device-range.each, W.intervals-are halves zones minima devices cells)))
 
@@ -158,10 +158,10 @@ module _ {front : Front} {halves : List ℕ} {zones minima devices cells : List 
       prices-long = W.firsts-long (less price_offset) 0 (cell_of row).blocks (cell_of row).prices padded-at.few
 
       -- block j, neither cap nor floor where there is none
-      pub block_here : (j : ℕ) → j < 4 → get_or (F.cell q t i).blocks j no_block ≡ block-in (cell_of row) j
+      pub block_here : (j : ℕ) → j < 4 → get_or (F.cell q t i).blocks j no_block ≡ block_in (cell_of row) j
       block_here j b = ap (λ (c : M.Cell). get_or c.blocks j no_block) cell-here ∙ go (dec_le (cell_of row).blocks j)
         where
-          four : (j : ℕ) → j < 4 → get_or (four_blocks (cell_of row)) j no_block ≡ block-in (cell_of row) j
+          four : (j : ℕ) → j < 4 → get_or (four_blocks (cell_of row)) j no_block ≡ block_in (cell_of row) j
           four zero h = refl
           four (suc zero) h = refl
           four (suc (suc zero)) h = refl
@@ -171,7 +171,7 @@ module _ {front : Front} {halves : List ℕ} {zones minima devices cells : List 
           none : {c f : ℕ} → c ≡ 0 → f ≡ 0 → no_block ≡ record { cap = c; floor = f }
           none c f = rw (c, f) refl
 
-          go : Dec ((cell_of row).blocks ≤ j) → get_or (take (cell_of row).blocks (four_blocks (cell_of row))) j no_block ≡ block-in (cell_of row) j
+          go : Dec ((cell_of row).blocks ≤ j) → get_or (take (cell_of row).blocks (four_blocks (cell_of row))) j no_block ≡ block_in (cell_of row) j
           go (no x) = get_or-take (cell_of row).blocks (four_blocks (cell_of row)) j no_block (omega arith) ∙ four j b
           go (yes x) = get_or-eq_default (take (cell_of row).blocks (four_blocks (cell_of row))) no_block {n = j}
               (omega (arith, length-take-le (cell_of row).blocks (four_blocks (cell_of row)) padded-at.few))

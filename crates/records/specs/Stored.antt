@@ -6,7 +6,7 @@ use Rattle.model.specs.Case as M
 use Rattle.kilowatts.specs.declared.Kw.{Kw}
 use Rattle.row_places.specs.declared.Cell.{Cell}
 use Rattle.row_places.specs.Figures.{kw_at, cell_of, cell_row}
-use Rattle.records.specs.Views.{cell_said, cell_prices_said, cell-in, cell_prices_in, Padded}
+use Rattle.records.specs.Views.{cell_said, cell_prices_said, cell_in, cell_prices_in, Padded}
 
 -- four figures, one by one
 pub four : {A : Type 0} (l : List A) (z : A) → length l ≡ 4 → get_or l 0 z ∷ get_or l 1 z ∷ get_or l 2 z ∷ get_or l 3 z ∷ [] ≡ l
@@ -23,7 +23,7 @@ module _ (c : Cell) (caps : length c.caps ≡ 4) (floors : length c.floors ≡ 4
       with-same : {x f : List Kw} {y : List ℕ} → x ≡ c.caps → f ≡ c.floors → y ≡ c.prices → with x f y ≡ c
       with-same a b d = rw (a, b, d) refl
 
-  pub cell-stored : cell-in (cell_row c) ≡ cell_said c
+  pub cell-stored : cell_in (cell_row c) ≡ cell_said c
   cell-stored = ap cell_said cell-back
 
   pub cell-prices-stored : cell_prices_in (cell_row c) ≡ cell_prices_said c

@@ -57,11 +57,11 @@ abbrev pub reactive_prices_in : ReactiveCell → M.ReactiveReserves
 reactive_prices_in r = record { qru = r.qru.0; qrd = r.qrd.0 }
 
 -- a cell's four blocks, those absent with cap 0 and floor 0
-abbrev pub block-in : Cell → ℕ → M.Block
-block-in c k = record { cap = number_of c.caps k; floor = number_of c.floors k }
+abbrev pub block_in : Cell → ℕ → M.Block
+block_in c k = record { cap = number_of c.caps k; floor = number_of c.floors k }
 
 abbrev pub four_blocks : Cell → List M.Block
-four_blocks c = block-in c 0 ∷ block-in c 1 ∷ block-in c 2 ∷ block-in c 3 ∷ []
+four_blocks c = block_in c 0 ∷ block_in c 1 ∷ block_in c 2 ∷ block_in c 3 ∷ []
 
 -- the model's cell, and its prices, by the record
 abbrev pub cell_said : Cell → M.Cell
@@ -70,15 +70,15 @@ cell_said c = record { status = c.status; pmin = c.pmin.0; pmax = c.pmax.0; bloc
 abbrev pub cell_prices_said : Cell → M.CellPrices
 cell_prices_said c = record { blocks = map (less price_offset) (take c.blocks c.prices); reserves = eight_prices_in c.reserves; reactive = reactive_prices_in c.reactive }
 
-abbrev pub cell-in : List ℕ → M.Cell
-cell-in r = cell_said (cell_of r)
+abbrev pub cell_in : List ℕ → M.Cell
+cell_in r = cell_said (cell_of r)
 
 abbrev pub cell_prices_in : List ℕ → M.CellPrices
 cell_prices_in r = cell_prices_said (cell_of r)
 
 -- a cell's quantities beside its prices, as a message has them
 abbrev pub cell_pair : List ℕ → M.Cell × M.CellPrices
-cell_pair r = (cell-in r, cell_prices_in r)
+cell_pair r = (cell_in r, cell_prices_in r)
 
 abbrev pub reactive_in : Reactive → M.Reactive
 reactive_in x = record { q = less kvar_offset x.q.0; qru = x.qru.0; qrd = x.qrd.0 }
@@ -135,7 +135,7 @@ device_in d cells = record {
   energy_windows = map energy_in (take d.nenergies d.energies);
   link = link_in d.link;
   bar = d.bar;
-  cells = map cell-in cells;
+  cells = map cell_in cells;
 }
 
 unfoldable pub device_prices_in : Device → List (List ℕ) → M.DevicePrices

@@ -1,1 +1,2 @@
 // No code: which case and plan the rows hold, and every law on what they hold.
+#![tactic(auto)]

@@ -2,7 +2,7 @@
 use Rattle.std.specs.Prelude.{refl, List, ℕ, ◌-◌, ◌^◌, leb}
 use Rattle.layouts.specs.Layout.{Layout, nat, ◌then◌, figure, any, count_of, fixed, such}
 use Rattle.layouts.specs.Since.{has, since}
-use Rattle.model.specs.Case.{no-line, no_link, no-flow, no_reactive, no_reactive_reserves, unit_prices}
+use Rattle.model.specs.Case.{no_line, no_link, no_flow, no_reactive, no_reactive_reserves, unit_prices}
 use Rattle.model.specs.Editions.{newest, Largest, Widths, widths_of, most_states, most_windows}
 use Rattle.model.specs.Messages as M
 use Rattle.model.specs.ByEdition as B
@@ -149,7 +149,7 @@ line-traced n = held-traced _ _ (pair-traced (int-traced (n N.offset) 18 100000)
 unfoldable pub link-traced : (n : N.DeviceField → Name) → Traced B.link
 unfolding B.link
 link-traced n = held-traced _ _ (then-traced _ (figure-traced (n N.link_kind) 2 0 2) (λ kind. pair-traced
-    (present-traced (B.first_line kind) no-line (line-traced (λ f. n (N.upper_line f)))) (present-traced (B.second_line kind) no-line (line-traced (λ f. n (N.lower_line f))))))
+    (present-traced (B.first_line kind) no_line (line-traced (λ f. n (N.upper_line f)))) (present-traced (B.second_line kind) no_line (line-traced (λ f. n (N.lower_line f))))))
 
 -- device i
 unfoldable pub device-traced : (w : Widths) (e intervals zones last i : ℕ) → Traced (B.device_by w e intervals zones last)
@@ -200,7 +200,7 @@ setting-traced n e = held-traced _ _
 
 -- interval t: "per device"; behind them, since edition 5, the flow
 unfoldable pub planned-traced : (e devices t : ℕ) → Traced (B.planned e devices)
-planned-traced e devices t = pair-traced (list-traced devices 0 (λ i. setting-traced (N.of_setting t i) e)) (since-traced e 5 no-flow (int-traced (N.flow t) 18 100000))
+planned-traced e devices t = pair-traced (list-traced devices 0 (λ i. setting-traced (N.of_setting t i) e)) (since-traced e 5 no_flow (int-traced (N.flow t) 18 100000))
 
 unfoldable pub plan-traced : (e devices intervals : ℕ) → Traced (B.plan_layout e devices intervals)
 unfolding B.plan_by

@@ -110,17 +110,17 @@ pub record RefusedAt (s : List ℕ) (at : ℕ) (t : List Part) (x : Fault) : Typ
 
 -- ---- what the number and the bit of a refusal tell of its field
 
-abbrev number-by : Sort → ℕ
-number-by kind_or_edition = 2
-number-by count = 3
-number-by other = 4
+abbrev number_by : Sort → ℕ
+number_by kind_or_edition = 2
+number_by count = 3
+number_by other = 4
 
-number-by : (k : Sort) (b : ℕ) → number_of (fault_of k b) ≡ number-by k
+number-by : (k : Sort) (b : ℕ) → number_of (fault_of k b) ≡ number_by k
 number-by kind_or_edition b = refl
 number-by count b = refl
 number-by other b = refl
 
-sort-by : (k : Sort) {n : ℕ} → number-by k ≡ n → (1 < n) × (n < 5)
+sort-by : (k : Sort) {n : ℕ} → number_by k ≡ n → (1 < n) × (n < 5)
 sort-by kind_or_edition e = omega arith
 sort-by count e = omega arith
 sort-by other e = omega arith
@@ -146,11 +146,11 @@ module _ {s : List ℕ} {at : ℕ} {f : Part} {x : Fault} where
   whole-but-1 (cut h e) n = absurd (let g = ap number_of e in omega arith)
   whole-but-1 (outside o e) n = o
 
-  sort-of : (k : Sort) → Why s at f x → number_of x ≡ number-by k → f.sort ≡ k
+  sort-of : (k : Sort) → Why s at f x → number_of x ≡ number_by k → f.sort ≡ k
   sort-of k (cut h e) n = absurd (let g = sort-by k (sym n ∙ ap number_of e) in omega arith)
   sort-of k (outside o e) n = go f.sort k (sym (number-by f.sort at) ∙ sym (ap number_of e) ∙ n)
     where
-      go : (j k : Sort) → number-by j ≡ number-by k → j ≡ k
+      go : (j k : Sort) → number_by j ≡ number_by k → j ≡ k
       go kind_or_edition kind_or_edition e = refl
       go kind_or_edition count e = absurd (omega arith)
       go kind_or_edition other e = absurd (omega arith)

@@ -7,7 +7,7 @@ use Rattle.std.proofs.Math.ListN.{length-map}
 use Rattle.layouts.specs.Layout.{list, passes, bytes, read_whole}
 use Rattle.layouts.specs.Since.{since}
 use Rattle.layouts.specs.Sure.{Any}
-use Rattle.model.specs.Case.{System, Plan, Setting, no_device, no_setting, no-flow}
+use Rattle.model.specs.Case.{System, Plan, Setting, no_device, no_setting, no_flow}
 use Rattle.model.specs.Forced.{intervals, devices}
 use Rattle.model.specs.Editions.{newest, host, Largest, most_devices, most_intervals}
 use Rattle.model.specs.Widths.{bounded}
@@ -33,10 +33,10 @@ same e = omega arith
 
 -- an interval's part of a plan: so many settings, of each of which S holds, and the flow, which can be written
 abbrev pub RowHas : (Setting → Type 1) → ℕ → ℕ → (List Setting × ℤ) → Type 1
-RowHas S e devices v = (length v.0 ≡ devices) × Each S no_setting v.0 × Fit (since e 5 no-flow B.flow) 18 v.1
+RowHas S e devices v = (length v.0 ≡ devices) × Each S no_setting v.0 × Fit (since e 5 no_flow B.flow) 18 v.1
 
 abbrev pub no_row : List Setting × ℤ
-no_row = ([], no-flow)
+no_row = ([], no_flow)
 
 -- what is known of a plan that passes reading, where S holds of each setting that is read
 pub record Rows (S : Setting → Type 1) (e devices intervals : ℕ) (p : Plan) : Type 1 where
@@ -48,7 +48,7 @@ module _ (S : Setting → Type 1) (e n : ℕ) (h : e ≤ n) (read : Reads (B.set
   row_reads : Reads (B.planned e devices) Any (RowHas S n devices)
   row_reads = more-reads _ _ _ _ _
       (pair_reads _ _ _ _ _ _ (list-reads no_setting read (setting-again e n h) devices)
-      (since-again e n h 5 no-flow (fit_int 18 100000 (pos 0) (omega arith) (omega arith)) (any-again (int-again 18 100000 (omega arith)))))
+      (since-again e n h 5 no_flow (fit_int 18 100000 (pos 0) (omega arith) (omega arith)) (any-again (int-again 18 100000 (omega arith)))))
       (λ v ok. tt) (λ v ok r. (ok.0, r.0, r.1))
 
   rows-read : Reads (M.apart (list intervals (B.planned e devices))) (λ v. (length v.0 ≡ intervals) × (length v.1 ≡ intervals))

@@ -1,1 +1,2 @@
 // Theorems on renumbering devices, on messages; no code.
+#![tactic(auto)]

@@ -1,1 +1,2 @@
 // Theorems on renumbering devices, on contents; no code.
+#![tactic(auto)]

@@ -1,4 +1,6 @@
 // Rules 3 and 4: how far back a stop or a start lies, out of a device's part of the settings.
+#![tactic(auto)]
+
 ghost use Rattle.std.specs.Prelude.{◌≡◌, true, ◌<◌, eqb, length};
 ghost use Rattle.numbers.specs.Base.{implies};
 ghost use Rattle.rests.specs.Apart.{Rising, changed_at, apart_at};
@@ -7,7 +9,7 @@ use row_places::SettingRow;
 use setting_rows::{started_at, stopped_at};
 
 // What must lie back: starts or stops, and by how many minutes.
-#[derive(Drop)]
+#[derive(Clone, Copy)]
 pub struct Rest {
     pub starts: bool,
     pub least: u32,

@@ -23,7 +23,7 @@ use Rattle.writing.specs.declared.Writing.TheVariants.{Refused}
 use Rattle.writing.specs.Anew.{case_bytes, Writings, writing, put, case_anew, put_rows}
 use Rattle.writing.specs.Promise.{CasePromise, case-promised}
 use Rattle.writing.specs.CaseSplices.{case_splice}
-use Rattle.writing.specs.PlanSplices.{plan_splice, front-of}
+use Rattle.writing.specs.PlanSplices.{plan_splice, front_of}
 use Rattle.bit_copier.specs.Moves.{Renews}
 use Rattle.case_copier.specs.Whole.{some_byte, case-written}
 use Rattle.plan_copier.specs.Whole.{some-front, plan-written}
@@ -110,11 +110,11 @@ module _ (e d n : ℕ) (ps : List ℕ) (settings : List (List ℕ)) (r : Ending)
   plan-fails before t = let g = plan-off t in record { answer = λ _. rw g refl; result = λ _. rw g refl }
 
   -- a plan that passes has a front
-  pub plan-some : r ≡ Passes → front-of e ≤ 8 * reach ps
+  pub plan-some : r ≡ Passes → front_of e ≤ 8 * reach ps
   plan-some t = some-front e d n ps p (plan-on t)
 
   pub plan-passes : {before after : List ℕ} {needed : ℕ} {w : Writing} → d ≤ most_devices → n ≤ most_intervals → r ≡ Passes
-      → Renews (plan_splice e d n) (front-of e) ps before after needed → w ≡ writing needed (length before) → RewritesRows e d n ps before after w
+      → Renews (plan_splice e d n) (front_of e) ps before after needed → w ≡ writing needed (length before) → RewritesRows e d n ps before after w
   plan-passes few short t k a =
       let g = plan-on t in
       record { answer = λ old. rw g (a ∙ (plan-written e d n old few short ps p g k).2); result = λ old. rw g (plan-written e d n old few short ps p g k).1 }

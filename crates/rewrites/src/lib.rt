@@ -1,4 +1,6 @@
 // A case and a plan in the newest edition, from their bytes, with rows lent to read them into. One body for owners of tables of any size.
+#![tactic(auto)]
+
 ghost use Rattle.std.specs.Prelude.{◌≡◌, ◌≤◌};
 ghost use Rattle.bits.specs.Bits.{reach};
 ghost use Rattle.case_reader.specs.Whole.{CaseRoom};

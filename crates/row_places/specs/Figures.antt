@@ -203,8 +203,8 @@ setting_row x =
 abbrev pub no_state : State
 no_state = record { longest = 0; cost = 0 }
 
-abbrev pub no-start : StartWindow
-no-start = record { from = 0; until = 0; most = 0 }
+abbrev pub no_start : StartWindow
+no_start = record { from = 0; until = 0; most = 0 }
 
 abbrev pub no_energy : EnergyWindow
 no_energy = record { kind = 0; from = 0; until = 0; energy = kw_min 0 }
@@ -216,10 +216,10 @@ state_figures l =
 
 abbrev pub start_figures : List StartWindow → List ℕ
 start_figures l =
-    (get_or l 0 no-start).from ∷ (get_or l 0 no-start).until ∷ (get_or l 0 no-start).most
-    ∷ (get_or l 1 no-start).from ∷ (get_or l 1 no-start).until ∷ (get_or l 1 no-start).most
-    ∷ (get_or l 2 no-start).from ∷ (get_or l 2 no-start).until ∷ (get_or l 2 no-start).most
-    ∷ (get_or l 3 no-start).from ∷ (get_or l 3 no-start).until ∷ (get_or l 3 no-start).most ∷ []
+    (get_or l 0 no_start).from ∷ (get_or l 0 no_start).until ∷ (get_or l 0 no_start).most
+    ∷ (get_or l 1 no_start).from ∷ (get_or l 1 no_start).until ∷ (get_or l 1 no_start).most
+    ∷ (get_or l 2 no_start).from ∷ (get_or l 2 no_start).until ∷ (get_or l 2 no_start).most
+    ∷ (get_or l 3 no_start).from ∷ (get_or l 3 no_start).until ∷ (get_or l 3 no_start).most ∷ []
 
 abbrev pub energy_figures : List EnergyWindow → List ℕ
 energy_figures l =

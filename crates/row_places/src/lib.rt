@@ -1,6 +1,8 @@
 // The rows of a decoded case and plan: their widths, and the records that are taken from them and put into them. At rest figures stand in lent slices of
 // rows, device by device, zone by zone; counts are the slices' lengths. In flight they are structs by value. Where each figure stands in its row is said in
 // `Figures`, and by name below; only the crates of the rows (`zone_rows`, `cell_rows`, `setting_rows`, `device_rows`, `device_store`) read and write by place.
+#![tactic(auto)]
+
 ghost use Rattle.std.specs.Prelude.{◌≡◌};
 ghost use Rattle.row_places.specs.Figures.{blank};
 
@@ -254,7 +256,7 @@ pub fn blank_minima() -> MinimaRow
 }
 
 // "The eight, in order": amounts of a plan, limits of a device.
-#[derive(Drop)]
+#[derive(Clone, Copy)]
 pub struct Reserves {
     pub rgu: Kw,
     pub rgd: Kw,
@@ -267,7 +269,7 @@ pub struct Reserves {
 }
 
 // The prices of the eight, in grains per kW·min.
-#[derive(Drop)]
+#[derive(Clone, Copy)]
 pub struct ReservePrices {
     pub rgu: u32,
     pub rgd: u32,
@@ -280,7 +282,7 @@ pub struct ReservePrices {
 }
 
 // What a device has of reactive power in one interval: "qmin and qmax in kvar"; the prices of the two reserves.
-#[derive(Drop)]
+#[derive(Clone, Copy)]
 pub struct ReactiveCell {
     pub qmin: SignedKvar,
     pub qmax: SignedKvar,
@@ -289,7 +291,7 @@ pub struct ReactiveCell {
 }
 
 // A device in one interval. Block prices are kept from 0: the price and 10,000. Absent blocks have cap 0 and floor 0.
-#[derive(Drop)]
+#[derive(Clone, Copy)]
 pub struct Cell {
     pub status: u32,
     pub pmin: Kw,
@@ -303,7 +305,7 @@ pub struct Cell {
 }
 
 // "q (as qmax) and two reactive reserves", up before down.
-#[derive(Drop)]
+#[derive(Clone, Copy)]
 pub struct Reactive {
     pub q: SignedKvar,
     pub qru: Kvar,
@@ -311,7 +313,7 @@ pub struct Reactive {
 }
 
 // A plan's figures for a device in one interval; "u = on (1/0)".
-#[derive(Drop)]
+#[derive(Clone, Copy)]
 pub struct Setting {
     pub on: u32,
     pub online: Kw,
@@ -320,13 +322,13 @@ pub struct Setting {
 }
 
 // A startup state; its cost is kept from 0: the cost and 1,000,000,000.
-#[derive(Drop)]
+#[derive(Clone, Copy)]
 pub struct State {
     pub longest: u32,
     pub cost: u32,
 }
 
-#[derive(Drop)]
+#[derive(Clone, Copy)]
 pub struct StartWindow {
     pub from: u32,
     pub until: u32,
@@ -334,7 +336,7 @@ pub struct StartWindow {
 }
 
 // Kind 0 limits the energy from above, kind 1 from below.
-#[derive(Drop)]
+#[derive(Clone, Copy)]
 pub struct EnergyWindow {
     pub kind: u32,
     pub from: u32,
@@ -343,14 +345,14 @@ pub struct EnergyWindow {
 }
 
 // "an offset .. and a slope in thousandths": the slope, in thousandths of a kvar per kW, is kept from 0: the slope and 10,000.
-#[derive(Drop)]
+#[derive(Clone, Copy)]
 pub struct Line {
     pub offset: SignedKvar,
     pub slope: u32,
 }
 
 // Kind 0 none, 1 two lines, 2 equality, which stands as the upper line.
-#[derive(Drop)]
+#[derive(Clone, Copy)]
 pub struct Link {
     pub kind: u32,
     pub upper: Line,
@@ -359,7 +361,7 @@ pub struct Link {
 
 // "Per device": what a case says of a device ahead of its intervals. The ramps are up, down, starting, stopping, in kW/min; the limits are the eight in
 // order; the on cost is grains a minute; the bar is 0 or 1.
-#[derive(Drop)]
+#[derive(Clone, Copy)]
 pub struct Device {
     pub side: u32,
     pub zonebits: u32,
@@ -384,7 +386,7 @@ pub struct Device {
 }
 
 // Shares in thousandths; prices of the six shortfalls in grains per W·min, then of the two of reactive reserves.
-#[derive(Drop)]
+#[derive(Clone, Copy)]
 pub struct Zone {
     pub rgu: u32,
     pub rgd: u32,
@@ -395,7 +397,7 @@ pub struct Zone {
     pub qrd: VarPrice,
 }
 
-#[derive(Drop)]
+#[derive(Clone, Copy)]
 pub struct Minima {
     pub rru: Kw,
     pub rrd: Kw,
@@ -404,7 +406,7 @@ pub struct Minima {
 }
 
 // What stands at a case's front beside its counts: its edition; prices of mismatch and overrun in grains per kW·min.
-#[derive(Drop)]
+#[derive(Clone, Copy)]
 pub struct Front {
     pub edition: u32,
     pub mismatch: u32,
@@ -412,7 +414,7 @@ pub struct Front {
 }
 
 // How many of each a case has.
-#[derive(Drop)]
+#[derive(Clone, Copy)]
 pub struct Counts {
     pub devices: usize,
     pub intervals: usize,

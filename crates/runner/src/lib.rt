@@ -1,4 +1,6 @@
 // Reads a batch from standard input frame by frame and writes the answers to standard output. Bytes are only copied here: `answers` says what they mean.
+#![tactic(auto)]
+
 ghost use Rattle.std.specs.Prelude.{◌≡◌, true, ◌≤◌, ◌<◌, length};
 ghost use Rattle.model.specs.Editions.{batch};
 ghost use Rattle.case_reader.specs.Whole.{CaseRoom};
@@ -48,7 +50,7 @@ fn number(error: i32) -> u64
 }
 
 // Bytes read, and the number of the error that ended reading, or 0.
-#[derive(Drop)]
+#[derive(Clone, Copy)]
 pub struct Got(pub usize, pub u64);
 
 // Reads until the buffer is full, the input ends or reading fails. Which bytes the system reads no contract can say.
@@ -126,7 +128,7 @@ fn told(got: Got) -> usize
 }
 
 // A batch that has begun: the front and counts of its case, whether plans may follow, and how many of its bytes are not read yet.
-#[derive(Drop)]
+#[derive(Clone, Copy)]
 pub struct Started {
     pub front: Front,
     pub counts: Counts,
@@ -173,7 +175,7 @@ pub fn start(
 }
 
 // A batch that goes on: whether others may follow, whether the result is a completion, and how many bytes are not read yet.
-#[derive(Drop)]
+#[derive(Clone, Copy)]
 pub struct Turn {
     pub more: bool,
     pub accepted: bool,

@@ -1,4 +1,6 @@
 // Between what powers a set may stand in an interval: "within pmin, pmax, floors, caps and the ramps of rules 5 and 6".
+#![tactic(auto)]
+
 ghost use Rattle.std.specs.Prelude.{◌≡◌, ◌+◌, ◌-◌, ◌≤◌, ◌<◌, min, max, length};
 ghost use Rattle.cell_bounds.specs.Tests.{sum_of};
 ghost use Rattle.records.specs.Views.{system_in, CaseRows};
@@ -12,7 +14,7 @@ use row_places::{
 };
 
 // The least power and the most.
-#[derive(Drop)]
+#[derive(Clone, Copy)]
 pub struct Bounds {
     pub lo: u64,
     pub hi: u64,

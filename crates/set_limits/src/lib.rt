@@ -1,4 +1,6 @@
 // The bounds of all named sets, by place.
+#![tactic(auto)]
+
 ghost use Rattle.std.specs.Prelude.{◌≡◌, ◌<◌, ◌≤◌, length};
 ghost use Rattle.numbers.specs.Sum.{All};
 ghost use Rattle.records.specs.Views.{system_in, CaseRows};
@@ -7,7 +9,7 @@ ghost use Rattle.set_limits.specs.Limits.{Limited, NamedIn};
 use row_places::{CellRow, DeviceRow, Front, MinimaRow, ZoneRow};
 
 // The least powers and the most, 0 where no set is named.
-#[derive(Drop)]
+#[derive(Clone, Copy)]
 pub struct Limits {
     pub lo: [u64; 64],
     pub hi: [u64; 64],

@@ -1,4 +1,6 @@
 // A plan's setting of every edition, read field by field against its layout.
+#![tactic(auto)]
+
 ghost use Rattle.std.specs.Prelude.{◌≡◌, ◌+◌};
 ghost use Rattle.model.specs.Messages.{active};
 ghost use Rattle.model.specs.ByEdition.{setting};
@@ -14,13 +16,13 @@ use reactive_reader::{NEUTRAL, read_reactive};
 use row_places::{Reactive, Reserves, Setting};
 use setting_words::{Active, KW_BITS, MOST_KW, no_active};
 
-#[derive(Drop)]
+#[derive(Clone, Copy)]
 pub struct ActiveRead {
     pub went: Went,
     pub active: Active,
 }
 
-#[derive(Drop)]
+#[derive(Clone, Copy)]
 pub struct SettingRead {
     pub went: Went,
     pub setting: Setting,

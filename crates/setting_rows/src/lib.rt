@@ -1,4 +1,6 @@
 // A plan's figures for a device in one interval from their row, and into it; its starts and stops.
+#![tactic(auto)]
+
 ghost use Rattle.std.specs.Prelude.{◌≡◌, [], ◌<◌, ltb, get_or, length, set};
 ghost use Rattle.numbers.specs.Base.{bit};
 ghost use Rattle.row_places.specs.Figures.{setting_row, setting_of, on_at, online_at, on_before, started_at, stopped_at, reactive_at, flow_at, with_flow};

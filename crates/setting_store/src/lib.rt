@@ -1,4 +1,6 @@
 // A plan's setting of every edition, read into its row: by whole words where these answer, else field by field.
+#![tactic(auto)]
+
 ghost use Rattle.std.specs.Prelude.{◌≡◌, ◌<◌, length};
 ghost use Rattle.setting_store.specs.Stored.{setting_by, neutral, ReactiveStored, SettingStored};
 

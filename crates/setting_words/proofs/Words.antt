@@ -9,15 +9,15 @@ use Rattle.bits.proofs.Laws.{split, field_lt}
 use Rattle.word_fields.proofs.Words.{field_of}
 use Rattle.setting_words.specs.declared.Active.{Active}
 use Rattle.setting_words.specs.declared.Three.{Three}
-use Rattle.setting_words.specs.Settings.{active_in, three_bits, active_bits, power-at, kw_bits, most_kw, nine_in, Found, Threefold, Low}
+use Rattle.setting_words.specs.Settings.{active_in, three_bits, active_bits, power_at, kw_bits, most_kw, nine_in, Found, Threefold, Low}
 
 -- ---- the bits
 
 -- powers j, j + 1 and j + 2 of the nine behind bit `at`
 pub record ThreeAt (s : List ℕ) (at j : ℕ) (t : Three) : Type 0 where
-  pub first : t.x ≡ power-at s at j
-  pub second : t.y ≡ power-at s at (j + 1)
-  pub third : t.z ≡ power-at s at (j + 2)
+  pub first : t.x ≡ power_at s at j
+  pub second : t.y ≡ power_at s at (j + 1)
+  pub third : t.z ≡ power_at s at (j + 2)
 
 -- the last three of a word at bit b
 pub three-of : (s : List ℕ) (at j b u : ℕ) {word : ℕ} {t : Three} → word ≡ field_at s b (u + three_bits) → Threefold word t → b + u ≡ at + 1 + j * kw_bits → ThreeAt s at j t
@@ -56,7 +56,7 @@ pub found : (s : List ℕ) (at : ℕ) {on u v w : ℕ} {a b c : Three} {x : Acti
 found s at there whole first f g h d e k o q r = record {
   there = there;
   is = whole ∙ rw (first, f.first, f.second, f.third, g.first, g.second, g.third, h.first, h.second, h.third) refl;
-  range = nine (λ j. power-at s at j ≤ most_kw)
+  range = nine (λ j. power_at s at j ≤ most_kw)
       (omega (arith, f.first, d.first, o.first)) (omega (arith, f.second, d.second, o.second)) (omega (arith, f.third, d.third, o.third))
       (omega (arith, g.first, e.first, q.first)) (omega (arith, g.second, e.second, q.second)) (omega (arith, g.third, e.third, q.third))
       (omega (arith, h.first, k.first, r.first)) (omega (arith, h.second, k.second, r.second)) (omega (arith, h.third, k.third, r.third));

@@ -44,23 +44,23 @@ abbrev pub active_bits : ℕ
 active_bits = 1 + 3 * three_bits
 
 -- power j of the nine that stand behind bit `at`: the online power, then the eight in order
-abbrev pub power-at : List ℕ → ℕ → ℕ → ℕ
-power-at s at j = field_at s (at + 1 + j * kw_bits) kw_bits
+abbrev pub power_at : List ℕ → ℕ → ℕ → ℕ
+power_at s at j = field_at s (at + 1 + j * kw_bits) kw_bits
 
 abbrev pub active_at : List ℕ → ℕ → ℕ × (ℕ × M.Reserves)
 active_at s at = (
   field_at s at 1,
   (
-    power-at s at 0,
+    power_at s at 0,
     record {
-      rgu = power-at s at 1;
-      rgd = power-at s at 2;
-      scr = power-at s at 3;
-      nsc = power-at s at 4;
-      rru_on = power-at s at 5;
-      rru_off = power-at s at 6;
-      rrd_on = power-at s at 7;
-      rrd_off = power-at s at 8;
+      rgu = power_at s at 1;
+      rgd = power_at s at 2;
+      scr = power_at s at 3;
+      nsc = power_at s at 4;
+      rru_on = power_at s at 5;
+      rru_off = power_at s at 6;
+      rrd_on = power_at s at 7;
+      rrd_off = power_at s at 8;
     },
   ),
 )
@@ -69,7 +69,7 @@ active_at s at = (
 pub record Found (s : List ℕ) (at : ℕ) (x : Active) : Type 0 where
   pub there : at + active_bits ≤ 8 * reach s
   pub is : active_in x ≡ active_at s at
-  pub range : (j : ℕ) → j < 9 → power-at s at j ≤ most_kw
+  pub range : (j : ℕ) → j < 9 → power_at s at j ≤ most_kw
 
 -- ---- three powers of a word
 

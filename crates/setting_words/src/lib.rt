@@ -1,4 +1,6 @@
 // The figures of a plan's setting by whole words, where the message has them and each is in its range.
+#![tactic(auto)]
+
 ghost use Rattle.std.specs.Prelude.{◌≡◌, true, ◌+◌, ◌*◌, ◌%◌, ◌^◌, ◌≤◌};
 ghost use Rattle.bits.specs.Bits.{reach};
 ghost use Rattle.setting_words.specs.Settings.{no_reserves, no_active, active_in, active_bits, nine_in, Threefold, Unborrowed, Low, Found};
@@ -28,7 +30,7 @@ const FIRST_BITS: u64 = 1 + THREE_BITS;
 pub const ACTIVE_BITS: u64 = FIRST_BITS + 2 * THREE_BITS;
 
 // "on 1, online power 17, eight reserves 17 each": the figures of a setting that every edition has.
-#[derive(Drop)]
+#[derive(Clone, Copy)]
 pub struct Active {
     pub on: u32,
     pub online: Kw,
@@ -36,7 +38,7 @@ pub struct Active {
 }
 
 // These figures where ok; else nothing is said.
-#[derive(Drop)]
+#[derive(Clone, Copy)]
 pub struct Quick {
     pub ok: bool,
     pub active: Active,
@@ -70,7 +72,7 @@ pub fn no_active() -> Active
 }
 
 // Three powers in a row.
-#[derive(Drop)]
+#[derive(Clone, Copy)]
 pub struct Three {
     pub x: u32,
     pub y: u32,

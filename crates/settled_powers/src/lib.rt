@@ -1,4 +1,6 @@
 // The powers of the named sets, written over the earlier ones where they can meet the target.
+#![tactic(auto)]
+
 ghost use Rattle.settled_powers.specs.Settled.{Dispatchable, Settles};
 
 use offers::Offer;

@@ -1,4 +1,6 @@
 // The money that shortfalls, mismatches and overruns cost, entered in a ledger.
+#![tactic(auto)]
+
 ghost use Rattle.std.specs.Prelude.{◌≡◌, ◌+◌, ◌*◌, ◌≤◌};
 ghost use Rattle.money.specs.Bounds.{minutes_most, short_price_most, shortfall_most, short_most, zone_most};
 ghost use Rattle.money.specs.Entries.{Room};

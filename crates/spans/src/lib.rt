@@ -1,9 +1,11 @@
 // A span of powers, and how bounds narrow it.
+#![tactic(auto)]
+
 ghost use Rattle.std.specs.Prelude.{◌≡◌, ◌<◌, ◌^◌, leb};
 ghost use Rattle.spans.specs.Spans.{whole, narrow, least, most, started, ended, clamped};
 
 // The powers from one on, below another.
-#[derive(Drop)]
+#[derive(Clone, Copy)]
 pub struct Span {
     pub from: u64,
     pub until: u64,

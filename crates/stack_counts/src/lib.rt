@@ -1,4 +1,6 @@
 // How many messages a batch has.
+#![tactic(auto)]
+
 ghost use Rattle.stack_counts.specs.Counts.{Counts};
 
 use layouts::Framed;

@@ -1,4 +1,6 @@
 // A batch of plans against a decoded case, each in its turn. One body for owners of tables of any size.
+#![tactic(auto)]
+
 ghost use Rattle.std.specs.Prelude.{◌≡◌, ◌+◌, ◌*◌, ◌≤◌, length};
 ghost use Rattle.decoded_cases.specs.Decoded.{Decoded, Work, stated_rows};
 ghost use Rattle.stacks.specs.declared.Counted.TheVariants.{Messages};
@@ -15,7 +17,7 @@ use stacks::{Counted, Stacking};
 use tellings::LONGEST;
 
 // How far the batch is judged: the byte behind the last message, and the bytes of the completions.
-#[derive(Drop)]
+#[derive(Clone, Copy)]
 struct Reached {
     at: usize,
     bytes: usize,

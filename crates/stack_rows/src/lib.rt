@@ -1,4 +1,6 @@
 // A plan's six numbers in the lent table.
+#![tactic(auto)]
+
 ghost use Rattle.std.specs.Prelude.{◌≡◌, ◌++◌, ◌≤◌, length, drop};
 ghost use Rattle.stacks.specs.Stack.{row_numbers, row_told};
 

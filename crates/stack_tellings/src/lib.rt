@@ -1,4 +1,6 @@
 // A batch of plans as hosts in other languages are told of it: a word and four numbers.
+#![tactic(auto)]
+
 ghost use Rattle.std.specs.Prelude.{◌≡◌};
 ghost use Rattle.stack_tellings.specs.Told.{table_bytes, told_stack};
 

@@ -16,7 +16,7 @@ use Rattle.completions.specs.Whole.{needed_for}
 use Rattle.decoded_cases.specs.Decoded.{Decoded, stated_rows}
 use Rattle.plan_judgement.specs.JudgesPlan.{JudgesPlan}
 use Rattle.tellings.specs.declared.Told.{Told}
-use Rattle.tellings.specs.Told.{told-of}
+use Rattle.tellings.specs.Told.{told_of}
 use Rattle.stacks.specs.Stack.{row_numbers, row_told}
 use Rattle.stacks.specs.Turns.{TakesTurn, written_by, turn-bytes}
 
@@ -39,11 +39,11 @@ module _ {front : Front} {halves : List ℕ} {zones minima devices cells : List 
       ) refl
 
   pub turn-taken : (ps : List ℕ) {before after table told : List ℕ} {v : Verdict} {t : Told} {n : ℕ} → JudgesPlan front halves zones minima devices cells ps before after v
-      → n ≡ written_by (needed_for front.edition halves zones devices) v → t ≡ told-of v → told ≡ row_told t n ++ drop row_numbers table → TakesTurn y ps before after table told n
+      → n ≡ written_by (needed_for front.edition halves zones devices) v → t ≡ told_of v → told ≡ row_told t n ++ drop row_numbers table → TakesTurn y ps before after table told n
   turn-taken ps {before} {table = table} j e f g =
       let bytes = e ∙ turn-bytes y before ps bytes-long j.verdict in
       record {
         bytes = bytes;
         result = j.result;
-        numbers = g ∙ ap₂ (λ (x : Told) (k : ℕ). row_told x k ++ drop row_numbers table) (f ∙ ap told-of j.verdict) bytes;
+        numbers = g ∙ ap₂ (λ (x : Told) (k : ℕ). row_told x k ++ drop row_numbers table) (f ∙ ap told_of j.verdict) bytes;
       }

@@ -1,4 +1,6 @@
 // One plan of a batch: judged against a decoded case with what is left of the result buffer, and its six numbers at the front of what is left of the table.
+#![tactic(auto)]
+
 ghost use Rattle.std.specs.Prelude.{◌≡◌, ◌≤◌, length};
 ghost use Rattle.completions.specs.Windows.{Few};
 ghost use Rattle.completions.specs.Whole.{needed_for};

@@ -12,7 +12,7 @@ use Rattle.model.specs.Judgement as J
 use Rattle.model.specs.Judgement.{with_plan, read_plan, completion_bytes}
 use Rattle.tellings.specs.Splitting.{host_limit}
 use Rattle.tellings.specs.declared.Told.{Told}
-use Rattle.tellings.specs.Told.{told-of, figures_of}
+use Rattle.tellings.specs.Told.{told_of, figures_of}
 use Rattle.stacks.specs.declared.Stacking.{Stacking}
 use Rattle.stacks.specs.declared.Stacking.TheVariants.{Judged, RefusedCase, RefusedBatch, Short}
 use Rattle.stacks.specs.Messages.{messages_of}
@@ -29,7 +29,7 @@ row_told t n = t.word ∷ (figures_of t ++ n ∷ [])
 
 -- what hosts are told of its verdict, and the bytes of its completion
 abbrev pub row_of : Verdict → ℕ → List ℕ
-row_of v n = row_told (told-of v) n
+row_of v n = row_told (told_of v) n
 
 -- a completion's bytes; 0 where none is written
 abbrev pub bytes_by : Stated → Whole Plan → Verdict → ℕ

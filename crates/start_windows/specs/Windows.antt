@@ -16,7 +16,7 @@ use Rattle.numbers.specs.Parts.{part, part-long}
 use Rattle.numbers.specs.Ranges.{sum_more, sum-skip, sum_same}
 use Rattle.records.specs.Views.{system_in, plan_in, most_intervals, Ready}
 use Rattle.records.specs.Viewed as W
-use Rattle.row_places.specs.Figures.{no-start}
+use Rattle.row_places.specs.Figures.{no_start}
 use Rattle.row_places.specs.declared.Device.{Device}
 use Rattle.row_places.specs.declared.Front.{Front}
 use Rattle.row_places.specs.declared.StartWindow.{StartWindow}
@@ -139,7 +139,7 @@ module _ {front : Front} {halves : List ℕ} {zones minima devices cells setting
   d = device_of (get_or devices i [])
 
   -- the starts in a window are the model's
-  pub starts-are : (w : ℕ) → w < d.nstarts → starts_at (get_or d.starts w no-start) d.on0 (part (length halves) i settings) starts ≡ R.starts_in q p i w
+  pub starts-are : (w : ℕ) → w < d.nstarts → starts_at (get_or d.starts w no_start) d.on0 (part (length halves) i settings) starts ≡ R.starts_in q p i w
   unfolding starts_at R.starts_in
   starts-are w b =
       let long : length (part (length halves) i settings) ≡ length halves = part-long (length halves) i (length devices) settings l ready.plan-rows.full in

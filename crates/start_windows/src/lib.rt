@@ -1,4 +1,6 @@
 // Rule 20: the starts in a window, out of a device's part of the settings.
+#![tactic(auto)]
+
 ghost use Rattle.std.specs.Prelude.{◌≡◌, true, ◌≤◌, leb, length};
 ghost use Rattle.records.specs.Views.{most_intervals};
 ghost use Rattle.start_windows.specs.Windows.{Timed, Reached, starts_at, all_starts};

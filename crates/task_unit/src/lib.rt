@@ -1,4 +1,6 @@
 // A task on bytes. Nothing is required of the caller; every task ends.
+#![tactic(auto)]
+
 ghost use Rattle.std.specs.Prelude.{◌≡◌};
 ghost use Rattle.model.specs.Editions.{batch, host};
 ghost use Rattle.model.specs.ByEdition.{stated_in};

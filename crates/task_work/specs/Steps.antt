@@ -36,7 +36,7 @@ use Rattle.stacks.specs.declared.Stacking.{Stacking}
 use Rattle.stacks.specs.Stack.{Stackings}
 use Rattle.stacks.specs.Judges.{JudgesBatch}
 use Rattle.tellings.specs.declared.Told.{Told}
-use Rattle.tellings.specs.Told.{told-of, told_case, told_list, told_writing, told_copy, told_reading, told_mending}
+use Rattle.tellings.specs.Told.{told_of, told_case, told_list, told_writing, told_copy, told_reading, told_mending}
 use Rattle.stack_tellings.specs.Told.{told_stack}
 use Rattle.tasks.specs.declared.Task.{Task}
 use Rattle.tasks.specs.declared.Task.TheVariants as T
@@ -93,8 +93,8 @@ module _ (front : Front) (halves : List ℕ) (zones minima devices cells : List 
       counts_same x y z = rw (x, y, z) refl
 
   pub judge-served : {task : Task} (ms : List ℕ) {before after : List ℕ} (table : List ℕ) {v : Verdict} {t : Told} → task ≡ T.Judge
-      → JudgesPlan front halves zones minima devices cells ms before after v → t ≡ told-of v → record { told = t; result = after; rows = table } ≡ served task ms before table (passes x)
-  judge-served ms {before} table e j h = known ms before table e (same-served (h ∙ ap told-of j.verdict) j.result refl)
+      → JudgesPlan front halves zones minima devices cells ms before after v → t ≡ told_of v → record { told = t; result = after; rows = table } ≡ served task ms before table (passes x)
+  judge-served ms {before} table e j h = known ms before table e (same-served (h ∙ ap told_of j.verdict) j.result refl)
 
   pub breaches-served : {task : Task} (ms : List ℕ) {before after : List ℕ} (table : List ℕ) {r : Listing} {t : Told} → task ≡ T.Breaches
       → ListsPlan front halves zones minima devices cells ms before after r → t ≡ told_list r → record { told = t; result = after; rows = table } ≡ served task ms before table (passes x)

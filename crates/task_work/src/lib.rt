@@ -1,4 +1,6 @@
 // A task done for a case that was decoded before, and told. One body for owners of tables of any size.
+#![tactic(auto)]
+
 ghost use Rattle.std.specs.Prelude.{◌≡◌};
 ghost use Rattle.layouts.specs.Layout.{passes};
 ghost use Rattle.decoded_cases.specs.Decoded.{Decoded, Work, stated_rows};

@@ -11,7 +11,7 @@ use Rattle.mending.specs.Mendings as M
 use Rattle.stacks.specs.Stack as B
 use Rattle.case_inspection.specs.Inspection.{inspected_of}
 use Rattle.tellings.specs.declared.Told.{Told}
-use Rattle.tellings.specs.Told.{told-of, told_case, told_list, told_writing, told_copy, told_reading, told_mending}
+use Rattle.tellings.specs.Told.{told_of, told_case, told_list, told_writing, told_copy, told_reading, told_mending}
 use Rattle.stack_tellings.specs.Told.{told_stack}
 use Rattle.tasks.specs.declared.Task.{Task}
 use Rattle.tasks.specs.declared.Task.TheVariants as T
@@ -25,7 +25,7 @@ pub record Served : Type 0 where
 -- a task with a message, a result buffer and a table, of which it leaves what it does not use as it came
 abbrev pub served : Task → List ℕ → List ℕ → List ℕ → Whole Stated → Served
 served T.Inspect ms before table w = record { told = told_case (inspected_of w); result = before; rows = table }
-served T.Judge ms before table w = let x = J.with_case ms before w in record { told = told-of x.verdict; result = x.result; rows = table }
+served T.Judge ms before table w = let x = J.with_case ms before w in record { told = told_of x.verdict; result = x.result; rows = table }
 served T.Breaches ms before table w = let x = L.list_case ms before w in record { told = told_list x.answer; result = x.list; rows = table }
 served T.WriteCase ms before table w = let x = W.put_case before w in record { told = told_writing x.answer; result = x.result; rows = table }
 served T.WritePlan ms before table w = let x = W.with_case ms before w in record { told = told_writing x.answer; result = x.result; rows = table }

@@ -1,5 +1,7 @@
 // What hosts in other languages ask of a case, and of a message with it.
-#[derive(Drop)]
+#![tactic(auto)]
+
+#[derive(Clone, Copy)]
 pub enum Task {
     Inspect,
     Judge,

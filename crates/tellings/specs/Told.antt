@@ -43,10 +43,10 @@ abbrev pub told_fault : ℕ → Fault → Told
 told_fault word f = record { word = word; first = number_of f; second = returned_by f; third = 0; fourth = 0 }
 
 -- 0 accepted: the surplus in two's complement; 1 broken: rule, interval, device, window; 2 to 4 refused: number, bit or bytes
-abbrev pub told-of : Verdict → Told
-told-of (Accepted z) = told_number (to_twos 64 z)
-told-of (Broken b) = told_breach b
-told-of (Refused s f) = told_fault (word_of s) f
+abbrev pub told_of : Verdict → Told
+told_of (Accepted z) = told_number (to_twos 64 z)
+told_of (Broken b) = told_breach b
+told_of (Refused s f) = told_fault (word_of s) f
 
 -- 0 passes: devices, intervals, zones; 2 refused: number, bit
 abbrev pub told_case : Inspected → Told

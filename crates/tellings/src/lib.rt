@@ -1,4 +1,6 @@
 // What hosts in other languages are told: a word and four numbers.
+#![tactic(auto)]
+
 ghost use Rattle.std.specs.Prelude.{◌≡◌, ◌++◌, ◌≤◌, length, drop};
 ghost use Rattle.completion_reading.specs.Figures.{Few};
 ghost use Rattle.tellings.specs.Splitting.{HostSplits};
@@ -11,7 +13,7 @@ use mending::Mending;
 use model::{Breach, Inspected, Listing, Subject, Verdict};
 use writing::Writing;
 
-#[derive(Drop)]
+#[derive(Clone, Copy)]
 pub struct Told {
     pub word: u64,
     pub first: u64,

@@ -18,7 +18,7 @@ use Rattle.numbers.specs.Z.{whole as whole_numbers, n+}
 use Rattle.bits.specs.Pick.{pick}
 use Rattle.layouts.specs.Since.{has}
 use Rattle.model.specs.declared.Breach.{Breach}
-use Rattle.model.specs.Case.{System, Plan, Case, no_device, no-flow}
+use Rattle.model.specs.Case.{System, Plan, Case, no_device, no_flow}
 use Rattle.model.specs.Forced.{intervals, devices, device, consuming, on_bar, duration, flow, setting, power}
 use Rattle.model.specs.Breaches.{failing, cell_breaches, link_test, link_breaches, interval_breaches, all_windows, breaches}
 use Rattle.model.specs.Completion as C
@@ -41,8 +41,8 @@ module _ (q : System) (p : Plan) (hs : SystemBarless q) (hp : PlanBarless p) whe
   bar-0 : (i : ℕ) → (device q i).bar ≡ 0
   bar-0 i = all-or DeviceBarless no_device refl q.devices hs.devices i
 
-  pub no-flow : (t : ℕ) → flow q p t ≡ no-flow
-  no-flow t = all-or (λ z. z ≡ no-flow) no-flow refl p.flows hp.flows t
+  pub no-flow : (t : ℕ) → flow q p t ≡ no_flow
+  no-flow t = all-or (λ z. z ≡ no_flow) no_flow refl p.flows hp.flows t
 
   -- bar 0 has every set
   on-0 : (i : ℕ) → on_bar q 0 i ≡ true

@@ -11,7 +11,7 @@ use Rattle.layouts.specs.Since.{has, has-not, since, present, nothing}
 use Rattle.layouts.specs.As.{As, as_same, as-pair, as-list, as-into, as-held, map_whole}
 use Rattle.model.specs.declared.Subject.TheVariants as S
 use Rattle.model.specs.declared.Verdict.TheVariants.{Refused}
-use Rattle.model.specs.Case.{Case, Cell, CellPrices, Device, DevicePrices, System, Plan, Setting, no_link, no-flow}
+use Rattle.model.specs.Case.{Case, Cell, CellPrices, Device, DevicePrices, System, Plan, Setting, no_link, no_flow}
 use Rattle.model.specs.Forced.{intervals, devices}
 use Rattle.model.specs.Editions.{Widths, Largest, widths_of, newest, most_devices, most_intervals, most_states, most_windows}
 use Rattle.model.specs.Messages.{kw_field, minutes, eight, energy_window, apart, head, costs, last_end, pairs}
@@ -87,7 +87,7 @@ content_one one w e l = held
 -- no flow behind an interval's devices
 unfoldable pub plan_one : Widths → ℕ → ℕ → ℕ → Layout Plan
 plan_one w e devices intervals = held
-    (λ v. record { settings = v.1.1.1.1; flows = map (λ (row : List Setting). no-flow) v.1.1.1.1 })
+    (λ v. record { settings = v.1.1.1.1; flows = map (λ (row : List Setting). no_flow) v.1.1.1.1 })
     (λ p. (plan_kind, (e, (devices, (intervals, p.settings)))))
     (fixed plan_kind ▸ fixed e ▸ nat (count_of w.device_bits devices devices) ▸ nat (count_of w.interval_bits intervals intervals)
     ▸ list intervals (list devices (setting e)))
@@ -107,17 +107,17 @@ module _ (e : ℕ) (h : has 5 e ≡ false) where
   content-one w l = rw (h, devices-one w) refl
 
   -- an interval's devices and nothing behind them
-  interval-as : (n : ℕ) → As (planned e n) (λ row. (row, no-flow)) (list n (setting e))
+  interval-as : (n : ℕ) → As (planned e n) (λ row. (row, no_flow)) (list n (setting e))
   unfolding ◌then◌ present nothing
   interval-as n = rw h (record { reads = λ s p bad next. refl; writes = λ row. append-nil ((list n (setting e)).write row) })
 
   unflowed : List (List Setting) → List (List Setting) × List ℤ
-  unflowed rows = (rows, map (λ (row : List Setting). no-flow) rows)
+  unflowed rows = (rows, map (λ (row : List Setting). no_flow) rows)
 
-  pairs-are : (rows : List (List Setting)) → pairs rows (map (λ (row : List Setting). no-flow) rows) ≡ map (λ (row : List Setting). (row, no-flow)) rows
+  pairs-are : (rows : List (List Setting)) → pairs rows (map (λ (row : List Setting). no_flow) rows) ≡ map (λ (row : List Setting). (row, no_flow)) rows
   unfolding pairs
   pairs-are [] = refl
-  pairs-are (row ∷ rows) = ap (λ (xs : List (List Setting × ℤ)). (row, no-flow) ∷ xs) (pairs-are rows)
+  pairs-are (row ∷ rows) = ap (λ (xs : List (List Setting × ℤ)). (row, no_flow) ∷ xs) (pairs-are rows)
 
   rows_as : (n m : ℕ) → As (apart (list m (planned e n))) unflowed (list m (list n (setting e)))
   unfolding apart unflowed
@@ -126,7 +126,7 @@ module _ (e : ℕ) (h : has 5 e ≡ false) where
 
   -- a plan in the newest form
   abbrev in_form : Plan → Plan
-  in_form p = record { settings = p.settings; flows = map (λ (row : List Setting). no-flow) p.settings }
+  in_form p = record { settings = p.settings; flows = map (λ (row : List Setting). no_flow) p.settings }
 
   plan-as : (w : Widths) (n m : ℕ) → As (plan_by w e n m) in_form (plan_one w e n m)
   unfolding plan_by plan_one unflowed

@@ -14,7 +14,7 @@ use Rattle.numbers.specs.Bounds.{bound-sub, bound-add, bound-mul, bound-sum, bou
 use Rattle.numbers.specs.State.{best, best-is}
 use Rattle.bits.specs.Pick.{pick}
 use Rattle.numbers.specs.Base.{range, up_to}
-use Rattle.model.specs.Case.{System, Plan, Case, no_device, no_block, no_cell, no_zone, Minima, no_minima, no_setting, no_energy_window, no_kinds, no_reactive_reserves, no-flow}
+use Rattle.model.specs.Case.{System, Plan, Case, no_device, no_block, no_cell, no_zone, Minima, no_minima, no_setting, no_energy_window, no_kinds, no_reactive_reserves, no_flow}
 use Rattle.layouts.specs.Since.{has, Where}
 use Rattle.model.specs.Messages.{no_bars}
 use Rattle.ranges.specs.Plain.{SystemPlain, PlanPlain}
@@ -247,7 +247,7 @@ module _ (q : System) (p : Plan) (rq : SystemRange q) (rp : PlanRange q p) (ok :
   minutes-bound from until t = omega (arith, duration-bound t)
 
   pub flow-bound : (t : ℕ) → nat_abs (flow q p t) ≤ most_flow
-  flow-bound t = all-or (λ z. nat_abs z ≤ most_flow) no-flow (omega arith) p.flows rp.flows t
+  flow-bound t = all-or (λ z. nat_abs z ≤ most_flow) no_flow (omega arith) p.flows rp.flows t
 
   leaving-bound : (t b : ℕ) → nat_abs (C.leaving q p t b) ≤ most_flow
   leaving-bound t b = go (eqb b 0)

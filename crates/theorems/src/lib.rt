@@ -1,1 +1,2 @@
 // No code: the theorems that the promises rest on.
+#![tactic(auto)]

@@ -1,4 +1,6 @@
 // What a start gives the intervals before it, and a stop itself and those after it, in a device's part of the powers.
+#![tactic(auto)]
+
 ghost use Rattle.std.specs.Prelude.{◌≡◌, ◌+◌, ◌-◌, ◌*◌, ◌<◌, ◌≤◌, length};
 ghost use Rattle.records.specs.Views.{last_minute};
 ghost use Rattle.trajectories.specs.Trajectories.{leaves_at, rise_in, fall_in, Raised, Ramped};

@@ -2,7 +2,7 @@
 use Rattle.std.specs.Prelude.{Bool, List, [], ◌∷◌, ℕ, ◌+◌, T, ℤ, pos}
 use Rattle.numbers.specs.Base.{every}
 use Rattle.layouts.specs.Layout.{Whole, passes, fails, bytes}
-use Rattle.model.specs.Case.{Plan, no_reactive, no-flow}
+use Rattle.model.specs.Case.{Plan, no_reactive, no_flow}
 use Rattle.model.specs.Editions.{newest, batch}
 use Rattle.model.specs.ByEdition.{Stated, case_layout, plan_layout, stated_in}
 use Rattle.model.specs.AsBefore.{stated}
@@ -21,7 +21,7 @@ case_as e (passes x) = bytes ((case_layout batch).write (stated e x.case))
 case_as e (fails f) = []
 
 plan : Plan
-plan = record { settings = (record { on = 1; online = 60; reserves = record { rgu = 3; rgd = 0; scr = 3; nsc = 0; rru_on = 4; rru_off = 0; rrd_on = 0; rrd_off = 0 }; reactive = no_reactive } ∷ []) ∷ []; flows = no-flow ∷ [] }
+plan = record { settings = (record { on = 1; online = 60; reserves = record { rgu = 3; rgd = 0; scr = 3; nsc = 0; rru_on = 4; rru_off = 0; rrd_on = 0; rrd_off = 0 }; reactive = no_reactive } ∷ []) ∷ []; flows = no_flow ∷ [] }
 
 plan_as : ℕ → List ℕ
 plan_as e = bytes ((plan_layout e 1 1).write plan)

@@ -1,4 +1,6 @@
 // The line of a verdict as text. Each function writes the line's bytes to the front of a lent buffer and answers how many they are.
+#![tactic(auto)]
+
 ghost use Rattle.std.specs.Prelude.{◌≤◌, length};
 ghost use Rattle.model.specs.Batch.{answer};
 ghost use Rattle.wording.specs.Text.{answer_text, text as text_of};

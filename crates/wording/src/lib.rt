@@ -1,4 +1,6 @@
 // Text in a lent buffer: bytes, numbers in decimal, a word and numbers as a line.
+#![tactic(auto)]
+
 ghost use Rattle.std.specs.Prelude.{◌++◌, ◌+◌, ◌*◌, ◌≤◌, length};
 ghost use Rattle.wording.specs.Decimal.{decimal};
 ghost use Rattle.wording.specs.Text.{space, newline, figures as figures_of, word_line};

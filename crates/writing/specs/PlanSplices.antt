@@ -11,7 +11,7 @@ use Rattle.layouts.specs.Trip.{length-bits}
 use Rattle.layouts.specs.Since.{since}
 use Rattle.layouts.specs.Sure.{Any}
 use Rattle.layouts.specs.Own.{Run, nat-own}
-use Rattle.model.specs.Case.{Plan, Setting, no_reactive, no-flow}
+use Rattle.model.specs.Case.{Plan, Setting, no_reactive, no_flow}
 use Rattle.model.specs.Editions.{newest, widths_of, device_bits, interval_bits}
 use Rattle.model.specs.Messages as M
 use Rattle.model.specs.ByEdition as B
@@ -34,8 +34,8 @@ rows_splice e devices intervals = times intervals (times devices (setting_splice
 unfoldable pub plan_splice : ℕ → ℕ → ℕ → Splice
 plan_splice e devices intervals = add 4 B.plan_kind ⨾ add 4 newest ⨾ add (device_bits newest) devices ⨾ add (interval_bits newest) intervals ⨾ rows_splice e devices intervals
 
-abbrev pub front-of : ℕ → ℕ
-front-of e = 0 + 4 + 4 + device_bits e + interval_bits e
+abbrev pub front_of : ℕ → ℕ
+front_of e = 0 + 4 + 4 + device_bits e + interval_bits e
 
 -- ---- what they give
 
@@ -55,7 +55,7 @@ reactive-adds : Adds (add 52 0) ((B.reactive).write no_reactive)
 unfolding B.reactive held ◌then◌ nat int to_twos bits_of
 reactive-adds = add-adds 52 0
 
-flow-adds : Adds (add 18 0) ((B.flow).write no-flow)
+flow-adds : Adds (add 18 0) ((B.flow).write no_flow)
 unfolding int to_twos
 flow-adds = add-adds 18 0
 
@@ -67,7 +67,7 @@ module _ (e : ℕ) where
   rows-anew : (devices intervals : ℕ) → Anew (M.apart (list intervals (B.planned e devices))) (M.apart (list intervals (B.planned newest devices))) (rows_splice e devices intervals) Any
   unfolding rows_splice
   rows-anew devices intervals = forget (some-anew intervals (pair-anew (list-anew devices setting-anew)
-      (since-anew e 5 no-flow refl tt flow-adds (kept (A.int-again 18 100000 (omega arith)) (int-wide 18 100000)))))
+      (since-anew e 5 no_flow refl tt flow-adds (kept (A.int-again 18 100000 (omega arith)) (int-wide 18 100000)))))
 
   -- the plan's layout, with rows of the newest edition
   module _ (devices intervals : ℕ) where
@@ -103,11 +103,11 @@ behind-four t u v w a b c d a' b' c' d' us vs h =
 
 -- the splice of a plan that passes reading gives the message of the newest edition
 pub plan-spliced : (e d n : ℕ) (s : List ℕ) (p : Plan) → read_whole (B.plan_layout e d n) s ≡ passes p
-    → (spliced (plan_splice e d n) s (front-of e) ≡ (B.plan_layout newest d n).write p) × (past (plan_splice e d n) s (front-of e) ≤ 8 * reach s)
+    → (spliced (plan_splice e d n) s (front_of e) ≡ (B.plan_layout newest d n).write p) × (past (plan_splice e d n) s (front_of e) ≤ 8 * reach s)
 unfolding plan_splice spliced past B.plan_by mixed held ◌then◌ nat
 plan-spliced e d n s p h =
     let k = whole_run (B.plan_layout e d n) _ s ((whole-anew e d n).anew s begin (omega arith)) p h in
-    let rows : spliced (rows_splice e d n) s (front-of e) ≡ (M.apart (list n (B.planned newest d))).write (p.settings, p.flows) =
+    let rows : spliced (rows_splice e d n) s (front_of e) ≡ (M.apart (list n (B.planned newest d))).write (p.settings, p.flows) =
     behind-four 4 4 (device_bits e) (interval_bits e) (field_at s 0 4) (field_at s (0 + 4) 4) (field_at s (0 + 4 + 4) (device_bits e)) (field_at s (0 + 4 + 4 + device_bits e) (interval_bits e))
     B.plan_kind e d n _ _ k.1.is in (
       ap (λ (x : List ℕ). bits_of 4 B.plan_kind ++ (bits_of 4 newest ++ (bits_of (device_bits newest) d ++ (bits_of (interval_bits newest) n ++ x)))) rows,

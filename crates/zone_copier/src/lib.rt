@@ -1,4 +1,6 @@
 // A case's zones copied bit by bit into a message of the newest edition.
+#![tactic(auto)]
+
 ghost use Rattle.writing.specs.Splice.{times};
 ghost use Rattle.writing.specs.CaseSplices.{minima_splice, zone_splice};
 ghost use Rattle.bit_copier.specs.Moves.{Set, Moves};

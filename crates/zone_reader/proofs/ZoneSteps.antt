@@ -23,7 +23,7 @@ use Rattle.field_rows.specs.Each.{list-natural}
 use Rattle.field_rows.specs.Going.{Storing, storing-none, storing-more, storing-off, storing-done}
 use Rattle.fields.proofs.Chains.{then-off, then-told}
 use Rattle.reactive_zones.proofs.Steps as R
-use Rattle.zone_reader.specs.Zones.{zone_from, zone_with, terms, terms_in, ahead, ahead-in, zone_pair, ZoneDone}
+use Rattle.zone_reader.specs.Zones.{zone_from, zone_with, terms, terms_in, ahead, ahead_in, zone_pair, ZoneDone}
 
 -- ---- any reader goes on from a zone
 
@@ -129,13 +129,13 @@ module _ (s : List ℕ) (p : Place) where
 -- ---- prices of reactive reserves
 
 module _ (e : ℕ) (s : List ℕ) (p : Place) (z : Zone) {x : Went} (t : told x (terms_in z) ≡ got terms s p) where
-  pub ahead-no-terms : (y : Zone) {f : Fault} → x ≡ W.Off f → told x (ahead-in y) ≡ got (ahead e) s p
-  ahead-no-terms y o = told-off (ahead-in y) o (then-off terms-natural _ s p (went-bad (terms_in z) t o))
+  pub ahead-no-terms : (y : Zone) {f : Fault} → x ≡ W.Off f → told x (ahead_in y) ≡ got (ahead e) s p
+  ahead-no-terms y o = told-off (ahead_in y) o (then-off terms-natural _ s p (went-bad (terms_in z) t o))
 
   pub ahead-done : {q : Place} (w : Went) (qru qrd : ℕ) {y : Zone} → x ≡ W.On q → told w (record { qru = qru; qrd = qrd }) ≡ got (since e 2 C.unit_prices B.zone_reactive_prices) s q
-      → y ≡ zone_with z qru qrd → told w (ahead-in y) ≡ got (ahead e) s p
+      → y ≡ zone_with z qru qrd → told w (ahead_in y) ≡ got (ahead e) s p
   ahead-done w qru qrd o g k =
-      ap (λ (y : Zone). told w (ahead-in y)) k ∙ then-told terms-natural _ s p w (record { qru = qru; qrd = qrd }) (R.prices-natural e) (went-good (terms_in z) t o) g
+      ap (λ (y : Zone). told w (ahead_in y)) k ∙ then-told terms-natural _ s p w (record { qru = qru; qrd = qrd }) (R.prices-natural e) (went-good (terms_in z) t o) g
 
 -- ---- a zone
 
@@ -148,15 +148,15 @@ module _ (e : ℕ) (s : List ℕ) (p : Place) where
   unfolding B.zone held ◌then◌
   zone-is m = refl
 
-  module _ (z : Zone) {x : Went} (t : told x (ahead-in z) ≡ got (ahead e) s p) where
+  module _ (z : Zone) {x : Went} (t : told x (ahead_in z) ≡ got (ahead e) s p) where
     pub zone-no-terms : (y : Zone) (minima : List (List ℕ)) {f : Fault} → x ≡ W.Off f → ZoneDone e s p x y minima
     zone-no-terms y minima o = record {
-      is = told-off (zone_pair (zone_row y) minima) o (zone-is (length minima) ∙ goes-off (ahead-natural e) s p bad _ (went-bad (ahead-in z) t o));
+      is = told-off (zone_pair (zone_row y) minima) o (zone-is (length minima) ∙ goes-off (ahead-natural e) s p bad _ (went-bad (ahead_in z) t o));
     }
 
     pub zone-done : (minima : List (List ℕ)) (w : Went) {q : Place} → x ≡ W.On q → told w (map minima_in minima) ≡ got (list (length minima) (B.minima e)) s q → ZoneDone e s p w z minima
     unfolding zone_in
     zone-done minima w {q} o g = record {
-      is = mapped (list-natural (length minima) (minima-natural e)) (zone_of_parts (ahead-in z)) s q w (map minima_in minima)
-          (zone-is (length minima) ∙ goes_on (ahead-natural e) s p bad _ (went-good (ahead-in z) t o)) g;
+      is = mapped (list-natural (length minima) (minima-natural e)) (zone_of_parts (ahead_in z)) s q w (map minima_in minima)
+          (zone-is (length minima) ∙ goes_on (ahead-natural e) s p bad _ (went-good (ahead_in z) t o)) g;
     }

@@ -32,8 +32,8 @@ terms_in z = (shares_in (zone_row z), six_in z.prices)
 abbrev pub ahead : ℕ → Layout ((C.Shares × C.Six) × C.ReactiveReserves)
 ahead e = terms ▸ since e 2 C.unit_prices B.zone_reactive_prices
 
-abbrev pub ahead-in : Zone → (C.Shares × C.Six) × C.ReactiveReserves
-ahead-in z = (terms_in z, record { qru = z.qru.0; qrd = z.qrd.0 })
+abbrev pub ahead_in : Zone → (C.Shares × C.Six) × C.ReactiveReserves
+ahead_in z = (terms_in z, record { qru = z.qru.0; qrd = z.qrd.0 })
 
 -- a zone's row with its part of the minima
 abbrev pub zone_pair : List ℕ → List (List ℕ) → C.Zone × C.Kinds

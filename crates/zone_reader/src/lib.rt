@@ -1,4 +1,6 @@
 // A zone of a case: its shares and prices by value, its minima in its part of the table. What edition 2 added to it is read by `reactive_zones`.
+#![tactic(auto)]
+
 ghost use Rattle.std.specs.Prelude.{◌≡◌, map, ◌≤◌, length};
 ghost use Rattle.layouts.specs.Layout.{list};
 ghost use Rattle.model.specs.Messages as M;
@@ -32,13 +34,13 @@ const MINIMUM_BITS: u64 = 23;
 
 const MOST_MINIMUM: u32 = 6400000;
 
-#[derive(Drop)]
+#[derive(Clone, Copy)]
 pub struct ZoneRead {
     pub went: Went,
     pub zone: Zone,
 }
 
-#[derive(Drop)]
+#[derive(Clone, Copy)]
 pub struct MinimaRead {
     pub went: Went,
     pub minima: Minima,

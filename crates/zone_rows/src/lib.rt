@@ -1,4 +1,6 @@
 // A zone and its minima from their rows, and into them.
+#![tactic(auto)]
+
 ghost use Rattle.std.specs.Prelude.{◌≡◌, [], ◌<◌, get_or, length, set};
 ghost use Rattle.row_places.specs.Figures.{zone_row, minima_row, zone_of, minima_of};
 

@@ -1,4 +1,6 @@
 // A zone's shortfalls in an interval, each at its need.
+#![tactic(auto)]
+
 ghost use Rattle.std.specs.Prelude.{◌≡◌, ◌-◌, ◌*◌, ◌<◌, ◌≤◌, length};
 ghost use Rattle.records.specs.Views.{most_devices, most_zones, most_power};
 ghost use Rattle.zone_shortfalls.specs.Needs.{Thousandths, required_of, needs_of, zone_needs};

@@ -1,4 +1,6 @@
 // A case's zones: a row each, and each with its part of the minima.
+#![tactic(auto)]
+
 ghost use Rattle.std.specs.Prelude.{◌≡◌};
 ghost use Rattle.layouts.specs.Layout.{list};
 ghost use Rattle.model.specs.ByEdition as B;

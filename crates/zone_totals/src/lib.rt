@@ -1,4 +1,6 @@
 // What a zone's members draw and hold in an interval.
+#![tactic(auto)]
+
 ghost use Rattle.std.specs.Prelude.{◌≡◌, ◌+◌, ◌-◌, ◌<◌, ◌≤◌, length};
 ghost use Rattle.ranges.specs.Ranges.{Eight};
 ghost use Rattle.row_places.specs.Figures.{in_zone};
@@ -11,7 +13,7 @@ use row_places::{DeviceRow, Reserves, SettingRow};
 use setting_rows::setting_at;
 
 // Over a zone's members: the consuming power, the largest producing power, and what each kind of reserve holds; rru and rrd are on and off.
-#[derive(Drop)]
+#[derive(Clone, Copy)]
 pub struct ZoneSums {
     pub load: Kw,
     pub unit: Kw,

@@ -5,7 +5,7 @@ use native.Mathlib.Omega.{arith}
 use lib.Dec.{eqb}
 use lib.ListN.{length}
 use borrow.Author.Rules.{rules}
-use Rattle.block_pick.specs.Order.{ahead-in, ahead-linear}
+use Rattle.block_pick.specs.Order.{ahead_in, ahead-linear}
 use Rattle.block_pick.specs.Ranks.{NextIs, held, fewer-left, picked-length}
 use Rattle.block_pick.specs.Picks.{all-places}
 use Rattle.block_fill.specs.Filled.{cap_of}
@@ -15,7 +15,7 @@ use Rattle.block_fill.proofs.fill.Tie as tie
 
 abbrev invariant-loop : tie.invariant-loop
 invariant-loop side blocks prices caps powers₀ picked₀ left₀ powers picked left =
-    (length powers ≡ 4) × Filling (ahead-in (eqb side 1) prices) blocks (cap_of caps) left₀.0 picked (cap_of powers) left.0
+    (length powers ≡ 4) × Filling (ahead_in (eqb side 1) prices) blocks (cap_of caps) left₀.0 picked (cap_of powers) left.0
 
 abbrev decreases-loop : tie.decreases-loop
 decreases-loop side blocks prices caps powers₀ picked₀ left₀ powers picked left = blocks - held (λ j. 1) blocks picked
@@ -46,7 +46,7 @@ module _ (c : tie.After-known-told invariant-loop decreases-loop) where
   abbrev at-loop : tie.At-loop invariant-loop decreases-loop
   at-loop = c.before.before.before.before.before.before
 
-  next-is : NextIs (ahead-in (eqb at-loop.before.args.side 1) at-loop.before.args.prices) at-loop.before.args.blocks at-loop.loop.picked c.before.next2.given.0.0
+  next-is : NextIs (ahead_in (eqb at-loop.before.args.side 1) at-loop.before.args.prices) at-loop.before.args.blocks at-loop.loop.picked c.before.next2.given.0.0
   next-is = c.before.before.before.next.ensures.next-is _ c.before.next2.given.1
 
   inside : c.before.next2.given.0.0 < 4

@@ -4,7 +4,7 @@ use mathlib.Core.Path.{sym, ap, ◌∙◌}
 use mir.Syntax.{w64}
 use mir.ValLaws.{to_z-of_z}
 use Rattle.bits.specs.Twos.{to_twos}
-use Rattle.tellings.specs.Told.{told_number, told-of}
+use Rattle.tellings.specs.Told.{told_number, told_of}
 use Rattle.tellings.proofs.tell.Statement.{statement}
 use Rattle.tellings.proofs.tell.Tie as tie
 
@@ -33,13 +33,13 @@ returns : tie.Need-returns
 returns c =
     let cut : _ = c.before.before.before.v.given in
     let surplus = c.before.twos.ensures ∙ ap (to_twos 64) (to_z-of_z w64 cut.0.0 (search rules)) in
-    c.tell-number.ensures ∙ ap told_number surplus ∙ ap told-of (sym cut.1)
+    c.tell-number.ensures ∙ ap told_number surplus ∙ ap told_of (sym cut.1)
 
 returns-2 : tie.Need-returns-2
-returns-2 c = c.tell-breach.ensures ∙ ap told-of (sym c.before.before.v2.given.1)
+returns-2 c = c.tell-breach.ensures ∙ ap told_of (sym c.before.before.v2.given.1)
 
 returns-3 : tie.Need-returns-3
-returns-3 c = c.tell-refused.ensures ∙ ap told-of (sym c.before.before.v3.given.1)
+returns-3 c = c.tell-refused.ensures ∙ ap told_of (sym c.before.before.v3.given.1)
 
 pub tell-spec : {M : Type 1} → statement M
 tell-spec =

@@ -1,0 +1,9 @@
+-- `raising::raised_by` meets its contract.
+-- Assumes nothing.
+use Rattle.raising.specs.Raising.{step_is}
+use Rattle.raising.proofs.raised_by.Goals as goal
+
+pub returns : goal.returns
+returns c =
+    let a : _ = c.args in
+    step_is a.r a.o a.lo a.hi _ c.within-power.ensures
