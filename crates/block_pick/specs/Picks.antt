@@ -208,7 +208,7 @@ module _ (consuming : Bool) (prices : List ℕ) (n : ℕ) (picked : List Bool) w
 
       all : (r : Pick) → Says (ahead_in consuming prices) n picked r → AllPicked n picked → r ≡ None
       all None s h = refl
-      all (Block k) s h = absurd (T_not (taken picked k) s.fresh (all-places h k s.one))
+      all (Block k) s h = absurd (T_not (taken picked k) s.fresh (all-places _ _ h k s.one))
 
   -- the block answered after m picks has rank m: m of the n go ahead of it
   pub answer-rank : {m k : ℕ} → Picked (ahead_in consuming prices) n picked m → Picks consuming prices n picked (Block k)

@@ -6,17 +6,16 @@ ghost use Rattle.wording.specs.Decimal.{decimal};
 ghost use Rattle.wording.specs.Text.{space, newline, figures as figures_of, word_line};
 ghost use Rattle.wording.specs.Writes.{Puts};
 
+use itoa::Buffer;
+
 // The bytes of a text from the place `at` on; answers the place behind them.
 fn put_bytes(out: &mut [u8], at: usize, text: &[u8]) -> usize
     requires { at + length text.now ≤ length out.old }
     ensures { Puts (length text.now) text.now out.old out.new at result }
 {
-    let mut i: usize = 0;
-    while i < text.len() {
-        out[at + i] = text[i];
-        i += 1;
-    }
-    at + i
+    let end = at + text.len();
+    out[at..end].copy_from_slice(text);
+    end
 }
 
 // A number in decimal, of at most 20 digits.
@@ -24,9 +23,8 @@ fn put_number(out: &mut [u8], at: usize, n: u64) -> usize
     requires { at + 20 ≤ length out.old }
     ensures { Puts 20 (decimal n) out.old out.new at result }
 {
-    let mut digits = [0u8; 20];
-    let k = io::decimal(n, &mut digits);
-    put_bytes(out, at, &digits[..k])
+    let mut digits = Buffer::new();
+    put_bytes(out, at, digits.format(n).as_bytes())
 }
 
 // A space and a number.
@@ -44,10 +42,8 @@ fn put_figures(out: &mut [u8], at: usize, figures: &[u64]) -> usize
     ensures { Puts (21 * length figures.now) (figures_of figures.now) out.old out.new at result }
 {
     let mut next = at;
-    let mut i: usize = 0;
-    while i < figures.len() {
-        next = put_figure(out, next, figures[i]);
-        i += 1;
+    for figure in figures {
+        next = put_figure(out, next, *figure);
     }
     next
 }

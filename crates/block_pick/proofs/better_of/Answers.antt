@@ -5,24 +5,24 @@ use Rattle.block_pick.specs.Picks.{lower, better-none, better-ahead, better-behi
 use Rattle.block_pick.proofs.better_of.Goals as goal
 
 pub returns-in_default : goal.returns-in_default
-returns-in_default c = let a : _ = c.args in better-none (eqb a.side 1) a.t2 a.k c.enum_told-1.given.1
+returns-in_default c = let a : _ = c.args in better-none (eqb a.side 1) a.prices a.k c.in_default.is
 
 pub offset_bounds-prices-j : goal.offset_bounds-prices-j
-offset_bounds-prices-j c = let pre : _ = c.requires in omega (arith, pre.0, lower c.found-1.given.1 pre.1)
+offset_bounds-prices-j c = let pre : _ = c.requires in omega (arith, pre.0, lower c.in-Block.is pre.1)
 
 pub bounds-prices-j : goal.bounds-prices-j
-bounds-prices-j c = let pre : _ = c.requires in omega (arith, pre.0, lower c.found-1.given.1 pre.1)
+bounds-prices-j c = let pre : _ = c.requires in omega (arith, pre.0, lower c.in-Block.is pre.1)
 
 pub returns-then-goes_ahead : goal.returns-then-goes_ahead
 returns-then-goes_ahead c =
-    let at-found : _ = c.before in
-    let start : _ = at-found.before in
+    let at-found : _ = c in
+    let start : _ = at-found in
     let a : _ = start.args in
-    better-ahead (eqb a.side 1) a.t2 a.k at-found.found-1.given.1 start.requires.1 c.goes_ahead.ensures c.if-goes_ahead.true
+    better-ahead (eqb a.side 1) a.prices a.k at-found.in-Block.is start.requires.1 c.goes_ahead.ensures c.if-goes_ahead.true
 
 pub returns-else-goes_ahead : goal.returns-else-goes_ahead
 returns-else-goes_ahead c =
-    let at-found : _ = c.before in
-    let start : _ = at-found.before in
+    let at-found : _ = c in
+    let start : _ = at-found in
     let a : _ = start.args in
-    better-behind (eqb a.side 1) a.t2 a.k at-found.found-1.given.1 start.requires.1 c.goes_ahead.ensures c.if-goes_ahead.false
+    better-behind (eqb a.side 1) a.prices a.k at-found.in-Block.is start.requires.1 c.goes_ahead.ensures c.if-goes_ahead.false

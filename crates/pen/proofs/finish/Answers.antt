@@ -4,4 +4,4 @@ use Rattle.pen.proofs.finish.Goals as goal
 
 pub returns : goal.returns
 returns c = let a = c.args in
-    ends a.p a.buf-1.now _ c.requires.0 (omega arith) c.store.ensures
+    ends a.p a.buf.now _ c.requires.0 (omega arith) c.store.ensures

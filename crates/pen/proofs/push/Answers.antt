@@ -16,4 +16,4 @@ overflow_sub-result c = let s = c in let a = s.args in mask a.p a.width a.value 
 
 pub returns : goal.returns
 returns c = let s = c in let a = s.args in
-    fills a.p a.width a.value s.requires.0 (omega arith) (omega arith) (omega arith) a.buf-1.now _ (omega arith) c.Store-word.ensures
+    fills a.p a.width a.value s.requires.0 (omega arith) (omega arith) (omega arith) a.buf.now _ (omega arith) c.store_word.ensures

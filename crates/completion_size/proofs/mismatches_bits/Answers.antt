@@ -1,0 +1,16 @@
+-- What an edition has or lacks is no wider than it is.
+use native.Mathlib.Omega.{arith}
+use Prim.Native.Nat.{ℕ}
+use mathlib.Core.Path.{ap}
+use Rattle.numbers.specs.Sum.{gate}
+use Rattle.layouts.specs.Since.{has}
+use Rattle.completion_size.specs.Size.{reactive-bars-few}
+use Rattle.completion_size.proofs.mismatches_bits.Goals as goal
+
+pub overflow_add-result : goal.overflow_add-result
+overflow_add-result c = let e : _ = c.args.edition in
+    omega (arith, c.bits_since.ensures, ap (λ (w : ℕ). gate (has 2 e) w) c.bars_bits-bars.ensures.0, reactive-bars-few e, c.bars_bits-bars.ensures.1)
+
+pub returns : goal.returns
+returns c = let e : _ = c.args.edition in
+    omega (arith, c.bits_since.ensures, ap (λ (w : ℕ). gate (has 2 e) w) c.bars_bits-bars.ensures.0, reactive-bars-few e, c.bars_bits-bars.ensures)

@@ -1,0 +1,10 @@
+-- What an edition has or lacks is no wider than it is.
+use native.Mathlib.Omega.{arith}
+use Rattle.completion_size.specs.Size.{two-few}
+use Rattle.completion_size.proofs.zone_bits.Goals as goal
+
+pub overflow_add-result : goal.overflow_add-result
+overflow_add-result c = omega (arith, c.bits_since.ensures, two-few c.args.edition)
+
+pub returns : goal.returns
+returns c = omega (arith, c.bits_since.ensures, two-few c.args.edition)

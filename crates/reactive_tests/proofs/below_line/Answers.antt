@@ -1,0 +1,7 @@
+-- The levels are those of the law.
+use Rattle.reactive_tests.specs.Order.{below-line}
+use Rattle.reactive_tests.proofs.below_line.Goals as goal
+
+pub returns : goal.returns
+returns c = let a : _ = c.args in
+    rw (c.line_level-line.ensures.0, c.own_level-own.ensures.0) (below-line a.q.0 a.up.0 a.l a.n a.power.0)

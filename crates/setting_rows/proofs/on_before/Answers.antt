@@ -1,0 +1,10 @@
+-- Whether the interval is the first.
+use mathlib.Core.Path.{◌∙◌}
+use borrow.Author.Tests.{eq-eqb, ne_eqb}
+use Rattle.setting_rows.proofs.on_before.Goals as goal
+
+pub returns-then-t-eq0 : goal.returns-then-t-eq0
+returns-then-t-eq0 c = simp (eq-eqb _ _ c.if-t-eq0.true)
+
+pub returns-else-t-eq0 : goal.returns-else-t-eq0
+returns-else-t-eq0 c = c.on_at.ensures ∙ simp (ne_eqb _ _ c.if-t-eq0.false)
