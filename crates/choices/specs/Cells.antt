@@ -104,7 +104,7 @@ module _ {d : Device} {cell : Cell} {settings : List (List ℕ)} {starts : List 
   start-next k = sum-last (F.duration system_of) k
 
   pub power-of : p ≡ F.power system_of plan_of t w.i
-  power-of = w.power-is ∙ Ranged.power_at w.ready w.i w.known t w.interval
+  power-of = w.power-is ∙ Ranged.power-at w.ready w.i w.known t w.interval
 
   -- ---- its cell
 

@@ -1,11 +1,10 @@
 -- The tests of a device's interval are the model's of real power. `tests-are` is the one law that knows the model's list of them.
-use Rattle.std.specs.Prelude.{◌≡◌, true, false, List, [], ◌∷◌, ℕ, ◌+◌, ◌-◌, ◌*◌, ◌≤◌, ◌<◌, eqb, ltb, get_or, length}
+use Rattle.std.specs.Prelude.{◌≡◌, List, [], ◌∷◌, ℕ, ◌+◌, ◌-◌, ◌*◌, ◌≤◌, ◌<◌, eqb, ltb, get_or, length}
 use Rattle.std.proofs.Math.Path.{refl, sym}
 use Rattle.std.proofs.Common.{ap, ◌∙◌, mul-zero, mul-add, lt-ltb, le-ltb, eq-eqb, ne_eqb}
 use native.Mathlib.Omega.{arith}
 use Rattle.std.proofs.Math.Decide.{dec_le}
 use Rattle.numbers.specs.Sum.{sumℕ}
-use Rattle.bits.specs.Pick.{pick}
 use Rattle.numbers.specs.Base.{range, up_to, implies, bit}
 use Rattle.numbers.specs.Every.{all-up_to, every-cong}
 use Rattle.model.specs.Case as M
@@ -25,8 +24,8 @@ use Rattle.row_places.specs.declared.Front.{Front}
 use Rattle.row_places.specs.declared.Setting.{Setting}
 use Rattle.cell_bounds.specs.declared.Bounds.{Bounds}
 use Rattle.cell_bounds.specs.declared.Moment.{Moment}
-use Rattle.cell_bounds.specs.Tests.{bounds_of, sum_of, tests, state_tests, ramp_tests, on_tests, off_tests, power_tests, Sized, Small}
-use Rattle.rests.specs.Apart.{Rising, apart_at}
+use Rattle.cell_bounds.specs.Tests.{bounds_of, sum_of, tests, state_tests, ramp_tests, on_tests, off_tests, power_tests, Sized}
+use Rattle.rests.specs.Apart.{apart_at}
 use Rattle.moments.specs.Moments.{stops_of, starts_of, moment_at, tests_at, Fits}
 
 -- ---- the figures that the model's tests compare, by the records' names

@@ -1,17 +1,17 @@
 -- A zone's sums over its members in one interval.
-use Rattle.std.specs.Prelude.{◌≡◌, refl, Bool, true, false, not, List, [], ℕ, zero, suc, ◌+◌, ◌*◌, ◌≤◌, ◌<◌, max, eqb, get_or, length}
-use Rattle.std.proofs.Common.{ap, ◌∙◌, add-one}
+use Rattle.std.specs.Prelude.{◌≡◌, refl, true, false, not, List, [], ℕ, zero, suc, ◌+◌, ◌*◌, ◌≤◌, ◌<◌, max, eqb, get_or, length}
+use Rattle.std.proofs.Common.{◌∙◌, add-one}
 use native.Mathlib.Omega.{arith}
 use Rattle.numbers.specs.Sum.{gate}
 use Rattle.bits.specs.Pick.{pick}
-use Rattle.ranges.specs.Ranges.{SettingRange, Eight}
+use Rattle.ranges.specs.Ranges.{Eight}
 use Rattle.numbers.specs.Every.{gate-le}
 use Rattle.kilowatts.specs.declared.Kw.{Kw}
 use Rattle.kilowatts.specs.Power.{kw}
 use Rattle.row_places.specs.declared.Front.{Front}
 use Rattle.row_places.specs.declared.Reserves.{Reserves}
 use Rattle.row_places.specs.Figures.{side_at, zonebits_at, in_zone, setting_of}
-use Rattle.records.specs.Views.{most_power, eight_in, setting_in, Ready}
+use Rattle.records.specs.Views.{most_power, eight_in, Ready}
 use Rattle.zone_totals.specs.declared.ZoneSums.{ZoneSums}
 use Rattle.mismatches.specs.Sides.{Powered, powered, place}
 

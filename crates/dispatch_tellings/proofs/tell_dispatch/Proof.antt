@@ -28,7 +28,7 @@ returns : tie.Need-returns
 returns c = ap told_dispatch (sym c.enum_told.given.1)
 
 returns-2 : tie.Need-returns-2
-returns-2 c = told-refused c.before.before.before.x.given.1 c.before.number_of_lem.ensures c.returned-by.ensures
+returns-2 c = told-refused c.before.before.before.x.given.1 c.before.number-of.ensures c.returned-by.ensures
 
 returns-3 : tie.Need-returns-3
 returns-3 c = ap told_dispatch (sym c.enum-told2.given.1)

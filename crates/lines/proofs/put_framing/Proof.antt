@@ -24,7 +24,7 @@ same_length c = search rules
 returns : tie.Need-returns
 returns c =
     let at-number : _ = c.before.before.before.before.before.before in
-    writes_as (framing-is at-number.before.before.args.f at-number.number_of_lem.ensures) c.before.before.put_word.ensures (omega arith)
+    writes_as (framing-is at-number.before.before.args.f at-number.number-of.ensures) c.before.before.put_word.ensures (omega arith)
 
 pub put-framing-spec : {M : Type 1} → statement M
 put-framing-spec =

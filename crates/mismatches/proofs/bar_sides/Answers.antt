@@ -1,6 +1,5 @@
 use Prim.Native.Nat.{ℕ, ◌-◌}
 use mathlib.Core.Path.{refl, ◌∙◌}
-use mathlib.Core.Logic.{⊎_elim}
 use native.Mathlib.Omega.{arith}
 use lib.ListN.{get_or}
 use Rattle.numbers.specs.Parts.{next-part}
@@ -8,6 +7,7 @@ use Rattle.mismatches.specs.declared.BarSides.{BarSides}
 use Rattle.mismatches.specs.Sides.{place, sides_of, bar_sides_of, sums-are, side-consuming, side-producing, bar-first, bar-second, bars-start, bars-next, bars-end}
 use borrow.Author.Rules.{rules}
 use Rattle.mismatches.proofs.bar_sides.Goals as goal
+use Rattle.mismatches.proofs.bar_sides.Goals.{then-bar_at-eq0+then-side-eq1, then-bar_at-eq0+else-side-eq1, else-bar_at-eq0+then-side-eq1-2, else-bar_at-eq0+else-side-eq1-2}
 
 pub loop-i-init : goal.loop-i-init
 loop-i-init c = (omega arith, omega arith, bars-start _ _ _ _)
@@ -57,7 +57,16 @@ loop-i-preserved c =
       search rules,
       omega (arith, h.invariant.1, next-part a.m h.i),
       bars-next _ _ _ _ h.i h.invariant.2 h.invariant.1 c.bar_at.ensures c.side_at-side.ensures refl (place start.requires h.i h.k (search rules) h.invariant.1).power
-          (let br = c.if-bar_at-eq0 in ?),
+          (elim c.if-bar_at-eq0.branch [
+            | then-bar_at-eq0+then-side-eq1 w ↦
+                sums-are w.first_consuming-is w.first_producing-is w.second_consuming-is w.second_producing-is ∙ bar-first s b x p w.if-bar_at-eq0.true (side-consuming s.first x p w.if-side-eq1.true w.plus-first_consuming.ensures)
+            | then-bar_at-eq0+else-side-eq1 w ↦
+                sums-are w.first_consuming-is w.first_producing-is w.second_consuming-is w.second_producing-is ∙ bar-first s b x p w.if-bar_at-eq0.true (side-producing s.first x p w.if-side-eq1.false w.plus-first_producing.ensures)
+            | else-bar_at-eq0+then-side-eq1-2 w ↦
+                sums-are w.first_consuming-is w.first_producing-is w.second_consuming-is w.second_producing-is ∙ bar-second s b x p w.if-bar_at-eq0.false (side-consuming s.second x p w.if-side-eq1-2.true w.plus-second_consuming.ensures)
+            | else-bar_at-eq0+else-side-eq1-2 w ↦
+                sums-are w.first_consuming-is w.first_producing-is w.second_consuming-is w.second_producing-is ∙ bar-second s b x p w.if-bar_at-eq0.false (side-producing s.second x p w.if-side-eq1-2.false w.plus-second_producing.ensures)
+          ]),
     )
 
 pub returns : goal.returns

@@ -29,7 +29,7 @@ returns c =
     let at-returned : _ = c.before.before.before.before.before.before in
     let at-number : _ = at-returned.before in
     let e : _ = at-number.before.before.args in
-    writes_as (refused-is e.index e.s e.f at-number.number_of_lem.ensures at-returned.returned-by.ensures) c.before.before.put-indexed.ensures (omega arith)
+    writes_as (refused-is e.index e.s e.f at-number.number-of.ensures at-returned.returned-by.ensures) c.before.before.put-indexed.ensures (omega arith)
 
 pub put-refused-spec : {M : Type 1} → statement M
 put-refused-spec =

@@ -1,0 +1,19 @@
+-- By the verdict's cases.
+use borrow.Author.Rules.{rules}
+use mathlib.Core.Path.{sym, ap, ◌∙◌}
+use mir.Syntax.{w64}
+use mir.ValLaws.{to_z-of_z}
+use Rattle.bits.specs.Twos.{to_twos}
+use Rattle.tellings.specs.Told.{told_number, told_of}
+use Rattle.tellings.proofs.tell.Goals as goal
+
+pub returns-in-Accepted : goal.returns-in-Accepted
+returns-in-Accepted c =
+    let surplus = c.twos-surplus.ensures ∙ ap (to_twos 64) (to_z-of_z w64 c.in-Accepted.z (search rules)) in
+    c.tell_number.ensures ∙ ap told_number surplus ∙ ap told_of (sym c.in-Accepted.is)
+
+pub returns-in-Broken : goal.returns-in-Broken
+returns-in-Broken c = c.tell_breach.ensures ∙ ap told_of (sym c.in-Broken.is)
+
+pub returns-in-Refused : goal.returns-in-Refused
+returns-in-Refused c = c.tell_refused.ensures ∙ ap told_of (sym c.in-Refused.is)
