@@ -1,18 +1,29 @@
-// Reads a batch from standard input frame by frame and writes the answers to standard output. Bytes are only copied here: `answers` says what they mean.
+// Reads a batch frame by frame and writes the answers. Bytes are only copied here: `answers` says what they mean.
 #![tactic(auto)]
 
-ghost use Rattle.std.specs.Prelude.{◌≡◌, true, ◌≤◌, ◌<◌, length};
+ghost use Rattle.std.specs.Prelude.{◌≡◌, true, ℕ, List, ◌×◌, ◌≤◌, ◌<◌, length, take, IfOk, OnOk, IfErr, OnErr, IfSome};
+ghost use Rattle.std.specs.Io.KnownBytes.{Keeps, Appends, Consumes};
 ghost use Rattle.model.specs.Editions.{batch};
 ghost use Rattle.case_reader.specs.Whole.{CaseRoom};
-ghost use Rattle.decoded_cases.specs.Decoded.{Decoded, DecodedFirst, Work};
-ghost use Rattle.frames.specs.Frames.{frame_room};
+ghost use Rattle.decoded_cases.specs.Decoded.{Decoded, DecodedFirst, Work, stated_rows, stated_first};
+ghost use Rattle.wording.specs.Text.{texts, failure_text};
+ghost use Rattle.frames.specs.Frames.{frame_room, frame_of, framed};
+ghost use Rattle.answers.specs.Answers.{after_of, case_lines, case_after, plan_answers, more_of, accepted_of, result_of};
 ghost use Rattle.answers.specs.Room.{result_room};
+ghost use Rattle.runner.specs.Failures.{error_number, WritesFront, Fails};
+ghost use Rattle.runner.specs.Reading.{frame_read, ReadsFrame};
 
-use libc::{EAGAIN, EINTR, STDERR_FILENO, STDIN_FILENO, STDOUT_FILENO};
 use row_places::{CellRow, Counts, DeviceRow, Front, MinimaRow, SettingRow, ZoneRow};
+use std::io::{self, Eprint, Error, ErrorKind, Read, Write};
+use std::time::Clock;
 
-// A loop has to end: it counts down from a number that no run uses up.
-const TRIES: u64 = 0xffff_ffff_ffff_ffff;
+// A loop has to end: no run uses up so many tries.
+const TRIES: u64 = u64::MAX;
+
+// The system's numbers of an input or output error, and of one where what is asked for is not ready.
+const EIO: u64 = 5;
+
+const EAGAIN: i32 = 11;
 
 fn least(a: u64, b: u64) -> u64
     ensures { (result ≤ a) × (result ≤ b) }
@@ -34,97 +45,111 @@ pub fn result_buffer() -> [u8; 14336]
 }
 
 // Whether a call that failed is tried again: at once where it was interrupted, after a pause where what it asks for is not ready.
-fn again(error: i32) -> bool {
-    if error == EAGAIN {
-        pauses::pause();
-        return true;
+fn again(clock: &impl Clock, error: &Error) -> bool {
+    match error.kind() {
+        ErrorKind::WouldBlock => {
+            pauses::pause(clock);
+            true
+        }
+        ErrorKind::Interrupted => true,
+        _ => false,
     }
-    error == EINTR
 }
 
 // The system's number of an error, EIO where it gives none.
-fn number(error: i32) -> u64
-    ensures { 0 < result }
+fn number(error: &Error) -> u64
+    ensures positive { 0 < result }
+    ensures number { result ≡ error_number error.now }
 {
-    if 0 < error { error as u64 } else { 5 }
+    match error.raw_os_error() {
+        Some(code) if 0 < code => code as u64,
+        _ => EIO,
+    }
 }
 
-// Bytes read, and the number of the error that ended reading, or 0.
-#[derive(Clone, Copy)]
-pub struct Got(pub usize, pub u64);
+// How many bytes were read, or why reading ended before.
+pub type Got = io::Result<usize>;
 
-// Reads until the buffer is full, the input ends or reading fails. Which bytes the system reads no contract can say.
-pub fn read_full(buf: &mut [u8]) -> Got
-    ensures { result.0 ≤ length buf.new }
+// Reads until the buffer is full, the input ends or reading fails.
+pub fn read_full<R: Read>(clock: &impl Clock, input: &mut R, buf: &mut [u8]) -> Got
+    ensures within { IfOk result (λ n. n ≤ length buf.new) }
+    ensures bytes { IfOk result (λ n. Consumes (R.remaining input.old) (R.remaining input.new) (take n buf.new)) }
+    ensures all { IfOk result (λ n. IfSome (R.remaining input.old) (λ s. take n buf.new ≡ take (length buf.new) s)) }
+    ensures err { OnErr result ((bs : List ℕ) × Consumes (R.remaining input.old) (R.remaining input.new) bs) }
 {
     let mut done: usize = 0;
-    let mut tries = TRIES;
-    while 0 < tries {
+    for _ in 0..TRIES {
         if done == buf.len() {
-            return Got(done, 0);
+            return Ok(done);
         }
-        let got = libc::read(STDIN_FILENO, &mut buf[done..]);
-        if got == 0 {
-            return Got(done, 0);
+        match input.read(&mut buf[done..]) {
+            Ok(0) => return Ok(done),
+            Ok(n) => done += n,
+            Err(error) => {
+                if !again(clock, &error) {
+                    return Err(error);
+                }
+            }
         }
-        let error = os::errno();
-        if got < 0 && !again(error) {
-            return Got(done, number(error));
-        }
-        done += io::count(got, &buf[done..]);
-        tries -= 1;
     }
-    Got(done, number(EAGAIN))
+    Err(Error::from_raw_os_error(EAGAIN))
 }
 
-// The next frame of a batch of which `left` bytes are not read yet.
-fn read_frame(frame: &mut [u8], left: u64) -> Got
+// The next frame of a batch of which `left` bytes are not read yet: its bytes stand at the buffer's front.
+fn read_frame<R: Read>(clock: &impl Clock, input: &mut R, frame: &mut [u8], left: u64) -> Got
     requires { length frame.old ≡ frame_room }
-    ensures { (result.0 ≤ frame_room) × (result.0 ≤ left) }
+    ensures within { IfOk result (λ n. (n ≤ frame_room) × (n ≤ left)) }
+    ensures frame { IfOk result (λ n. ReadsFrame (R.remaining input.old) (R.remaining input.new) left (take n frame.new)) }
 {
     let head = least(3, left) as usize;
-    let got = read_full(&mut frame[0..head]);
-    let here = got.0;
-    let end = least(frames::frame_bytes(&frame[0..here]) as u64, left) as usize;
-    if got.1 != 0 || end <= here {
-        return got;
+    let here = read_full(clock, input, &mut frame[..head])?;
+    let end = least(frames::frame_bytes(&frame[..here]) as u64, left) as usize;
+    if end <= here {
+        return Ok(here);
     }
-    let more = read_full(&mut frame[here..end]);
-    Got(here + more.0, more.1)
+    let more = read_full(clock, input, &mut frame[here..end])?;
+    Ok(here + more)
 }
 
-// Writes a text to standard output, and tells whether the system took all of it. Where that fails a line on standard error says so: a program cannot set its exit
-// status. The contract leaves the answer free: whether the system takes a byte no definition can say.
-pub fn tell(text: &[u8]) -> bool {
+// Writes a text, and tells whether all of it was taken. Where that fails a line on standard error says so, and the text's front may have been taken.
+pub fn tell<S: Clock + Eprint, W: Write>(system: &S, output: &mut W, text: &[u8]) -> io::Result<()>
+    ensures ok { OnOk result (Appends (W.contents output.old) (W.contents output.new) text.now) }
+    ensures err { OnErr result (WritesFront (W.contents output.old) (W.contents output.new) text.now) }
+{
     let mut done: usize = 0;
-    let mut tries = TRIES;
-    while 0 < tries {
+    let mut failure = Error::from(ErrorKind::WriteZero);
+    for _ in 0..TRIES {
         if done == text.len() {
-            return true;
+            return Ok(());
         }
-        let put = libc::write(STDOUT_FILENO, &text[done..]);
-        if put == 0 || (put < 0 && !again(os::errno())) {
-            break;
+        match output.write(&text[done..]) {
+            Ok(0) => break,
+            Ok(n) => done += n,
+            Err(error) => {
+                if !again(system, &error) {
+                    failure = error;
+                    break;
+                }
+            }
         }
-        done += io::count(put, &text[done..]);
-        tries -= 1;
     }
-    io::write_all(STDERR_FILENO, b"output failed\n");
-    false
+    // Where standard error takes nothing either, there is nobody to tell.
+    let _ = system.eprintln("output failed");
+    Err(failure)
 }
 
 // The bytes of a frame that was read whole. Of one that was not none counts, and a line tells the error.
-fn told(got: Got) -> usize
-    ensures { result ≤ got.0 }
+fn told<S: Clock + Eprint, W: Write>(system: &S, output: &mut W, got: Got) -> Got
+    ensures same { result ≡ got }
+    ensures ok { OnOk result (Keeps (W.contents output.old) (W.contents output.new)) }
+    ensures err { IfErr result (λ e. WritesFront (W.contents output.old) (W.contents output.new) (failure_text (error_number e))) }
 {
-    let error = got.1;
-    if error == 0 {
-        return got.0;
+    if let Err(error) = got {
+        let mut line = lines::line_buffer();
+        let bytes = lines::put_failure(&mut line, number(&error));
+        let _ = tell(system, output, &line[..bytes]);
     }
-    let mut line = lines::line_buffer();
-    let bytes = lines::put_failure(&mut line, error);
-    tell(&line[..bytes]);
-    0
+    got
 }
 
 // A batch that has begun: the front and counts of its case, whether plans may follow, and how many of its bytes are not read yet.
@@ -136,8 +161,11 @@ pub struct Started {
     pub rest: u64,
 }
 
-// Reads a batch's first frame and tells the answer; the case is left in the tables.
-pub fn start(
+// Reads a batch's first frame and tells the answer; the case is left in the tables. An error has been told.
+pub fn start<S: Clock + Eprint, R: Read, W: Write>(
+    system: &S,
+    input: &mut R,
+    output: &mut W,
     frame: &mut [u8],
     halves: &mut [u32],
     zones: &mut [ZoneRow],
@@ -145,15 +173,22 @@ pub fn start(
     devices: &mut [DeviceRow],
     cells: &mut [CellRow],
     left: u64,
-) -> Started
+) -> io::Result<Started>
     requires { (length frame.old ≡ frame_room) × CaseRoom batch.devices batch.intervals halves.old zones.old minima.old devices.old cells.old }
-    ensures { (result.rest ≤ left) × (result.more ≡ true → DecodedFirst result.front result.counts halves.new zones.new minima.new
-        devices.new cells.new batch) }
+    ensures rest { IfOk result (λ r. r.rest ≤ left) }
+    ensures read { IfOk result (λ r. ReadsFrame (R.remaining input.old) (R.remaining input.new) left (frame_read left r.rest frame.new)) }
+    ensures told { IfOk result (λ r. let f = frame_read left r.rest frame.new in
+        Appends (W.contents output.old) (W.contents output.new) (texts (case_lines f (framed f)))) }
+    ensures after { IfOk result (λ r. let f = frame_read left r.rest frame.new in
+        after_of r.more (stated_first r.front r.counts halves.new zones.new minima.new devices.new cells.new) ≡ case_after f (framed f)) }
+    ensures decoded { IfOk result (λ r. r.more ≡ true → DecodedFirst r.front r.counts halves.new zones.new minima.new devices.new cells.new batch) }
+    ensures failed { IfErr result (λ e. Fails (R.remaining input.old) left (W.contents output.old) (W.contents output.new) e
+        (λ f. texts (case_lines f (framed f)))) }
 {
-    let n = told(read_frame(frame, left));
+    let n = told(system, output, read_frame(system, input, frame, left))?;
     let mut line = lines::line_buffer();
     let answer = answers::answer_case(
-        &frame[0..n],
+        &frame[..n],
         halves,
         zones,
         minima,
@@ -161,17 +196,13 @@ pub fn start(
         cells,
         &mut line,
     );
-    let bytes = answer.bytes;
-    let front = answer.front;
-    let counts = answer.counts;
-    let more = tell(&line[..bytes]) && answer.more;
-    let rest = left - n as u64;
-    Started {
-        front,
-        counts,
-        more,
-        rest,
-    }
+    tell(system, output, &line[..answer.bytes])?;
+    Ok(Started {
+        front: answer.front,
+        counts: answer.counts,
+        more: answer.more,
+        rest: left - n as u64,
+    })
 }
 
 // A batch that goes on: whether others may follow, whether the result is a completion, and how many bytes are not read yet.
@@ -182,8 +213,11 @@ pub struct Turn {
     pub rest: u64,
 }
 
-// Reads a further frame and tells the answer.
-pub fn next(
+// Reads a further frame and tells the answer. An error has been told.
+pub fn next<S: Clock + Eprint, R: Read, W: Write>(
+    system: &S,
+    input: &mut R,
+    output: &mut W,
     front: Front,
     halves: &[u32],
     zones: &[ZoneRow],
@@ -197,12 +231,22 @@ pub fn next(
     res: &mut [u8],
     left: u64,
     index: u64,
-) -> Turn
+) -> io::Result<Turn>
     requires decoded { Decoded front halves.now zones.now minima.now devices.now cells.now × Work halves.now devices.now settings.old starts.old powers.old }
     requires devices_len_bound { (length devices.now ≤ batch.devices) × (length halves.now ≤ batch.intervals) × (length frame.old ≡ frame_room) × (result_room ≤ length res.old) }
-    ensures { (result.rest ≤ left) × (result.more ≡ true → result.rest < left) }
+    ensures rest { IfOk result (λ r. (r.rest ≤ left) × (r.more ≡ true → r.rest < left)) }
+    ensures read { IfOk result (λ r. ReadsFrame (R.remaining input.old) (R.remaining input.new) left (frame_read left r.rest frame.new)) }
+    ensures told { let x = stated_rows front halves.now zones.now minima.now devices.now cells.now in
+        IfOk result (λ r. let f = frame_read left r.rest frame.new in
+        Appends (W.contents output.old) (W.contents output.new) (texts (plan_answers x index f (framed f)))) }
+    ensures answer { let x = stated_rows front halves.now zones.now minima.now devices.now cells.now in
+        IfOk result (λ r. let f = frame_read left r.rest frame.new in
+        (r.more ≡ more_of (framed f)) × (r.accepted ≡ accepted_of x f (framed f)) × (res.new ≡ result_of x f res.old (framed f))) }
+    ensures failed { let x = stated_rows front halves.now zones.now minima.now devices.now cells.now in
+        IfErr result (λ e. Fails (R.remaining input.old) left (W.contents output.old) (W.contents output.new) e
+        (λ f. texts (plan_answers x index f (framed f)))) }
 {
-    let n = told(read_frame(frame, left));
+    let n = told(system, output, read_frame(system, input, frame, left))?;
     let mut line = lines::line_buffer();
     let answer = answers::answer_plan(
         front,
@@ -214,17 +258,15 @@ pub fn next(
         settings,
         starts,
         powers,
-        &frame[0..n],
+        &frame[..n],
         index,
         res,
         &mut line,
     );
-    let bytes = answer.bytes;
-    let more = tell(&line[..bytes]) && answer.more;
-    let rest = left - n as u64;
-    Turn {
-        more,
+    tell(system, output, &line[..answer.bytes])?;
+    Ok(Turn {
+        more: answer.more,
         accepted: answer.accepted,
-        rest,
-    }
+        rest: left - n as u64,
+    })
 }

@@ -1,5 +1,5 @@
 -- What writing text into a buffer leaves, and its laws.
-use Rattle.std.specs.Prelude.{◌≡◌, refl, List, [], ◌∷◌, ◌++◌, ℕ, ◌+◌, ◌≤◌, length, take, drop}
+use Rattle.std.specs.Prelude.{◌≡◌, List, [], ◌++◌, ℕ, ◌+◌, ◌≤◌, length, take, drop}
 use Rattle.std.proofs.Common.{sym, ap, ◌∙◌, append_assoc, add-zero, arith, length-append, length-take, take-append-drop, take_at, drop_at, drop-drop}
 use Rattle.std.proofs.Math.Seq.{paste, take-length}
 

@@ -1,4 +1,3 @@
-use Prim.Native.Nat.{◌-◌}
 use native.Mathlib.Omega.{arith}
 use Rattle.completions.specs.Windows.{count_none, count_next, count-done}
 use Rattle.completions.proofs.count_windows.Goals as goal

@@ -1,0 +1,11 @@
+-- The loop's invariant: k of them are read.
+use Prim.Native.Nat.{◌-◌, ◌≤◌}
+use Rattle.completion_reading.specs.Flat.{times, interval_widths}
+use Rattle.figure_reader.specs.Walks.{Runs}
+use Rattle.completion_body.proofs.read_intervals.Given as goal
+
+abbrev pub invariant-loop-k : goal.invariant-loop-k
+invariant-loop-k l = (l.k ≤ l.intervals) × Runs l.s l.initial.t l.initial.table (times l.k (interval_widths l.f.desk l.f.edition l.f.devices l.f.zones)) l.t l.table
+
+abbrev pub decreases-loop-k : goal.decreases-loop-k
+decreases-loop-k l = l.intervals - l.k

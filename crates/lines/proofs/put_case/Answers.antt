@@ -1,0 +1,7 @@
+-- Three counts behind the word.
+use native.Mathlib.Omega.{arith}
+use Rattle.wording.specs.Writes.{writes}
+use Rattle.lines.proofs.put_case.Goals as goal
+
+pub returns : goal.returns
+returns c = writes c.put_indexed.ensures (omega arith)

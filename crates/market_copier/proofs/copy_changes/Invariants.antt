@@ -1,0 +1,12 @@
+-- The loop's invariant: k parts are copied.
+use Prim.Native.Nat.{◌-◌, ◌≤◌}
+use Rattle.writing.specs.Splice.{times}
+use Rattle.market.specs.CopySplice.{change_splice}
+use Rattle.bit_copier.specs.Moves.{Moves}
+use Rattle.market_copier.proofs.copy_changes.Given as goal
+
+abbrev pub invariant-loop-k : goal.invariant-loop-k
+invariant-loop-k l = (l.k ≤ l.devices) × Moves (times l.k (change_splice)) l.s l.initial.buf l.buf l.initial.t l.t
+
+abbrev pub decreases-loop-k : goal.decreases-loop-k
+decreases-loop-k l = l.devices - l.k

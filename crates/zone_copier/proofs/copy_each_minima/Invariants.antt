@@ -1,0 +1,12 @@
+-- The loop's invariant: k parts are copied.
+use Prim.Native.Nat.{◌-◌, ◌≤◌}
+use Rattle.writing.specs.Splice.{times}
+use Rattle.writing.specs.CaseSplices.{minima_splice}
+use Rattle.bit_copier.specs.Moves.{Moves}
+use Rattle.zone_copier.proofs.copy_each_minima.Given as goal
+
+abbrev pub invariant-loop-k : goal.invariant-loop-k
+invariant-loop-k l = (l.k ≤ l.intervals) × Moves (times l.k (minima_splice l.edition)) l.s l.initial.buf l.buf l.initial.t l.t
+
+abbrev pub decreases-loop-k : goal.decreases-loop-k
+decreases-loop-k l = l.intervals - l.k
