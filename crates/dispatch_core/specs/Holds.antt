@@ -14,12 +14,11 @@ use Rattle.decoded_cases.specs.Decoded.{stated_first}
 use Rattle.decoded_cases.specs.Cases.{passed, failed}
 use Rattle.offers.specs.declared.Offer.{Offer}
 use Rattle.offers.specs.Merit.{room}
-use Rattle.dispatching.specs.declared.Dispatch.{Dispatch}
 use Rattle.dispatching.specs.declared.Dispatch.TheVariants.{Refused}
 use Rattle.dispatching.specs.Dispatch.{Outcome, untouched, dispatch_in, dispatch}
 use Rattle.dispatch_promise.specs.Promise.{DispatchPromise, dispatch-promised}
 use Rattle.dispatches.specs.declared.Held.{Held}
-use Rattle.dispatches.specs.Cases.{put_back, DispatchesCase}
+use Rattle.dispatches.specs.Cases.{put_back}
 
 -- the answer, the powers as they are left, and the list with the array's offers put back
 abbrev pub outcome_of : List ℕ → ℕ → List Offer → Held → Outcome

@@ -1,7 +1,7 @@
 // Reads a batch frame by frame and writes the answers. Bytes are only copied here: `answers` says what they mean.
 #![tactic(auto)]
 
-ghost use Rattle.std.specs.Prelude.{◌≡◌, true, ℕ, List, ◌×◌, ◌≤◌, ◌<◌, length, take, IfOk, OnOk, IfErr, OnErr, IfSome};
+ghost use Rattle.std.specs.Prelude.{◌≡◌, true, ℕ, List, ◌≤◌, ◌<◌, min, length, take, IfOk, OnOk, IfErr, OnErr, IfSome};
 ghost use Rattle.std.specs.Io.KnownBytes.{Keeps, Appends, Consumes};
 ghost use Rattle.model.specs.Editions.{batch};
 ghost use Rattle.case_reader.specs.Whole.{CaseRoom};
@@ -26,7 +26,8 @@ const EIO: u64 = 5;
 const EAGAIN: i32 = 11;
 
 fn least(a: u64, b: u64) -> u64
-    ensures { (result ≤ a) × (result ≤ b) }
+    ensures within { (result ≤ a) × (result ≤ b) }
+    ensures value { result ≡ min a b }
 {
     if a < b { a } else { b }
 }

@@ -18,8 +18,8 @@ use tellings::{Told, tell_case};
 
 // In tables for a small case.
 fn serve_small(task: Task, case: &[u8], message: &[u8], res: &mut [u8], table: &mut [u64]) -> Told
-    ensures* { λ r. ⌜ record { told = r; result = res.new; rows = table.new }
-        ≡ served task message.now res.old table.old (stated_in batch case.now) ⌝ }
+    ensures { record { told = result; result = res.new; rows = table.new }
+        ≡ served task message.now res.old table.old (stated_in batch case.now) }
 {
     let mut halves = [0u32; SMALL_INTERVALS];
     let zone = row_places::blank_zone();
@@ -78,8 +78,8 @@ fn serve_small(task: Task, case: &[u8], message: &[u8], res: &mut [u8], table: &
 
 // In tables for every case that the host library takes.
 fn serve_large(task: Task, case: &[u8], message: &[u8], res: &mut [u8], table: &mut [u64]) -> Told
-    ensures* { λ r. ⌜ record { told = r; result = res.new; rows = table.new }
-        ≡ served task message.now res.old table.old (stated_in host case.now) ⌝ }
+    ensures { record { told = result; result = res.new; rows = table.new }
+        ≡ served task message.now res.old table.old (stated_in host case.now) }
 {
     let mut halves = [0u32; INTERVALS];
     let zone = row_places::blank_zone();
@@ -139,8 +139,8 @@ fn serve_large(task: Task, case: &[u8], message: &[u8], res: &mut [u8], table: &
 // A case's bytes, and a message's where the task has one, with a result buffer and a table of numbers to write: a case that states a small one's counts, or none,
 // needs no larger tables.
 pub fn serve(task: Task, case: &[u8], message: &[u8], res: &mut [u8], table: &mut [u64]) -> Told
-    ensures* { λ r. ⌜ record { told = r; result = res.new; rows = table.new }
-        ≡ served task message.now res.old table.old (stated_in host case.now) ⌝ }
+    ensures { record { told = result; result = res.new; rows = table.new }
+        ≡ served task message.now res.old table.old (stated_in host case.now) }
 {
     match case_sizes::size_of(case) {
         Size::Unstated => serve_small(task, case, message, res, table),

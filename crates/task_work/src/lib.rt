@@ -102,8 +102,8 @@ pub fn serve_in(
 ) -> Told
     requires { ReadAs case.now (stated_rows front halves.now zones.now minima.now devices.now cells.now)
         × Decoded front halves.now zones.now minima.now devices.now cells.now × Work halves.now devices.now settings.old starts.old powers.old }
-    ensures* { λ r. ⌜ record { told = r; result = res.new; rows = table.new } ≡ served task message.now res.old table.old
-        (passes (stated_rows front halves.now zones.now minima.now devices.now cells.now)) ⌝ }
+    ensures { record { told = result; result = res.new; rows = table.new } ≡ served task message.now res.old table.old
+        (passes (stated_rows front halves.now zones.now minima.now devices.now cells.now)) }
 {
     let n = devices.len();
     let m = halves.len();

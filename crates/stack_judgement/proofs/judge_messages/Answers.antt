@@ -25,7 +25,7 @@ next_turn-reached-requires c =
 pub overflow_add-place : goal.overflow_add-place
 overflow_add-place c =
     let here : _ = c in
-    omega (arith, here.loop-place.invariant.1.ends, here.loop-place-test.true, mul-places here.before)
+    omega (arith, here.loop-place.invariant.1.ends, here.loop-place-test.true, c.requires.3)
 
 pub loop-place-smaller : goal.loop-place-smaller
 loop-place-smaller c =
@@ -37,8 +37,8 @@ pub loop-place-preserved : goal.loop-place-preserved
 loop-place-preserved c =
     let turn : _ = c in
     let here : _ = turn in
-    let k : _ = turn.next_turn-reached.auto.1.1.1.1.1.1.1 in
-    (work-kept here.loop-place.invariant.0 k.0 k.1.0 k.1.1.0, going_more here.loop-place.invariant.1 here.loop-place-test.true turn.next_turn-reached.ensures)
+    let k : _ = turn.next_turn-reached.auto in
+    (work-kept here.loop-place.invariant.0 k.settings k.starts k.powers, going_more here.loop-place.invariant.1 here.loop-place-test.true turn.next_turn-reached.ensures)
 
 pub shape_of-settings : goal.shape_of-settings
 shape_of-settings c = omega (arith, c.loop-place.invariant.0.settings-full, c.requires.1.settings-full)

@@ -46,7 +46,7 @@ returns c =
     let sized : _ = telling.before.before in
     let start : _ = sized.before.before.before.before.before in
     alike start.args.task start.args.message.now start.args.res.now start.args.table.now
-    (sized.type_size.ensures.alike (ap few telling.enum_told.given.1)) at-serve-small.serve-small.ensures
+    (sized.size_of.ensures.alike (ap few telling.enum_told.given.1)) at-serve-small.serve-small.ensures
 
 same-length-3 : tie.Need-same-length-3
 same-length-3 c = search rules
@@ -61,7 +61,7 @@ returns-2 c =
     let sized : _ = telling.before.before in
     let start : _ = sized.before.before.before.before.before in
     alike start.args.task start.args.message.now start.args.res.now start.args.table.now
-    (sized.type_size.ensures.alike (ap few telling.enum-told2.given.1)) at-serve-small2.serve-small2.ensures
+    (sized.size_of.ensures.alike (ap few telling.enum-told2.given.1)) at-serve-small2.serve-small2.ensures
 
 same-length-5 : tie.Need-same-length-5
 same-length-5 c = search rules
