@@ -33,7 +33,8 @@ use Rattle.model.specs.Lists.{listings}
 use Rattle.breach_unit.specs.Breaches.{ListsBreaches, lists-breaches}
 use Rattle.stacks.specs.declared.Stacking.{Stacking}
 use Rattle.stacks.specs.Stack.{Stackings, with_case}
-use Rattle.stacks.specs.Judges.{JudgesStack, stack-judged, stack-refused}
+use Rattle.stacks.specs.Judges.{JudgesStack}
+use Rattle.stacks.proofs.Judges.{stack-judged, stack-refused}
 use Rattle.stack_tellings.specs.Told.{told_stack}
 use Rattle.tasks.specs.declared.Task.TheVariants as T
 use Rattle.tasks.specs.Served.{Served, served}

@@ -11,7 +11,7 @@ use Rattle.model.specs.declared.Verdict.TheVariants.{Accepted, Refused}
 use Rattle.model.specs.Case.{Plan, System}
 use Rattle.model.specs.ByEdition.{Stated}
 use Rattle.model.specs.Breaches.{breaches}
-use Rattle.model.specs.Named.{every-none}
+use Rattle.model.proofs.Named.{every-none}
 use Rattle.model.specs.Judgement.{counts_of, judged, verdict, accepts, buffer_after, our_surplus, completion_bytes}
 use Rattle.theorems.specs.Back.{Countable}
 use Rattle.row_places.specs.declared.Front.{Front}

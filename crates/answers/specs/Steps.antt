@@ -29,7 +29,7 @@ use Rattle.decoded_cases.specs.Decoded.{Decoded, stated_rows, stated_first}
 use Rattle.decoded_cases.specs.Cases.{decoded-first}
 use Rattle.wording.specs.Text.{text, texts}
 use Rattle.wording.specs.Writes.{Writes}
-use Rattle.wording.specs.Lines.{no-line, one_line}
+use Rattle.wording.proofs.Lines.{no-line, one_line}
 use Rattle.frames.specs.Frames.{limit, framed}
 use Rattle.case_lines.specs.Lines.{ended_lines, ended_more, WritesCase}
 use Rattle.answers.specs.Answers.{read_line, case_lines, case_after, after_of, more_of, accepts, AnswersCase, AnswersPlan}

@@ -16,7 +16,8 @@ use Rattle.wording.specs.Text.{text, texts, batch_text}
 use Rattle.frames.specs.Frames.{limit, frame_of, framed}
 use Rattle.answers.specs.Answers.{read_line, read_after, case_lines, case_after, plan_answers}
 use Rattle.answers.specs.Stream.{plans_text, behind_case, stream_text}
-use Rattle.frames.specs.Splits.{Both, ends, holds, refuses, both}
+use Rattle.frames.specs.Splits.{Both, ends, holds, refuses}
+use Rattle.frames.proofs.Splits.{both}
 
 one_line : (l : Line) (ls : List Line) → texts (l ∷ []) ++ texts ls ≡ texts (l ∷ ls)
 unfolding texts

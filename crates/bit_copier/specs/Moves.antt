@@ -11,7 +11,8 @@ use Rattle.layouts.specs.Since.{has, has-not, has-it}
 use Rattle.pen.specs.declared.Pen.{Pen}
 use Rattle.pen.specs.Pens.{Ready, Pushes, Finishes, pushes-then}
 use Rattle.pen.specs.Runs.{Room, bit_of, fresh, pushes-none, pushes-as, pushes-whole}
-use Rattle.writing.specs.Splice.{Splice, none, keep, skip, add, by, ◌⨾◌, times, past, spliced, past_up, farther, along}
+use Rattle.writing.specs.Splice.{Splice, none, keep, skip, add, by, ◌⨾◌, times, past, spliced, farther, along}
+use Rattle.writing.proofs.Splice.{past_up}
 use Rattle.model.specs.Editions as E
 use Rattle.model.specs.ByEdition.{first_line, second_line}
 use Rattle.bit_copier.specs.declared.Copier.{Copier}

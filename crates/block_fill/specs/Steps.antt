@@ -16,8 +16,9 @@ use Rattle.numbers.specs.Fill as F
 use Rattle.kilowatts.specs.declared.Kw.{Kw}
 use Rattle.kilowatts.specs.Power.{kw}
 use Rattle.block_pick.specs.Order.{Linear, ahead_in}
-use Rattle.block_pick.specs.Ranks.{taken, NextIs, Picked, none, more, held, Front, pick-sum, picked-length, picked-front}
-use Rattle.block_pick.specs.Ranks.{sum-le, marked, unmarked, held_more, held_none}
+use Rattle.block_pick.specs.Ranks.{taken, NextIs, Picked, none, more, held, Front}
+use Rattle.block_pick.proofs.Ranks.{pick-sum, picked-length, picked-front}
+use Rattle.block_pick.proofs.Ranks.{sum-le, marked, unmarked, held_more, held_none}
 use Rattle.model.specs.Rules.{blocks}
 use Rattle.model.specs.Ours.{filling}
 use Rattle.block_fill.specs.Filled.{price_of, cap_of, Offered, Filled, fill-is-filling, filling-total, four_same}

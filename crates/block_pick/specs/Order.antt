@@ -1,8 +1,6 @@
 -- The order in which a device's blocks are picked: of any two blocks one goes ahead.
-use Rattle.std.specs.Prelude.{◌≡◌, refl, ◌⊎◌, Bool, true, false, not, List, [], ◌∷◌, ℕ, ◌≤◌, ◌<◌, T, ltb, eqb, get_or, ℤ, pos, negsuc}
-use Rattle.std.proofs.Common.{inl, inr, arith, eq-eqb, ne_eqb}
-use Rattle.std.proofs.Math.Decide.{dec_le}
-use Rattle.numbers.specs.Blocks.{rank, first, first-order, apart}
+use Rattle.std.specs.Prelude.{◌≡◌, ◌⊎◌, Bool, not, List, ℕ, T, ltb, get_or}
+use Rattle.numbers.specs.Blocks.{rank}
 use Rattle.bits.specs.Pick.{pick}
 
 -- the cheaper of two blocks first when producing, the dearer when consuming; where prices tie the lower number
@@ -13,46 +11,9 @@ ahead consuming a b lower = pick consuming (rank (ltb b a) (ltb a b) lower) (ran
 abbrev pub ahead_in : Bool → List ℕ → ℕ → ℕ → Bool
 ahead_in consuming prices j k = ahead consuming (get_or prices j 0) (get_or prices k 0) (ltb j k)
 
--- a block of a higher number goes ahead only by its price
-higher : (a b : Bool) → a ≡ rank a b false
-higher true b = refl
-higher false true = refl
-higher false false = refl
-
-module _ (side a b : ℕ) where
-  pub dearer-ahead : side ≡ 1 → ltb b a ≡ ahead (eqb side 1) a b false
-  dearer-ahead e = rw (eq-eqb side 1 e) (higher (ltb b a) (ltb a b))
-
-  pub cheaper-ahead : (side ≡ 1 → ⊥) → ltb a b ≡ ahead (eqb side 1) a b false
-  cheaper-ahead e = rw (ne_eqb side 1 e) (higher (ltb a b) (ltb b a))
-
 -- an order in which of any two numbers one goes ahead
 pub record Linear (before : ℕ → ℕ → Bool) : Type 0 where
   pub irrefl : (k : ℕ) → T (not (before k k))
   pub asym : (j k : ℕ) → T (before j k) → T (not (before k j))
   pub trans : (i j k : ℕ) → T (before i j) → T (before j k) → T (before i k)
   pub either : (j k : ℕ) → (j ≡ k → ⊥) → T (before j k) ⊎ T (before k j)
-
-first-linear : (price : ℕ → ℤ) → Linear (first price)
-first-linear price = record {
-  irrefl = (first-order price).irrefl;
-  asym = (first-order price).asym;
-  trans = (first-order price).trans;
-  either = λ j k differ. go j k differ (dec_le j k);
-}
-  where
-    two : (j k : ℕ) → j < k → T (first price k j) ⊎ T (first price j k)
-    two j k h = (apart price (j ∷ k ∷ []) ((h, tt), (tt, tt))).0.0
-
-    swap : {A B : Type 0} → A ⊎ B → B ⊎ A
-    swap (inl a) = inr a
-    swap (inr b) = inl b
-
-    go : (j k : ℕ) → (j ≡ k → ⊥) → Dec (j ≤ k) → T (first price j k) ⊎ T (first price k j)
-    go j k differ (yes h) = swap (two j k (omega (arith, differ)))
-    go j k differ (no h) = two k j (omega arith)
-
--- prices as they are when producing, turned round when consuming
-pub ahead-linear : (consuming : Bool) (prices : List ℕ) → Linear (ahead_in consuming prices)
-ahead-linear false prices = first-linear (λ k. pos (get_or prices k 0))
-ahead-linear true prices = first-linear (λ k. negsuc (get_or prices k 0))

@@ -18,7 +18,8 @@ use Rattle.records.specs.Views.{plan_in}
 use Rattle.plan_header.specs.Plans.{PlanDone}
 use Rattle.decoded_cases.specs.Decoded.{Decoded, stated_rows, sound-rows}
 use Rattle.decoded_cases.specs.Plans.{plan-read}
-use Rattle.listings.specs.Promise.{PlanListed, plan-listed}
+use Rattle.listings.specs.Promise.{PlanListed}
+use Rattle.listings.proofs.Promise.{plan-listed}
 use Rattle.breach_lists.specs.Lists.{ListsRows}
 
 -- two answers that are equal part by part

@@ -16,7 +16,7 @@ use Rattle.records.specs.Views.{system_in, plan_in, most_devices, CaseRows}
 use Rattle.records.specs.Viewed.{devices-are, intervals-are}
 use Rattle.cell_bounds.specs.Word.{numbers_in}
 use Rattle.failing_rules.specs.Day.{interval_cells, interval_breaches, day_breaches, day_windows, day-is}
-use Rattle.listings.specs.Sizes.{breaches-few}
+use Rattle.listings.proofs.Sizes.{breaches-few}
 use Rattle.breach_entries.specs.Noted.{Notes, notes-as, notes-append, most_entries}
 use Rattle.breach_notes.specs.Bits.{word_breaches}
 

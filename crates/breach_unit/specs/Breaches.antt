@@ -4,7 +4,8 @@ use Rattle.std.proofs.Common.{subst}
 use Rattle.model.specs.declared.Listing.{Listing}
 use Rattle.model.specs.Editions.{Largest, most_devices, most_intervals}
 use Rattle.model.specs.Lists.{listings}
-use Rattle.listings.specs.Promise.{CaseListed, case-listed}
+use Rattle.listings.specs.Promise.{CaseListed}
+use Rattle.listings.proofs.Promise.{case-listed}
 use Rattle.breach_lists.specs.Plans.{same-listing}
 
 -- `l` are the largest counts that the reader takes; `before` and `after` are the list's buffer as it came and as it is left

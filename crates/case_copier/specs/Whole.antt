@@ -12,9 +12,11 @@ use Rattle.model.specs.Editions.{Largest, host}
 use Rattle.model.specs.ByEdition as B
 use Rattle.model.specs.ByEdition.{Stated, stated_in}
 use Rattle.writing.specs.Anew.{anew, case_bytes, Writings, writing, put}
-use Rattle.writing.specs.Same.{kept, newest-fits, alike}
-use Rattle.writing.specs.Splice.{past, spliced, past_up}
-use Rattle.writing.specs.CaseSplices.{case_splice, case-spliced}
+use Rattle.writing.proofs.Same.{kept, newest-fits, alike}
+use Rattle.writing.specs.Splice.{past, spliced}
+use Rattle.writing.proofs.Splice.{past_up}
+use Rattle.writing.specs.CaseSplices.{case_splice}
+use Rattle.writing.proofs.CaseSplices.{case-spliced}
 use Rattle.bit_copier.specs.Moves.{Renews, most}
 
 module _ (l : Largest) (s : List ℕ) (x : Stated) (h : stated_in l s ≡ passes x) where

@@ -7,8 +7,8 @@ use Rattle.model.specs.declared.Inspected.{Inspected}
 use Rattle.model.specs.declared.Inspected.TheVariants as I
 use Rattle.model.specs.Editions.{Largest, most_devices, most_intervals}
 use Rattle.model.specs.ByEdition.{Stated, stated_in}
-use Rattle.theorems.specs.Promise.{case-tells}
-use Rattle.refusals.specs.Refusals.{case-refusal}
+use Rattle.theorems.proofs.Promise.{case-tells}
+use Rattle.refusals.proofs.Refusals.{case-refusal}
 use Rattle.case_inspection.specs.Inspection.{inspected_of, Inspects}
 
 refused-fails : (w : Whole Stated) (f : Fault) → I.Refused f ≡ inspected_of w → w ≡ fails f

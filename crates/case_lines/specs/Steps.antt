@@ -13,7 +13,7 @@ use Rattle.message_ends.specs.declared.Ending.{Ending}
 use Rattle.message_ends.specs.declared.Ending.TheVariants.{Passes, Fails}
 use Rattle.wording.specs.Text.{text}
 use Rattle.wording.specs.Writes.{Writes}
-use Rattle.wording.specs.Lines.{no-line, one_line}
+use Rattle.wording.proofs.Lines.{no-line, one_line}
 use Rattle.case_lines.specs.Lines.{WritesCase}
 
 module _ {x y : Framed} (e : x ≡ y) (end : Ending) (n : Counts) (before : List ℕ) where

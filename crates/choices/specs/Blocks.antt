@@ -8,7 +8,7 @@ use Rattle.numbers.specs.Base.{range}
 use Rattle.numbers.specs.Every.{all-up_to}
 use Rattle.numbers.specs.Sum.{sumℕ, sumℕ-cong}
 use Rattle.model.specs.Forced.{least}
-use Rattle.model.specs.Named.{rule19-holds}
+use Rattle.model.proofs.Named.{rule19-holds}
 use Rattle.model.specs.Rules.{blocks, EveryRule}
 use Rattle.model.specs.Ours.{filling_above}
 use Rattle.block_fill.specs.Filled.{Filled, price_of, cap_of, four_same}

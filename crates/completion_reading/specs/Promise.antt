@@ -13,17 +13,18 @@ use Rattle.model.specs.declared.Verdict.TheVariants as Y
 use Rattle.model.specs.Case.{System, Plan}
 use Rattle.model.specs.Editions.{Largest, widths_of, most_devices, most_intervals}
 use Rattle.model.specs.Breaches.{breaches}
-use Rattle.model.specs.Named.{none-every}
+use Rattle.model.proofs.Named.{none-every}
 use Rattle.model.specs.Rules.{EveryRule}
 use Rattle.model.specs.ByEdition.{Stated, stated_in}
 use Rattle.model.specs.Ours.{ours}
 use Rattle.model.specs.Judgement.{written, our_surplus, read_plan, completion_bytes, accepts, unless_broken, verdict, judgement}
-use Rattle.theorems.specs.Promise.{Sound, stated-sound, promised}
+use Rattle.theorems.specs.Promise.{Sound}
+use Rattle.theorems.proofs.Promise.{stated-sound, promised}
 use Rattle.completion_reading.specs.declared.Reading.TheVariants.{Figures, RefusedCase, RefusedMessage, Short}
 use Rattle.market.specs.declared.Copying.TheVariants.{Copied}
 use Rattle.market.specs.Copy.{copy_of, copy_bytes, Copies, copied_plan, market_copy}
-use Rattle.market.specs.Blind.{copied-first}
-use Rattle.market.specs.Promise.{copied-only, desk-read, copy_read}
+use Rattle.market.proofs.Blind.{copied-first}
+use Rattle.market.proofs.Promise.{copied-only, desk-read, copy_read}
 use Rattle.completion_reading.specs.Readers.{desk_in, market_in, Refusal, desk-refuses, market-refuses, desk-refuses-copy, market-refuses-completion}
 use Rattle.completion_reading.specs.Begun.{desk-begun, market-begun}
 use Rattle.completion_reading.specs.Figures.{completion_figures, copy_figures, as_figures, figures_in, Readings, tabled, lent_case, readings}

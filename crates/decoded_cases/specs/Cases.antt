@@ -5,7 +5,7 @@ use Rattle.layouts.specs.declared.Fault.{Fault}
 use Rattle.layouts.specs.Layout.{passes, fails}
 use Rattle.model.specs.Editions.{Largest, most_devices, most_intervals}
 use Rattle.model.specs.ByEdition.{Stated, stated_in}
-use Rattle.theorems.specs.Promise.{stated-sound}
+use Rattle.theorems.proofs.Promise.{stated-sound}
 use Rattle.message_ends.specs.Ended.{ended}
 use Rattle.message_ends.specs.declared.Ending.{Ending}
 use Rattle.message_ends.specs.declared.Ending.TheVariants.{Passes, Fails}

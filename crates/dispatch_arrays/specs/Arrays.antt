@@ -8,7 +8,8 @@ use Rattle.numbers.specs.Sum.{gate, All}
 use Rattle.numbers.specs.Every.{all-at}
 use Rattle.offers.specs.declared.Offer.{Offer}
 use Rattle.offers.specs.Merit.{no-offer}
-use Rattle.optimum.specs.Levels.{of, of-append}
+use Rattle.optimum.specs.Levels.{of}
+use Rattle.optimum.proofs.Levels.{of-append}
 use Rattle.raising.specs.Raising.{place, Sane}
 
 -- the first n offers are of sets that there are, with floors and caps in range

@@ -16,7 +16,8 @@ use Rattle.offers.specs.declared.Offer.{Offer}
 use Rattle.offers.specs.Merit.{room}
 use Rattle.dispatching.specs.declared.Dispatch.TheVariants.{Refused}
 use Rattle.dispatching.specs.Dispatch.{Outcome, untouched, dispatch_in, dispatch}
-use Rattle.dispatch_promise.specs.Promise.{DispatchPromise, dispatch-promised}
+use Rattle.dispatch_promise.specs.Promise.{DispatchPromise}
+use Rattle.dispatch_promise.proofs.Promise.{dispatch-promised}
 use Rattle.dispatches.specs.declared.Held.{Held}
 use Rattle.dispatches.specs.Cases.{put_back}
 

@@ -12,7 +12,8 @@ use Rattle.optimum.specs.Answer.{answer}
 use Rattle.optimum.specs.Theorem as T
 use Rattle.raising.specs.declared.Rise.{Rise}
 use Rattle.raising.specs.Raising.{place, run, Sane, Good, Ranged, sum_of}
-use Rattle.raising.specs.Link.{at, Level, run_is}
+use Rattle.raising.specs.Link.{at, Level}
+use Rattle.raising.proofs.Link.{run_is}
 use Rattle.dispatching.specs.Dispatch.{places}
 use Rattle.place_totals.specs.Totals.{Small, total_of}
 use Rattle.dispatch_arrays.specs.Arrays.{SaneTo, Floors}

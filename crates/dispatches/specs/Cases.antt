@@ -28,9 +28,10 @@ use Rattle.decoded_cases.specs.Decoded.{Decoded}
 use Rattle.dispatching.specs.declared.Dispatch.{Dispatch}
 use Rattle.dispatching.specs.declared.Dispatch.TheVariants.{Dispatched, Refused, Unfit, Unmet}
 use Rattle.dispatching.specs.Dispatch.{offers_of, counted, once, producing, sets_fit, offers_fit, can_meet, powers_of, Outcome, dispatch_in}
-use Rattle.dispatch_promise.specs.Named.{Counted, once-few}
-use Rattle.dispatch_promise.specs.Own.{own-long}
-use Rattle.dispatch_promise.specs.Best as B
+use Rattle.dispatch_promise.specs.Named.{Counted}
+use Rattle.dispatch_promise.proofs.Named.{once-few}
+use Rattle.dispatch_promise.proofs.Own.{own-long}
+use Rattle.dispatch_promise.proofs.Best as B
 use Rattle.dispatch_promise.specs.Best.{Asked}
 use Rattle.set_limits.specs.Limits.{NamedIn}
 use Rattle.lent_offers.specs.Lent.{Sorts, head-sorted}

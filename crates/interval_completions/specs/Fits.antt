@@ -10,7 +10,7 @@ use Rattle.model.specs.Forced as F
 use Rattle.model.specs.Completion.{Completion, shortfalls, shortfall_need, mismatch_need, reactive_need, reactive_mismatch_need, rgu, rgd, scr, nsc, rru, rrd, qru, qrd}
 use Rattle.model.specs.Ours.{ours}
 use Rattle.theorems.specs.Back.{FitsSix, FitsDevice}
-use Rattle.theorems.specs.Sizes.{shortfall-bound, mismatch-bound, reactive-shortfall-bound, reactive-mismatch-bound, device-fits}
+use Rattle.theorems.proofs.Sizes.{shortfall-bound, mismatch-bound, reactive-shortfall-bound, reactive-mismatch-bound, device-fits}
 use Rattle.row_places.specs.declared.Front.{Front}
 use Rattle.records.specs.Views.{most_devices, system_in, case_in, plan_in}
 use Rattle.records.specs.Viewed as Viewed

@@ -35,16 +35,9 @@
 --   device and interval: prices of qru, qrd               2    PRICE       prices .devices: cells: reactive
 --
 -- What an edition lacks has its neutral value. A list of prices is as long as its list of quantities, for both are read by one count, which is a quantity.
-use Rattle.std.specs.Prelude.{◌≡◌, refl, ◌↔◌, List, ℕ, ◌<◌}
-use Rattle.std.proofs.Common.{sym, ◌∙◌, ap}
-use Rattle.numbers.specs.Sum.{All}
-use Rattle.layouts.specs.Layout.{passes, bytes}
-use Rattle.layouts.specs.Sure.{Any}
+use Rattle.std.specs.Prelude.{◌≡◌}
 use Rattle.model.specs.Case.{Prices}
-use Rattle.model.specs.Editions.{Largest}
-use Rattle.model.specs.ByEdition.{Stated, stated_in, case_layout}
-use Rattle.writing.specs.Again.{own-bytes}
-use Rattle.writing.specs.Same.{Kept, case-reads}
+use Rattle.model.specs.ByEdition.{Stated}
 
 -- the same edition and the same quantities; of their prices and costs nothing is said
 pub record SameQuantities (x y : Stated) : Type 0 where
@@ -54,19 +47,3 @@ pub record SameQuantities (x y : Stated) : Type 0 where
 -- a case with other prices and costs
 abbrev pub repriced : Stated → Prices → Stated
 repriced x other = record { edition = x.edition; case = record { system = x.case.system; prices = other } }
-
--- so nothing but prices and costs differs
-pub only-prices : (x y : Stated) → SameQuantities x y ↔ (y ≡ repriced x y.case.prices)
-only-prices x y = (λ s. rw (s.edition, s.system) refl, λ e. record { edition = ap (λ (z : Stated). z.edition) (sym e); system = ap (λ (z : Stated). z.case.system) (sym e) })
-
--- none is neither: a case's edition, quantities and prices are all its bits
-own : (l : Largest) (s : List ℕ) (x : Stated) → All (λ b. b < 256) s → stated_in l s ≡ passes x → bytes ((case_layout l).write x) ≡ s
-unfolding stated_in
-own l s x small h = own-bytes (case_layout l) Any (Kept l) (case-reads l) s small x h
-
-pub no_other : (l : Largest) (cs ds : List ℕ) (x y : Stated) → All (λ b. b < 256) cs → All (λ b. b < 256) ds → stated_in l cs ≡ passes x → stated_in l ds ≡ passes y
-    → SameQuantities x y → x.case.prices ≡ y.case.prices → cs ≡ ds
-no_other l cs ds x y small few h k s e = sym (own l cs x small h) ∙ ap (λ (z : Stated). bytes ((case_layout l).write z)) same ∙ own l ds y few k
-  where
-    same : x ≡ y
-    same = ap (repriced x) e ∙ sym ((only-prices x y).0 s)

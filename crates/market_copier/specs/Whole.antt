@@ -12,7 +12,7 @@ use Rattle.model.specs.declared.Subject.TheVariants as S
 use Rattle.layouts.specs.declared.Fault.TheVariants.{TooShort}
 use Rattle.model.specs.Case.{System, Plan}
 use Rattle.model.specs.Breaches.{breaches}
-use Rattle.model.specs.Named.{none-every}
+use Rattle.model.proofs.Named.{none-every}
 use Rattle.model.specs.ByEdition.{Stated}
 use Rattle.model.specs.Ours.{ours}
 use Rattle.model.specs.Judgement.{counts_of, energy_windows, written, our_surplus, read_plan, completion_bytes}
@@ -20,9 +20,10 @@ use Rattle.theorems.specs.Promise.{Sound}
 use Rattle.writing.specs.Splice.{past, spliced}
 use Rattle.bit_copier.specs.Moves.{Renews, most}
 use Rattle.market.specs.Copy.{copy_of, copy_in, copy_bytes, copied_plan, copying}
-use Rattle.market.specs.Blind.{copy-shown}
-use Rattle.market.specs.Promise.{copy-fit, desk-read}
-use Rattle.market.specs.CopySplice.{copy_splice, copy-spliced}
+use Rattle.market.proofs.Blind.{copy-shown}
+use Rattle.market.proofs.Promise.{copy-fit, desk-read}
+use Rattle.market.specs.CopySplice.{copy_splice}
+use Rattle.market.proofs.CopySplice.{copy-spliced}
 
 -- a plan that breaks no rule
 module _ (x : Stated) (g : Sound x) (ps : List ℕ) (p : Plan) (rp : read_plan x ps ≡ passes p) (ok : breaches x.case.system p ≡ []) where

@@ -18,7 +18,7 @@ use Rattle.model.specs.declared.Verdict.{Verdict}
 use Rattle.model.specs.declared.Verdict.TheVariants as Y
 use Rattle.model.specs.Case.{Plan, System}
 use Rattle.model.specs.Breaches.{breaches}
-use Rattle.model.specs.Named.{none-every}
+use Rattle.model.proofs.Named.{none-every}
 use Rattle.model.specs.ByEdition.{Stated}
 use Rattle.model.specs.Ours.{ours}
 use Rattle.model.specs.Judgement as J
@@ -37,7 +37,7 @@ use Rattle.market.specs.declared.Copying.{Copying}
 use Rattle.market.specs.declared.Copying.TheVariants.{Copied, Broken, Refused}
 use Rattle.market.specs.Copy.{copy_bytes, copying, copy_after, Copies, copied_plan, with_plan}
 use Rattle.market.specs.CopySplice.{copy_splice}
-use Rattle.market.specs.Promise.{broken-alike, completion-bound}
+use Rattle.market.proofs.Promise.{broken-alike, completion-bound}
 use Rattle.market_copier.specs.Counts.{counts_in}
 use Rattle.market_copier.specs.Whole.{copy_written}
 

@@ -4,7 +4,8 @@ use Rattle.std.proofs.Common.{sym, ap₂, subst}
 use Rattle.model.specs.Editions.{Largest, most_devices, most_intervals}
 use Rattle.market.specs.declared.Copying.{Copying}
 use Rattle.market.specs.Copy.{Copies, market_copy}
-use Rattle.market.specs.Promise.{MarketPromise, market-promised}
+use Rattle.market.specs.Promise.{MarketPromise}
+use Rattle.market.proofs.Promise.{market-promised}
 
 -- `l` are the largest counts that the reader takes; `before` and `after` are the result buffer as it came and as it is left
 pub record CopiesForMarket (l : Largest) (cs ps before after : List ℕ) (r : Copying) : Type 0 where

@@ -20,7 +20,7 @@ use Rattle.mending.specs.declared.Mending.{Mending}
 use Rattle.mending.specs.declared.Mending.TheVariants.{Accepted}
 use Rattle.mending.specs.Mending.{most_online}
 use Rattle.mending.specs.Mendings.{told, mending_of}
-use Rattle.mending_theorems.specs.FromBreach.{from-shape, from-none}
+use Rattle.mending_theorems.proofs.FromBreach.{from-shape, from-none}
 use Rattle.mending_theorems.specs.Answer.{Shaped, mended_from}
 
 -- the first breach is the list's first

@@ -20,7 +20,8 @@ use Rattle.numbers.specs.Sum.{All}
 use Rattle.records.specs.Viewed as W
 use Rattle.breaches.specs.First.{first}
 use Rattle.breaches.specs.declared.Check.TheVariants as K
-use Rattle.mending_theorems.specs.Where.{Where, in_cell, in-link, in_window, listed-where}
+use Rattle.mending_theorems.specs.Where.{Where, in_cell, in-link, in_window}
+use Rattle.mending_theorems.proofs.Where.{listed-where}
 use Rattle.mending.specs.declared.Mending.{Mending}
 use Rattle.mending.specs.declared.Mending.TheVariants.{Mended, Nothing}
 use Rattle.mending.specs.Mending.{Change, mends, change, those, keep_if, nearest, most_online}

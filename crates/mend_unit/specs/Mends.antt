@@ -4,8 +4,10 @@ use Rattle.std.proofs.Common.{sym, ◌∙◌, subst}
 use Rattle.model.specs.Editions.{Largest, most_devices, most_intervals}
 use Rattle.mending.specs.declared.Mending.{Mending}
 use Rattle.mending.specs.declared.Mending.TheVariants.{Mended}
-use Rattle.mending.specs.Mendings.{mendings, CasePromise, case-promise}
-use Rattle.mended_messages.specs.Promise.{PutIn, put_in}
+use Rattle.mending.specs.Mendings.{mendings, CasePromise}
+use Rattle.mending.proofs.Mendings.{case-promise}
+use Rattle.mended_messages.specs.Promise.{PutIn}
+use Rattle.mended_messages.proofs.Promise.{put_in}
 
 -- `l` are the largest counts that the reader takes
 pub record MendsBytes (l : Largest) (cs ps : List ℕ) (r : Mending) : Type 0 where

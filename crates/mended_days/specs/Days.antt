@@ -13,7 +13,8 @@ use Rattle.mending.specs.Mending as M
 use Rattle.mending.specs.Mending.{Change, most_online, mended}
 use Rattle.mending_theorems.specs.Bounds as B
 use Rattle.mending_theorems.specs.Answer as A
-use Rattle.mending_theorems.specs.Answer.{Shaped, mended_from, mended-is}
+use Rattle.mending_theorems.specs.Answer.{Shaped, mended_from}
+use Rattle.mending_theorems.proofs.Answer.{mended-is}
 
 -- on all day, at first with so many kW; it may rise and fall by 1 kW a minute, and carry up to `most`
 abbrev device : Link → ℕ → ℕ → ℕ → Device

@@ -31,7 +31,8 @@ use Rattle.market_copies.specs.Steps.{most_bytes}
 use Rattle.mending.specs.declared.Mending.{Mending}
 use Rattle.mending.specs.declared.Mending.TheVariants.{Accepted, Refused}
 use Rattle.mending.specs.Mending.{most_online}
-use Rattle.mending.specs.Mendings.{told, mending_of, mend_plan, PlanPromise, plan-promise}
+use Rattle.mending.specs.Mendings.{told, mending_of, mend_plan, PlanPromise}
+use Rattle.mending.proofs.Mendings.{plan-promise}
 use Rattle.mending_theorems.specs.Answer.{mended_from}
 use Rattle.mend_tries.specs.Tries.{Judgeable}
 use Rattle.mend_plans.specs.Broken as B

@@ -1,6 +1,5 @@
 -- What mending the bytes of a plan against those of a case answers, and what the answer promises.
-use Rattle.std.specs.Prelude.{◌≡◌, refl, List, [], ◌∷◌, ℕ, suc}
-use Rattle.std.proofs.Common.{sym, ap, subst}
+use Rattle.std.specs.Prelude.{◌≡◌, List, [], ◌∷◌, ℕ, suc}
 use Rattle.std.proofs.Math.Option.{Option, none, some}
 use Rattle.layouts.specs.declared.Fault.{Fault}
 use Rattle.layouts.specs.Layout.{Whole, passes, fails}
@@ -14,7 +13,7 @@ use Rattle.model.specs.Judgement.{read_plan, our_surplus}
 use Rattle.mending.specs.declared.Mending.{Mending}
 use Rattle.mending.specs.declared.Mending.TheVariants.{Accepted, Mended, Nothing, Refused}
 use Rattle.mending.specs.Mending.{Change, most_online, mended}
-use Rattle.mending.specs.Least.{Mends, Least, Answers, answered}
+use Rattle.mending.specs.Least.{Mends, Least}
 
 -- ---- the answer
 
@@ -63,23 +62,3 @@ pub record PlanPromise (x : Stated) (ps : List ℕ) (r : Mending) : Type 0 where
 pub record CasePromise (l : Largest) (cs ps : List ℕ) (r : Mending) : Type 0 where
   pub case-refused : (f : Fault) → stated_in l cs ≡ fails f → r ≡ Refused S.Case f
   pub case-passed : (x : Stated) → stated_in l cs ≡ passes x → PlanPromise x ps r
-
--- ---- it holds
-
-by_answer : (q : System) (p : Plan) (o : Option Change) → Answers most_online q p o → MendedBy q p (told o)
-by_answer q p none h = by-nothing h
-by_answer q p (some c) h = by-change c h
-
-pub promise : (x : Stated) (p : Plan) → Promise x p (mending_of x p)
-unfolding mending_of
-promise x p = record {
-  accepted = λ e. rw e refl;
-  broken = λ b bs e. rw e (by_answer x.case.system p (mended x.case.system p) (answered most_online x.case.system p));
-}
-
-pub plan-promise : (x : Stated) (ps : List ℕ) → PlanPromise x ps (mend_plan x (read_plan x ps))
-plan-promise x ps = record { plan-refused = λ f e. rw e refl; plan-passed = λ p e. rw e (promise x p) }
-
-pub case-promise : (l : Largest) (cs ps : List ℕ) → CasePromise l cs ps (mendings l cs ps)
-unfolding mendings
-case-promise l cs ps = record { case-refused = λ f e. rw e refl; case-passed = λ x e. subst (PlanPromise x ps) (sym (ap (mend_case ps) e)) (plan-promise x ps) }

@@ -5,5 +5,3 @@ pub mod Bounds
 pub mod Cells
 pub mod Where
 pub mod Answer
-pub mod FromBreach
-pub mod Worked

@@ -16,7 +16,7 @@ use Rattle.model.specs.Case as M
 use Rattle.model.specs.Case.{System, Plan, Case}
 use Rattle.model.specs.Forced.{devices, device, consuming, cap, least, u, u_before, su, sd, power, duration, setting as setting_at}
 use Rattle.model.specs.Rules.{blocks, ups, downs, cell_numbers, CellRule, EveryRule}
-use Rattle.model.specs.Named.{rule-of}
+use Rattle.model.proofs.Named.{rule-of}
 use Rattle.model.specs.Completion.{cell_prices, block_price, state_cost}
 use Rattle.model.specs.Ours.{ours, best_state, lasts}
 use Rattle.theorems.specs.Best.{above-cap}
@@ -24,7 +24,8 @@ use Rattle.numbers.specs.Every.{all-range}
 use Rattle.ranges.specs.Ranges.{CellPriceRange, SettingRange}
 use Rattle.ranges.specs.Kept.{kept_small}
 use Rattle.numbers.specs.Every.{all-or, bit_le, has}
-use Rattle.theorems.specs.Sizes.{power-bound, floored}
+use Rattle.theorems.specs.Sizes.{floored}
+use Rattle.theorems.proofs.Sizes.{power-bound}
 use Rattle.row_places.specs.declared.Cell.{Cell}
 use Rattle.row_places.specs.declared.Device.{Device}
 use Rattle.row_places.specs.declared.Setting.{Setting}

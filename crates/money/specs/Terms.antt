@@ -13,7 +13,7 @@ use Rattle.model.specs.Case.{System, Plan, Case}
 use Rattle.model.specs.Forced.{consuming, power, cap, least, setting}
 use Rattle.model.specs.Rules.{blocks}
 use Rattle.model.specs.Completion.{Completion, by_side, cell_prices, block_price, reserve_cost, block_worth, on_cost, change_cost, reserves_cost}
-use Rattle.model.specs.Named.{rule19-holds}
+use Rattle.model.proofs.Named.{rule19-holds}
 use Rattle.model.specs.Ours.{ours, whole, best_state}
 use Rattle.row_places.specs.declared.Cell.{Cell}
 use Rattle.row_places.specs.declared.Device.{Device}

@@ -14,7 +14,8 @@ use Rattle.row_places.specs.Figures.{at, flow_at, flow_of}
 use Rattle.records.specs.Views.{less, setting_in, plan_in, PlanRows}
 use Rattle.model.specs.Forced.{setting}
 use Rattle.mending.specs.Mending.{Change, with_online, replaced}
-use Rattle.mending_theorems.specs.Replaced.{Has, replaced-back}
+use Rattle.mending_theorems.specs.Replaced.{Has}
+use Rattle.mending_theorems.proofs.Replaced.{replaced-back}
 
 -- a setting's row with another online power
 abbrev pub with_online_row : List ℕ → ℕ → List ℕ

@@ -5,7 +5,7 @@ use Rattle.numbers.specs.Laws.{max_zero}
 use Rattle.model.specs.Case.{System, Plan}
 use Rattle.model.specs.Forced as F
 use Rattle.model.specs.Completion.{overrun_need}
-use Rattle.theorems.specs.Sizes.{overrun-bound}
+use Rattle.theorems.proofs.Sizes.{overrun-bound}
 use Rattle.row_places.specs.declared.Front.{Front}
 use Rattle.row_places.specs.Figures.{energies_at}
 use Rattle.records.specs.Views.{most_intervals, system_in, plan_in, CaseRows}

@@ -12,9 +12,11 @@ use Rattle.model.specs.Case.{Plan}
 use Rattle.model.specs.Editions.{newest, most_devices, most_intervals}
 use Rattle.model.specs.ByEdition.{plan_layout}
 use Rattle.writing.specs.Anew.{rows_bytes, Writings, writing, put}
-use Rattle.writing.specs.Same.{rows_fit}
-use Rattle.writing.specs.Splice.{past, spliced, past_up}
-use Rattle.writing.specs.PlanSplices.{plan_splice, front_of, plan-spliced}
+use Rattle.writing.proofs.Same.{rows_fit}
+use Rattle.writing.specs.Splice.{past, spliced}
+use Rattle.writing.proofs.Splice.{past_up}
+use Rattle.writing.specs.PlanSplices.{plan_splice, front_of}
+use Rattle.writing.proofs.PlanSplices.{plan-spliced}
 use Rattle.bit_copier.specs.Moves.{Renews, most}
 
 -- a plan that passes reading has a front

@@ -4,7 +4,8 @@ use Rattle.std.proofs.Common.{sym, subst, ap₂}
 use Rattle.model.specs.declared.Verdict.{Verdict}
 use Rattle.model.specs.ByEdition.{Stated}
 use Rattle.model.specs.Judgement.{Judged, with_plan, read_plan}
-use Rattle.theorems.specs.Promise.{PlanPromise, plan-promised}
+use Rattle.theorems.specs.Promise.{PlanPromise}
+use Rattle.theorems.proofs.Promise.{plan-promised}
 use Rattle.row_places.specs.declared.Front.{Front}
 use Rattle.decoded_cases.specs.Decoded.{Decoded, stated_rows, sound-rows}
 

@@ -10,7 +10,7 @@ use Rattle.model.specs.declared.Verdict.TheVariants.{Broken, Refused}
 use Rattle.model.specs.Case.{Plan, System}
 use Rattle.model.specs.ByEdition.{Stated}
 use Rattle.model.specs.Breaches.{breaches}
-use Rattle.model.specs.Named.{none-every}
+use Rattle.model.proofs.Named.{none-every}
 use Rattle.model.specs.Judgement.{verdict, unless_broken, read_plan}
 use Rattle.message_ends.specs.Ended.{ended}
 use Rattle.message_ends.specs.declared.Ending.{Ending}

@@ -4,7 +4,8 @@ use Rattle.std.proofs.Common.{subst}
 use Rattle.model.specs.declared.Verdict.{Verdict}
 use Rattle.model.specs.Editions.{Largest, most_devices, most_intervals}
 use Rattle.model.specs.Judgement.{judgement}
-use Rattle.theorems.specs.Promise.{Promise, promised}
+use Rattle.theorems.specs.Promise.{Promise}
+use Rattle.theorems.proofs.Promise.{promised}
 use Rattle.plan_judgement.specs.JudgesPlan.{same-judged}
 
 -- `l` are the largest counts that the reader takes; `before` and `after` are the result buffer as it came and as it is left

@@ -13,7 +13,8 @@ use Rattle.model.specs.Messages as M
 use Rattle.model.specs.Messages.{edition1}
 use Rattle.model.specs.ByEdition as B
 use Rattle.model.specs.ByEdition.{Stated, stated_in, planned_in}
-use Rattle.model.specs.AsBefore.{first, first-as}
+use Rattle.model.specs.AsBefore.{first}
+use Rattle.model.proofs.AsBefore.{first-as}
 use Rattle.layouts.specs.As.{as-checked}
 use Rattle.layouts.specs.Since.{has, present, since}
 use Rattle.layouts.specs.Checked.{Checked}

@@ -14,7 +14,7 @@ use Rattle.model.specs.Forced as F
 use Rattle.model.specs.Completion.{ReactiveShortfall, reactive_need, reactive_mismatch_need, reactive_reserve_cost, reactive_reserves_cost, reactive_shortfall_cost, reactive_mismatch_cost}
 use Rattle.model.specs.Completion as C
 use Rattle.model.specs.Ours.{ours, whole}
-use Rattle.theorems.specs.Sizes.{reactive-shortfall-bound, reactive-mismatch-bound}
+use Rattle.theorems.proofs.Sizes.{reactive-shortfall-bound, reactive-mismatch-bound}
 use Rattle.ranges.specs.Ranges.{CellPriceRange}
 use Rattle.row_places.specs.declared.Zone.{Zone}
 use Rattle.row_places.specs.declared.Reactive.{Reactive}

@@ -6,7 +6,7 @@ use Rattle.numbers.specs.Tests.{same_test, and_in, and_l, and_r}
 use Rattle.numbers.specs.Z.{Ex, nat, ◌⊕◌, ◌⊝◌, ◌⊗◌, val, up, dn, by≤, of≤}
 use Rattle.model.specs.Rules.{on_line}
 use Rattle.model.specs.Breaches.{eq_z}
-use Rattle.model.specs.Tests.{same}
+use Rattle.model.proofs.Tests.{same}
 use Rattle.kilovars.specs.Reactive.{kvar_offset}
 use Rattle.records.specs.Views.{less, slope_offset, line_in}
 use Rattle.row_places.specs.declared.Line.{Line}

@@ -11,7 +11,7 @@ use Rattle.model.specs.Editions.{Largest, most_devices, most_intervals, most_win
 use Rattle.model.specs.ByEdition.{Stated, stated_in}
 use Rattle.model.specs.Judgement.{counts_of, energy_windows}
 use Rattle.ranges.specs.Ranges.{SystemRange, DeviceRange}
-use Rattle.theorems.specs.Promise.{stated-sound}
+use Rattle.theorems.proofs.Promise.{stated-sound}
 use Rattle.completion_reading.specs.declared.Reading.TheVariants.{Figures, Short}
 use Rattle.completion_reading.specs.Readers.{desk_in, market_in}
 use Rattle.completion_reading.specs.Figures.{figures_in, Few, Readings, tabled, lent_case, readings}

@@ -4,4 +4,3 @@ pub mod Traced
 pub mod Whole
 pub mod Messages
 pub mod Refusals
-pub mod Rows

@@ -4,7 +4,8 @@ use Rattle.std.proofs.Common.{subst}
 use Rattle.model.specs.Editions.{Largest}
 use Rattle.writing.specs.declared.Writing.{Writing}
 use Rattle.writing.specs.Anew.{plan_anew}
-use Rattle.writing.specs.Promise.{PlanPromise, plan-promised}
+use Rattle.writing.specs.Promise.{PlanPromise}
+use Rattle.writing.proofs.Promise.{plan-promised}
 use Rattle.rewrites.specs.Steps.{same-writings}
 
 -- `l` are the largest counts that the reader takes; `before` and `after` are the result buffer as it came and as it is left

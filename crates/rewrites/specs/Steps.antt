@@ -21,7 +21,8 @@ use Rattle.plan_header.specs.Plans.{PlanDone}
 use Rattle.writing.specs.declared.Writing.{Writing}
 use Rattle.writing.specs.declared.Writing.TheVariants.{Refused}
 use Rattle.writing.specs.Anew.{case_bytes, Writings, writing, put, case_anew, put_rows}
-use Rattle.writing.specs.Promise.{CasePromise, case-promised}
+use Rattle.writing.specs.Promise.{CasePromise}
+use Rattle.writing.proofs.Promise.{case-promised}
 use Rattle.writing.specs.CaseSplices.{case_splice}
 use Rattle.writing.specs.PlanSplices.{plan_splice, front_of}
 use Rattle.bit_copier.specs.Moves.{Renews}

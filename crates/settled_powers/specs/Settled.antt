@@ -22,7 +22,7 @@ use Rattle.row_places.specs.declared.Front.{Front}
 use Rattle.records.specs.Views.{system_in, case_in, CaseRows}
 use Rattle.records.specs.Viewed as W
 use Rattle.dispatching.specs.Dispatch.{offers_of, once, of_named, places, lowest_of, highest_of, can_meet, power_of, powers_of}
-use Rattle.dispatch_promise.specs.Best as B
+use Rattle.dispatch_promise.proofs.Best as B
 use Rattle.dispatch_promise.specs.Best.{Asked}
 use Rattle.set_limits.specs.Limits.{NamedIn, Limited}
 use Rattle.place_totals.specs.Totals.{Small, total_of, ordered_by, meetable}

@@ -24,7 +24,7 @@ use Rattle.records.specs.Viewed as Viewed
 use Rattle.records.specs.Ranged as Ranged
 use Rattle.money.specs.Bounds.{minutes_most, price_most, short_price_most, shortfall_most, mismatch_most, limit_most, short_most, zone_most, mismatch_cost_most, overrun_cost_most}
 use Rattle.money.specs.Entries.{Entered, entered-as, spent-as}
-use Rattle.theorems.specs.Sizes.{mismatch-bound}
+use Rattle.theorems.proofs.Sizes.{mismatch-bound}
 use Rattle.slack_money.specs.Sizes.{shortfall-bound, overrun-bound}
 use Rattle.money.specs.Unbroken.{Unbroken, plan-range, system-range, few-devices, few-intervals}
 use Rattle.money.specs.Terms.{our}

@@ -11,7 +11,7 @@ use Rattle.model.specs.Completion as C
 use Rattle.ranges.specs.Ranges.{SystemRange, MinimaRange, PlanRange, EnergyRange}
 use Rattle.numbers.specs.Every.{all-or, gate-le}
 use Rattle.numbers.specs.Ranges.{sum-few}
-use Rattle.theorems.specs.Sizes.{power-bound, unit-bound, zone-at, device-at, minutes-bound}
+use Rattle.theorems.proofs.Sizes.{power-bound, unit-bound, zone-at, device-at, minutes-bound}
 use Rattle.records.specs.Views.{most_devices, most_intervals}
 use Rattle.money.specs.Bounds.{power_most, minutes_most, load_most, share_most, shortfall_most, limit_most}
 

@@ -12,7 +12,8 @@ use Rattle.layouts.proofs.Frames.{lies}
 use Rattle.tellings.specs.Splitting.{host_limit}
 use Rattle.stacks.specs.declared.Counted.{Counted}
 use Rattle.stacks.specs.declared.Counted.TheVariants.{Messages, Refused}
-use Rattle.stacks.specs.Messages.{ahead, messages_from, messages_of, counted, from_end, from-refused, from-message}
+use Rattle.stacks.specs.Messages.{ahead, messages_from, messages_of, counted}
+use Rattle.stacks.proofs.Messages.{from_end, from-refused, from-message}
 
 -- the definition's count, which is small: each message has three bytes of its length
 pub record Counts (s : List ℕ) (r : Counted) : Type 0 where

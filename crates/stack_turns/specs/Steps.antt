@@ -18,7 +18,8 @@ use Rattle.plan_judgement.specs.JudgesPlan.{JudgesPlan}
 use Rattle.tellings.specs.declared.Told.{Told}
 use Rattle.tellings.specs.Told.{told_of}
 use Rattle.stacks.specs.Stack.{row_numbers, row_told}
-use Rattle.stacks.specs.Turns.{TakesTurn, written_by, turn-bytes}
+use Rattle.stacks.specs.Turns.{TakesTurn, written_by}
+use Rattle.stacks.proofs.Turns.{turn-bytes}
 
 module _ {front : Front} {halves : List ℕ} {zones minima devices cells : List (List ℕ)} (d : Decoded front halves zones minima devices cells) where
   abbrev y : Stated

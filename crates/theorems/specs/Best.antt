@@ -12,7 +12,8 @@ use Rattle.numbers.specs.Laws as L
 use Rattle.numbers.specs.Z.{whole as whole_numbers, n+, n-, n~}
 use Rattle.numbers.specs.Sum.{sumℤ, All, all, sum_mono, sum-add, sum-sub, sum-cong, sumℕ, sumℕ-add, sumℕ-pos}
 use Rattle.numbers.specs.Threshold.{Within}
-use Rattle.numbers.specs.Blocks.{Asc, asc-range, cheapest-least, dearest-most, cheapest-total, dearest-total, cheapest-cap, dearest-cap}
+use Rattle.numbers.specs.Blocks.{Asc}
+use Rattle.numbers.proofs.Blocks.{asc-range, cheapest-least, dearest-most, cheapest-total, dearest-total, cheapest-cap, dearest-cap}
 use Rattle.numbers.specs.State.{best, Beats, best-beats, best-is}
 use Rattle.bits.specs.Pick.{pick}
 use Rattle.numbers.specs.Base.{range, up_to}
@@ -25,8 +26,8 @@ use Rattle.model.specs.Completion.{bars, real_surplus, surplus_of, shortfall_nee
 use Rattle.model.specs.Completion.{ReactiveShortfall, reactive_shortfalls, reactive_need, reactive_mismatch_need, reactive_price, reactive_costs}
 use Rattle.model.specs.Breaches.{breaches}
 use Rattle.model.specs.Ours.{filling, filling_above, lasts, best_state, ours, whole}
-use Rattle.model.specs.Tests.{same}
-use Rattle.model.specs.Named.{none-every, rule19-holds}
+use Rattle.model.proofs.Tests.{same}
+use Rattle.model.proofs.Named.{none-every, rule19-holds}
 use Rattle.numbers.specs.Every.{all-range, range_all, all-up_to}
 use Rattle.numbers.specs.Ranges.{grid_mono}
 

@@ -16,7 +16,8 @@ use Rattle.model.specs.Completion.{Completion, Meets, surplus_of}
 use Rattle.model.specs.Breaches.{breaches}
 use Rattle.model.specs.Ours.{ours, whole}
 use Rattle.model.specs.Judgement.{unless_broken, accepts, verdict, our_surplus, completion_bytes}
-use Rattle.model.specs.Named.{First, first-fails, every-none}
+use Rattle.model.specs.Named.{First}
+use Rattle.model.proofs.Named.{first-fails, every-none}
 use Rattle.theorems.specs.Best.{Floored, ours-meets, ours-best}
 
 -- 7 "bytes needed: result buffer too short": of the result buffer, with the bytes needed, and only where they do not fit

@@ -3,4 +3,3 @@ pub mod Decimal
 pub mod Text
 pub mod Writes
 pub mod Spelling
-pub mod Lines

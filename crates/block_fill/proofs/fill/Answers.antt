@@ -1,9 +1,9 @@
 use mathlib.Core.Path.{refl}
 use native.Mathlib.Omega.{arith}
 use lib.Dec.{eqb}
-use Rattle.block_pick.specs.Order.{ahead-linear}
-use Rattle.block_pick.specs.Ranks.{fewer-left, picked-length}
-use Rattle.block_pick.specs.Picks.{all-places}
+use Rattle.block_pick.proofs.Order.{ahead-linear}
+use Rattle.block_pick.proofs.Ranks.{fewer-left, picked-length}
+use Rattle.block_pick.proofs.Picks.{all-places}
 use Rattle.block_fill.specs.Steps.{filling-all, filling-out, arrays-none, arrays-more, filled_of}
 use Rattle.block_fill.proofs.fill.Goals as goal
 

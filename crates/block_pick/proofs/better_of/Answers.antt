@@ -1,7 +1,7 @@
 -- No answer yet, block k ahead of it, or behind.
 use native.Mathlib.Omega.{arith}
 use lib.Dec.{eqb}
-use Rattle.block_pick.specs.Picks.{lower, better-none, better-ahead, better-behind}
+use Rattle.block_pick.proofs.Picks.{lower, better-none, better-ahead, better-behind}
 use Rattle.block_pick.proofs.better_of.Goals as goal
 
 pub returns-in_default : goal.returns-in_default

@@ -1,5 +1,5 @@
 -- By the side.
-use Rattle.block_pick.specs.Order.{dearer-ahead, cheaper-ahead}
+use Rattle.block_pick.proofs.Order.{dearer-ahead, cheaper-ahead}
 use Rattle.block_pick.proofs.goes_ahead.Goals as goal
 
 pub returns-then-side-eq1 : goal.returns-then-side-eq1

@@ -3,7 +3,8 @@ use mathlib.Core.Path.{sym, ap, ◌∙◌}
 use Prim.Native.Nat.{ℕ}
 use native.Mathlib.Omega.{arith}
 use lib.Dec.{eqb}
-use Rattle.block_pick.specs.Picks.{next_of, picks_of}
+use Rattle.block_pick.specs.Picks.{next_of}
+use Rattle.block_pick.proofs.Picks.{picks_of}
 use Rattle.block_pick.proofs.next.Goals as goal
 
 pub next_among-requires : goal.next_among-requires

@@ -2,7 +2,8 @@ use mathlib.Core.Path.{◌≡◌, refl, ◌∙◌}
 use Prim.Native.Nat.{◌-◌}
 use native.Mathlib.Omega.{arith}
 use lib.Dec.{eqb}
-use Rattle.block_pick.specs.Picks.{next_up_to, found_below, found-same, found-better}
+use Rattle.block_pick.specs.Picks.{next_up_to}
+use Rattle.block_pick.proofs.Picks.{found_below, found-same, found-better}
 use Rattle.block_pick.proofs.next_among.Goals as goal
 use Rattle.block_pick.proofs.next_among.Goals.{then-not-picked-k, else-not-picked-k}
 

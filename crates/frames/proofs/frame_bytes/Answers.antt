@@ -1,5 +1,5 @@
 -- By whether the length is there, and whether it is above the limit.
-use Rattle.frames.specs.Lengths.{cut-bytes, head-bytes, all-bytes}
+use Rattle.frames.proofs.Lengths.{cut-bytes, head-bytes, all-bytes}
 use Rattle.frames.proofs.frame_bytes.Goals as goal
 
 pub returns-then-here-lt-HEAD : goal.returns-then-here-lt-HEAD

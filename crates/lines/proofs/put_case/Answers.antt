@@ -1,6 +1,6 @@
 -- Three counts behind the word.
 use native.Mathlib.Omega.{arith}
-use Rattle.wording.specs.Writes.{writes}
+use Rattle.wording.proofs.Writes.{writes}
 use Rattle.lines.proofs.put_case.Goals as goal
 
 pub returns : goal.returns

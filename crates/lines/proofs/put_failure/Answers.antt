@@ -1,6 +1,6 @@
 -- The error's number behind the words.
 use native.Mathlib.Omega.{arith}
-use Rattle.wording.specs.Writes.{writes}
+use Rattle.wording.proofs.Writes.{writes}
 use Rattle.lines.proofs.put_failure.Goals as goal
 
 pub returns : goal.returns

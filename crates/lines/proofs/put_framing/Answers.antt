@@ -1,7 +1,7 @@
 -- The fault's number behind the word.
 use native.Mathlib.Omega.{arith}
-use Rattle.wording.specs.Writes.{writes_as}
-use Rattle.wording.specs.Spelling.{framing-is}
+use Rattle.wording.proofs.Writes.{writes_as}
+use Rattle.wording.proofs.Spelling.{framing-is}
 use Rattle.lines.proofs.put_framing.Goals as goal
 
 pub returns : goal.returns

@@ -6,7 +6,8 @@ use lib.Seq.{slice}
 use Rattle.offers.specs.declared.Offer.{Offer}
 use Rattle.offers.specs.Merit.{no-offer}
 use Rattle.raising.specs.declared.Rise.{Rise}
-use Rattle.raising.specs.Raising.{run, Good, fits-here, stops-here, good-next, run-stop, run_on, run_end}
+use Rattle.raising.specs.Raising.{run, Good}
+use Rattle.raising.proofs.Raising.{fits-here, stops-here, good-next, run-stop, run_on, run_end}
 use Rattle.raising.proofs.raised.Goals as goal
 
 pub loop-k-init : goal.loop-k-init

@@ -1,6 +1,6 @@
 -- `raising::raised_by` meets its contract.
 -- Assumes nothing.
-use Rattle.raising.specs.Raising.{step_is}
+use Rattle.raising.proofs.Raising.{step_is}
 use Rattle.raising.proofs.raised_by.Goals as goal
 
 pub returns : goal.returns

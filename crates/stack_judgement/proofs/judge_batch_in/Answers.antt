@@ -1,7 +1,7 @@
 -- By how many messages there are, and the table's places.
 use native.Mathlib.Omega.{arith}
 use mathlib.Core.Path.{sym, ◌∙◌}
-use Rattle.stacks.specs.Judges.{batch-refused, batch-short, batch-judged}
+use Rattle.stacks.proofs.Judges.{batch-refused, batch-short, batch-judged}
 use Rattle.stack_judgement.proofs.judge_batch_in.Goals as goal
 
 pub overflow_mul-places : goal.overflow_mul-places

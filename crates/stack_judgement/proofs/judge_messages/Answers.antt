@@ -4,7 +4,7 @@ use Prim.Native.Nat.{ℕ, ◌-◌}
 use native.Mathlib.Omega.{arith}
 use lib.ListN.{length}
 use Rattle.decoded_cases.specs.Decoded.{Work}
-use Rattle.stacks.specs.Going.{going-counted, going-room, going_more, going_done}
+use Rattle.stacks.proofs.Going.{going-counted, going-room, going_more, going_done}
 use Rattle.stack_judgement.proofs.judge_messages.Goals as goal
 
 work-kept : {halves : List ℕ} {devices settings later : List (List ℕ)} {starts times powers forced : List ℕ} → Work halves devices settings starts powers

@@ -3,8 +3,8 @@ use native.Mathlib.Omega.{arith}
 use Prim.Native.Nat.{◌-◌}
 use lib.ListN.{length, drop, length-take, length-drop}
 use Rattle.layouts.proofs.Frames.{lies}
-use Rattle.stacks.specs.Turns.{taken-fits}
-use Rattle.stacks.specs.Going.{moved-of, moves-end, moves-refused, moves-message}
+use Rattle.stacks.proofs.Turns.{taken-fits}
+use Rattle.stacks.proofs.Going.{moved-of, moves-end, moves-refused, moves-message}
 use Rattle.stack_judgement.proofs.next_turn.Goals as goal
 
 pub slice_bounds-take_turn-count : goal.slice_bounds-take_turn-count

@@ -4,8 +4,8 @@ use mir.Syntax.{w64}
 use mir.ValLaws.{to_z-of_z}
 use Rattle.bits.specs.Twos.{to_twos}
 use native.Mathlib.Omega.{arith}
-use Rattle.wording.specs.Spelling.{from_zero, below-zero, accepted-from-zero, accepted-below-zero}
-use Rattle.wording.specs.Writes.{writes_as}
+use Rattle.wording.proofs.Spelling.{from_zero, below-zero, accepted-from-zero, accepted-below-zero}
+use Rattle.wording.proofs.Writes.{writes_as}
 use Rattle.verdict_lines.proofs.put_accepted.Goals as goal
 
 pub returns-then-v-lt9223372036854775808 : goal.returns-then-v-lt9223372036854775808

@@ -3,7 +3,7 @@ use mathlib.Core.Path.{sym, ap, ◌∙◌}
 use mir.Syntax.{w64}
 use mir.ValLaws.{to_z-of_z}
 use Rattle.model.specs.declared.Verdict.TheVariants.{Accepted}
-use Rattle.wording.specs.Spelling.{answered}
+use Rattle.wording.proofs.Spelling.{answered}
 use borrow.Author.Rules.{rules}
 use Rattle.verdict_lines.proofs.put_answer.Goals as goal
 

@@ -1,6 +1,6 @@
 -- Four numbers behind the word.
 use native.Mathlib.Omega.{arith}
-use Rattle.wording.specs.Writes.{writes}
+use Rattle.wording.proofs.Writes.{writes}
 use Rattle.verdict_lines.proofs.put_broken.Goals as goal
 
 pub returns : goal.returns

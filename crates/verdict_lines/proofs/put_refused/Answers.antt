@@ -1,7 +1,7 @@
 -- Two numbers behind the word.
 use native.Mathlib.Omega.{arith}
-use Rattle.wording.specs.Writes.{writes_as}
-use Rattle.wording.specs.Spelling.{refused-is}
+use Rattle.wording.proofs.Writes.{writes_as}
+use Rattle.wording.proofs.Spelling.{refused-is}
 use Rattle.verdict_lines.proofs.put_refused.Goals as goal
 
 pub returns : goal.returns

@@ -1,7 +1,7 @@
 -- Nothing is written ahead of the first number; each iteration writes one more.
 use Rattle.std.proofs.Common.{arith, rules}
-use Rattle.wording.specs.Spelling.{one_more, none_of}
-use Rattle.wording.specs.Writes.{nothing, puts-as}
+use Rattle.wording.proofs.Spelling.{one_more, none_of}
+use Rattle.wording.proofs.Writes.{nothing, puts-as}
 use Rattle.wording.proofs.put_figures.Goals as goal
 
 pub loop-figure-init : goal.loop-figure-init

@@ -1,6 +1,6 @@
 -- One behind the other.
 use native.Mathlib.Omega.{arith}
-use Rattle.wording.specs.Writes.{behind}
+use Rattle.wording.proofs.Writes.{behind}
 use Rattle.wording.proofs.put_indexed.Goals as goal
 
 pub returns : goal.returns

@@ -1,7 +1,7 @@
 -- The digits, of which 20 are enough.
 use Rattle.std.proofs.Common.{ap, arith, length, ◌∙◌}
-use Rattle.wording.specs.Spelling.{spells}
-use Rattle.wording.specs.Writes.{puts-as}
+use Rattle.wording.proofs.Spelling.{spells}
+use Rattle.wording.proofs.Writes.{puts-as}
 use Rattle.wording.proofs.put_number.Goals as goal
 
 pub put_bytes-requires : goal.put_bytes-requires

@@ -1,7 +1,7 @@
 -- One behind the other.
 use native.Mathlib.Omega.{arith}
 use lib.ListN.{length-append}
-use Rattle.wording.specs.Writes.{behind}
+use Rattle.wording.proofs.Writes.{behind}
 use Rattle.wording.proofs.put_surplus.Goals as goal
 
 pub returns : goal.returns

@@ -1,0 +1,4 @@
+pub mod Visited
+pub mod Whole
+pub mod Refusals
+pub mod Rows

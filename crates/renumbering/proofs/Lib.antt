@@ -1,0 +1,9 @@
+pub mod Permute
+pub mod Renumbered
+pub mod Alike
+pub mod Choices
+pub mod Needs
+pub mod Surplus
+pub mod Listed
+pub mod Message
+pub mod Promise

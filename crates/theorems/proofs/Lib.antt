@@ -1,0 +1,12 @@
+pub mod Plain
+pub mod Barless
+pub mod Floorless
+pub mod OfEdition
+pub mod Chosen
+pub mod BarsAsBefore
+pub mod AsBefore
+pub mod SizesAsBefore
+pub mod ReadOnOne
+pub mod Back
+pub mod Sizes
+pub mod Promise
