@@ -5,7 +5,7 @@ use Rattle.std.proofs.Math.Decide.{dec_le}
 use Rattle.std.proofs.Math.Dec.{leb→le, ltb→lt}
 use Rattle.numbers.specs.Tests.{and_in, and_l, and_r}
 use Rattle.bits.specs.Pick.{pick}
-pub use Rattle.model.specs.Named.{failing-append}
+pub use Rattle.model.proofs.Named.{failing-append}
 use Rattle.model.specs.Breaches.{failing, unless}
 
 -- the bit of number n, where its test fails

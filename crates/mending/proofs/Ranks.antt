@@ -64,16 +64,16 @@ module _ {A : Type 0} (f : A → Bool) where
 -- ---- the nearest
 module _ {A : Type 0} (f : A → ℕ) (R : A → A → Type 0) where
   figure-le : (x y : A) → (NotBehind f R) x y → f x ≤ f y
-  figure-le x y ((itself f R) e) = let g : f x ≡ f y = ap f e in omega arith
-  figure-le x y ((smaller f R) h) = omega arith
-  figure-le x y ((earlier f R) e r) = omega arith
+  figure-le x y (itself e) = let g : f x ≡ f y = ap f e in omega arith
+  figure-le x y (smaller h) = omega arith
+  figure-le x y (earlier e r) = omega arith
 
   ahead : (x y : A) → f x ≤ f y → R x y → (NotBehind f R) x y
   ahead x y h r = go (dec_le (f y) (f x))
     where
       go : Dec (f y ≤ f x) → (NotBehind f R) x y
-      go (yes k) = (earlier f R) (omega arith) r
-      go (no k) = (smaller f R) (omega arith)
+      go (yes k) = earlier (omega arith) r
+      go (no k) = smaller (omega arith)
 
   pub picked : (l : List A) → Ordered R l → (Picked f R) l (nearest f l)
   unfolding nearest
@@ -83,12 +83,12 @@ module _ {A : Type 0} (f : A → ℕ) (R : A → A → Type 0) where
       one : (z : A) → (Nearest f R) l z → (b : Bool) → (T b → f y ≤ f z) → (T (not b) → f z < f y) → (Picked f R) (y ∷ l) (pick b (some y) (some z))
       one z n true h k = record {
         inside = Memᴰ.head refl;
-        first = ((itself f R) refl, all-zip (λ d r m. ahead y d (let g = figure-le z d m in let j = h tt in omega arith) r) l o.0 n.first);
+        first = (itself refl, all-zip (λ d r m. ahead y d (let g = figure-le z d m in let j = h tt in omega arith) r) l o.0 n.first);
       }
-      one z n false h k = record { inside = Memᴰ.tail n.inside; first = ((smaller f R) (k tt), n.first) }
+      one z n false h k = record { inside = Memᴰ.tail n.inside; first = (smaller (k tt), n.first) }
 
       go : (r : Option A) → (Picked f R) l r → (Picked f R) (y ∷ l) (nearer f y r)
-      go none n = record { inside = Memᴰ.head refl; first = ((itself f R) refl, all_map (λ d m. absurd m) l n) }
+      go none n = record { inside = Memᴰ.head refl; first = (itself refl, all_map (λ d m. absurd m) l n) }
       go (some z) n = one z n (leb (f y) (f z)) (leb→le (f y) (f z)) (nleb→lt (f y) (f z))
 
 -- ---- two lists with the same nearest

@@ -26,17 +26,17 @@ not-held (n ∷ ns) = go n.1 (all_map (λ k f h. f h.1) (failing ns) (not-held n
 module _ (q : System) (p : Plan) where
   cell-where : (t i : ℕ) → t < intervals q → i < devices q → All (Where q p) (cell_breaches q p t i)
   unfolding cell_breaches
-  cell-where t i l k = map-of-all (Where q p) (cell_breach t i) (failing (cell_tests q p t i)) (all_map (λ n f. (in_cell q p) t i l k f refl refl) (failing (cell_tests q p t i)) (not-held (cell_tests q p t i)))
+  cell-where t i l k = map-of-all (Where q p) (cell_breach t i) (failing (cell_tests q p t i)) (all_map (λ n f. in_cell t i l k f refl refl) (failing (cell_tests q p t i)) (not-held (cell_tests q p t i)))
 
   link-where : (t : ℕ) → t < intervals q → All (Where q p) (link_breaches q p t)
   unfolding link_breaches
   link-where t l = let ns : List (ℕ × Bool) = (27, link_test q p t) ∷ [] in
-      map-of-all (Where q p) (link_breach t) (failing ns) (all_map (λ n f. (in-link q p) t l (λ h. f (h, tt)) refl refl) (failing ns) (not-held ns))
+      map-of-all (Where q p) (link_breach t) (failing ns) (all_map (λ n f. in-link t l (λ h. f (h, tt)) refl refl) (failing ns) (not-held ns))
 
   window-where : (i w : ℕ) → i < devices q → w < length (device q i).start_windows → All (Where q p) (one_window q p i w)
   unfolding one_window
   window-where i w l k = let ns : List (ℕ × Bool) = (20, window_test q p i w) ∷ [] in
-      map-of-all (Where q p) (window_breach i w) (failing ns) (all_map (λ n f. (in_window q p) i w l k (λ h. f (h, tt)) refl) (failing ns) (not-held ns))
+      map-of-all (Where q p) (window_breach i w) (failing ns) (all_map (λ n f. in_window i w l k (λ h. f (h, tt)) refl) (failing ns) (not-held ns))
 
   pub listed-where : All (Where q p) (breaches q p)
   unfolding breaches window_breaches

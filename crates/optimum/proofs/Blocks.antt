@@ -36,7 +36,7 @@ module _ {A : Type 0} (set cap floor : A → ℕ) (js : List A) (p : ℕ → ℕ
   close : (a g r q w o c : ℕ) → a ≡ g + min r (q - w) → c ≡ g + r → w ≡ g + o → w ≤ q → a ≡ min c (q - o)
   close a g r q w o c e f h l = omega arith
 
-  module _ (fill : Formula) (i : ℕ) where
+  module _ (fill : Formula set cap floor js p x) (i : ℕ) where
     one_more : (ks : List A) (j : A) (ls : List A) → ks ++ j ∷ ls ≡ js → Grown i ks → Grown i (ks ++ j ∷ [])
     one_more ks j ls e g = rw (of-append set x i ks (j ∷ []), of-append set floor i ks (j ∷ []), of-append set room i ks (j ∷ [])) (go (eqb (set j) i) refl)
       where

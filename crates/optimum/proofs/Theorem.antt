@@ -74,7 +74,7 @@ module _ {A : Type 0} (set cap floor : A → ℕ) (lo hi : ℕ → ℕ) (sets : 
           go (inl h) = inl (all (λ i. subst (λ (n : ℕ). n ≤ (dispatched set cap floor lo hi sets js target) i) (lev i) (h i)) sets)
           go (inr h) = inr (all (λ i. subst (λ (n : ℕ). (dispatched set cap floor lo hi sets js target) i ≤ n) (lev i) (h i)) sets)
 
-      module _ (x : A → ℕ) (fill : Formula set cap floor js dispatched x) where
+      module _ (x : A → ℕ) (fill : Formula set cap floor js (dispatched set cap floor lo hi sets js target) x) where
         ours : Ours set cap floor lo hi sets js target (dispatched set cap floor lo hi sets js target) x
         ours = record {
           balanced = balanced;

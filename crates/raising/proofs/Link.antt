@@ -66,7 +66,7 @@ module _ (lo hi : List ℕ) where
       one : (i : ℕ) → gate (eqb s i) ((Power lo hi) w s) ≤ (Power lo hi) w i
       one i = go i (eqb s i) refl
 
-  module _ (r : Rise) (o : Offer) (lev : Level r) (sane : Sane o) where
+  module _ (r : Rise) (o : Offer) (lev : Level lo hi r) (sane : Sane o) where
     abbrev w : ℕ → ℕ
     w = at r.heights
 

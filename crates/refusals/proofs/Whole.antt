@@ -149,17 +149,17 @@ module _ {A : Type 0} (l : Layout A) (u : Traced l) where
       settled : (a : A) (q : Place) → Passed s begin (fields_of s) q → (f c : Clash) → tail_fault s q.at ≡ f → q.clash ≡ c → settle a f c ≡ fails x → (Refusal l u) s x
       settled a q g (At b) c d k e =
           let z : F.Tail b ≡ x = same e in
-          (by-tail l u) g.good (ap (tail_fault s) (sym g.ends) ∙ d ∙ ap (λ (y : Fault). At (returned_by y)) z) (sym (ap number_of z))
+          by-tail g.good (ap (tail_fault s) (sym g.ends) ∙ d ∙ ap (λ (y : Fault). At (returned_by y)) z) (sym (ap number_of z))
       settled a q g Clear (At b) d k e =
           let z : F.Contradiction b ≡ x = same e in
           let c : Contradiction 0 (fields_of s) b = clash-first 0 (fields_of s) b (sym g.clash ∙ k) in
-          (by-clash l u) g.good (ap (tail_fault s) (sym g.ends) ∙ d) (subst (λ (n : ℕ). Contradiction 0 (fields_of s) n) (ap returned_by z) c) (sym (ap number_of z))
+          by-clash g.good (ap (tail_fault s) (sym g.ends) ∙ d) (subst (λ (n : ℕ). Contradiction 0 (fields_of s) n) (ap returned_by z) c) (sym (ap number_of z))
       settled a q g Clear Clear d k e = absurd (let z : ◌≡◌ {A = ℕ} 0 1 = cc in omega arith)
 
       go : Walk s begin (fields_of s) (λ X bad next. l.read {X = X} s begin bad next) → (Refusal l u) s x
       go (stops f r e) =
           let t : f ≡ x = same (sym (e (Whole A) fails (onward s)) ∙ h) in
-          (by_field l u) (field_told s (fields_of s) x (subst (λ (y : Fault). RefusedAt s 0 (fields_of s) y) t r))
+          by_field (field_told s (fields_of s) x (subst (λ (y : Fault). RefusedAt s 0 (fields_of s) y) t r))
       go (goes a q g e) = settled a q g (tail_fault s q.at) q.clash refl refl (sym (e (Whole A) fails (onward s)) ∙ h)
 
   pub field-wrong : (s : List ℕ) → ¬ AllGood s 0 (u.fields s begin) → (Wrong l u) s
@@ -175,9 +175,9 @@ module _ {A : Type 0} (l : Layout A) (u : Traced l) where
   field_of s x h n = go (refusal s x h)
     where
       go : (Refusal l u) s x → FieldTold s (u.fields s begin) x
-      go ((by_field l u) t) = t
-      go ((by-tail l u) g t e) = absurd (omega arith)
-      go ((by-clash l u) g t c e) = absurd (omega arith)
+      go (by_field t) = t
+      go (by-tail g t e) = absurd (omega arith)
+      go (by-clash g t c e) = absurd (omega arith)
 
   -- such a message passes, and no other
   pub passes-faultless : (s : List ℕ) (a : A) → read_whole l s ≡ passes a → (Faultless l u) s

@@ -2,6 +2,9 @@ pub mod Permute
 pub mod Renumbered
 pub mod Alike
 pub mod Choices
+pub mod Seen
+pub mod Largest
+pub mod Totals
 pub mod Needs
 pub mod Surplus
 pub mod Listed

@@ -21,8 +21,7 @@ use Rattle.renumbering.specs.Permute.{Renumbering}
 use Rattle.renumbering.specs.Renumbered.{Moved, carried_number, carried_breach, undoing}
 use Rattle.renumbering.proofs.Renumbered.{moved_back}
 use Rattle.renumbering.proofs.Alike.{cell-tests-same, window-test-same}
-use Rattle.renumbering.specs.Needs.{alike}
-use Rattle.renumbering.proofs.Needs.{over-devicesℕ}
+use Rattle.renumbering.proofs.Seen.{alike, over-devicesℕ}
 
 module _ (c : Case) (p : Plan) (r : Renumbering (devices c.system)) (c' : Case) (p' : Plan) (m : Moved c p r c' p') where
   abbrev q : System

@@ -25,12 +25,12 @@ use Rattle.model.specs.ByEdition.{completion_layout, device_choice, interval_cho
 use Rattle.model.specs.Editions.{widths_of}
 use Rattle.model.specs.Ours.{ours}
 use Rattle.model.specs.Judgement.{written, energy_windows, counts_of, completion_in, our_surplus, completion_bytes}
-use Rattle.renumbering.specs.Permute.{Renumbering, seen_back}
-use Rattle.renumbering.proofs.Permute.{renumbered-sumℕ}
+use Rattle.renumbering.specs.Permute.{Renumbering}
+use Rattle.renumbering.proofs.Permute.{renumbered-sumℕ, seen_back}
 use Rattle.renumbering.specs.Renumbered.{rearranged, Moved, CarriedChoices}
 use Rattle.renumbering.proofs.Needs.{ours-carried}
 use Rattle.renumbering.proofs.Surplus.{our-surplus-same, windows-same}
-use Rattle.renumbering.specs.Message.{n, no_choice, overruns_of, q, rearranged_interval, rearranged_written, windows_of}
+use Rattle.renumbering.specs.Message.{no_choice, overruns_of, rearranged_interval, rearranged_written, windows_of}
 
 -- ---- lists by number
 map_rows : {A : Type 0} (f : ℕ → A) (n : ℕ) → map f (up_to n) ≡ rows f n
@@ -66,6 +66,9 @@ part_of {A} f w e (suc n) i h = ap (λ (l : List A). take (w i) (drop (sumℕ w 
 
 -- ---- the message
 module _ (c : Case) (p : Plan) (r : Renumbering (devices c.system)) (c' : Case) (p' : Plan) (m : Moved c p r c' p') where
+  abbrev q : System
+  q = c.system
+
   abbrev q' : System
   q' = c'.system
 
@@ -73,14 +76,14 @@ module _ (c : Case) (p : Plan) (r : Renumbering (devices c.system)) (c' : Case) 
     choice_of : Completion ℕ → ℕ → ℕ → DeviceChoice
     choice_of x t i = record { started = x.started t i; stopped = x.stopped t i; state = x.state t i; blocks = map (x.block t i) blocks }
 
-    choice-moved : (t i : ℕ) → i < devices (q c p r c' p' m) → choice_of x' t (r.to i) ≡ choice_of x t i
+    choice-moved : (t i : ℕ) → i < devices q → choice_of x' t (r.to i) ≡ choice_of x t i
     unfolding choice_of
     choice-moved t i h = λ k. record { started = a.started t i h k; stopped = a.stopped t i h k; state = a.state t i h k; blocks = map (λ b. a.block t i b h k) blocks }
 
-    devices-moved : (t : ℕ) → map (choice_of x' t) (up_to (devices q')) ≡ rearranged r no_choice (map (choice_of x t) (up_to (devices (q c p r c' p' m))))
+    devices-moved : (t : ℕ) → map (choice_of x' t) (up_to (devices q')) ≡ rearranged r no_choice (map (choice_of x t) (up_to (devices q)))
     devices-moved t = ap (λ (n : ℕ). map (choice_of x' t) (up_to n)) m.count ∙ maps-moved r no_choice (choice_of x t) (choice_of x' t) (choice-moved t)
 
-    intervals-moved : (written q' x' z).intervals ≡ map (rearranged_interval r) (written (q c p r c' p' m) x z).intervals
+    intervals-moved : (written q' x' z).intervals ≡ map (rearranged_interval r) (written q x z).intervals
     unfolding written choice_of
     intervals-moved =
         (λ k. map (λ t. record {
@@ -99,37 +102,37 @@ module _ (c : Case) (p : Plan) (r : Renumbering (devices c.system)) (c' : Case) 
           mismatch = record { first = a.mismatch t 0 k; second = a.mismatch t 1 k };
           reactive_mismatch = record { first = a.reactive_mismatch t 0 k; second = a.reactive_mismatch t 1 k };
         }) (up_to (length (m.halves k))))
-        ∙ sym (maps-twice (rearranged_interval r) _ (up_to (intervals (q c p r c' p' m))))
+        ∙ sym (maps-twice (rearranged_interval r) _ (up_to (intervals q)))
 
     overruns-of : Completion ℕ → System → ℕ → List ℕ
-    overruns-of x (q c p r c' p' m) i = map (x.overrun i) (up_to (windows_of (q c p r c' p' m) i))
+    overruns-of x q i = map (x.overrun i) (up_to (windows_of q i))
 
-    overruns-moved : (written q' x' z).overruns ≡ gather (λ j. overruns_of (windows_of (q c p r c' p' m)) (r.back j) (written (q c p r c' p' m) x z).overruns) (up_to (devices (q c p r c' p' m)))
+    overruns-moved : (written q' x' z).overruns ≡ gather (λ j. overruns_of (windows_of q) (r.back j) (written q x z).overruns) (up_to (devices q))
     unfolding written overruns-of
     overruns-moved =
         ap (λ (n : ℕ). gather (overruns-of x' q') (up_to n)) m.count
-        ∙ gather_cong (overruns-of x' q') (λ j. overruns_of (windows_of (q c p r c' p' m)) (r.back j) (gather (overruns-of x (q c p r c' p' m)) (up_to (devices (q c p r c' p' m))))) (up_to (devices (q c p r c' p' m)))
-        (all-up_to _ (devices (q c p r c' p' m)) (λ j l.
-        sym (seen_back r (overruns-of x (q c p r c' p' m)) (overruns-of x' q') (λ i h k. map (λ w. a.overrun i w h k) (up_to (length (m.device i h k).energy_windows))) j l)
-        ∙ sym (part_of (overruns-of x (q c p r c' p' m)) (windows_of (q c p r c' p' m)) (λ i. maps-long (x.overrun i) (windows_of (q c p r c' p' m) i)) (devices (q c p r c' p' m)) (r.back j) (r.back_below j l))))
+        ∙ gather_cong (overruns-of x' q') (λ j. overruns_of (windows_of q) (r.back j) (gather (overruns-of x q) (up_to (devices q)))) (up_to (devices q))
+        (all-up_to _ (devices q) (λ j l.
+        sym (seen_back r (overruns-of x q) (overruns-of x' q') (λ i h k. map (λ w. a.overrun i w h k) (up_to (length (m.device i h k).energy_windows))) j l)
+        ∙ sym (part_of (overruns-of x q) (windows_of q) (λ i. maps-long (x.overrun i) (windows_of q i)) (devices q) (r.back j) (r.back_below j l))))
 
-    pub written-moved : written q' x' z ≡ rearranged_written r (windows_of (q c p r c' p' m)) (written (q c p r c' p' m) x z)
+    pub written-moved : written q' x' z ≡ rearranged_written r (windows_of q) (written q x z)
     unfolding rearranged_written written
     written-moved = λ k. record { intervals = intervals-moved k; overruns = overruns-moved k; surplus = z }
 
   -- the fields that an accepted plan's message gets: those of the old pair, rearranged
-  pub ours-moved : (z : ℤ) → written q' (ours c' p') z ≡ rearranged_written r (windows_of (q c p r c' p' m)) (written (q c p r c' p' m) (ours c p) z)
+  pub ours-moved : (z : ℤ) → written q' (ours c' p') z ≡ rearranged_written r (windows_of q) (written q (ours c p) z)
   ours-moved z = written-moved (ours c p) (ours c' p') (ours-carried c p r c' p' m) z
 
-  layout-same : (e : ℕ) → completion_in e q' ≡ completion_in e (q c p r c' p' m)
+  layout-same : (e : ℕ) → completion_in e q' ≡ completion_in e q
   layout-same e = λ k. completion_layout e (record { devices = m.count k; intervals = length (m.halves k); zones = length (m.zones k) }) (windows-same c p r c' p' m k)
 
   pub bytes-moved : (e : ℕ) → completion_bytes (record { edition = e; case = c' }) p'
-      ≡ bytes ((completion_in e (q c p r c' p' m)).write (rearranged_written r (windows_of (q c p r c' p' m)) (written (q c p r c' p' m) (ours c p) (our_surplus c p))))
+      ≡ bytes ((completion_in e q).write (rearranged_written r (windows_of q) (written q (ours c p) (our_surplus c p))))
   unfolding completion_bytes
   bytes-moved e =
       (λ k. bytes ((layout-same e k).write (written q' (ours c' p') (our-surplus-same c p r c' p' m k))))
-      ∙ ap (λ (w : Written). bytes ((completion_in e (q c p r c' p' m)).write w)) (ours-moved (our_surplus c p))
+      ∙ ap (λ (w : Written). bytes ((completion_in e q).write w)) (ours-moved (our_surplus c p))
 
 -- ---- as long
 maps-shifted : {A : Type 0} (f : ℕ → A) (k n : ℕ) → map f (range (suc k) n) ≡ map (λ i. f (suc i)) (range k n)
@@ -174,15 +177,18 @@ wide-long w xs ys h = wide ys ∙ ap (λ (n : ℕ). n * w) h ∙ sym (wide xs)
     wide l = gather-wide (bits_of w) w l (all (λ v. length-bits w v) l)
 
 module _ (c : Case) (p : Plan) (r : Renumbering (devices c.system)) (c' : Case) (p' : Plan) (m : Moved c p r c' p') where
+  abbrev n : ℕ
+  n = devices c.system
+
   abbrev interval : ℕ → Layout IntervalChoice
-  interval e = interval_choice e (n c p r c' p' m) (zones c.system)
+  interval e = interval_choice e n (zones c.system)
 
   -- an interval's part, of as many devices
-  interval-long : (e : ℕ) (v : IntervalChoice) → length v.devices ≡ (n c p r c' p' m) → Long (interval e) (rearranged_interval r v) v
+  interval-long : (e : ℕ) (v : IntervalChoice) → length v.devices ≡ n → Long (interval e) (rearranged_interval r v) v
   unfolding interval_choice held list
-  interval-long e v h = pair-long (list (n c p r c' p' m) device_choice) _ (rearranged r no_choice v.devices) v.devices _ _ (rearranged-total r no_choice device_choice.write v.devices h) refl
+  interval-long e v h = pair-long (list n device_choice) _ (rearranged r no_choice v.devices) v.devices _ _ (rearranged-total r no_choice device_choice.write v.devices h) refl
 
-  intervals-long : (e : ℕ) (vs : List IntervalChoice) → All (λ v. length v.devices ≡ (n c p r c' p' m)) vs
+  intervals-long : (e : ℕ) (vs : List IntervalChoice) → All (λ v. length v.devices ≡ n) vs
       → length (gather (interval e).write (map (rearranged_interval r) vs)) ≡ length (gather (interval e).write vs)
   unfolding gather
   intervals-long e [] h = refl
@@ -196,9 +202,9 @@ module _ (c : Case) (p : Plan) (r : Renumbering (devices c.system)) (c' : Case) 
         length-append (f v) (gather f vs),
       )
 
-  written-full : (x : Completion ℕ) (z : ℤ) → All (λ v. length v.devices ≡ (n c p r c' p' m)) (written c.system x z).intervals
+  written-full : (x : Completion ℕ) (z : ℤ) → All (λ v. length v.devices ≡ n) (written c.system x z).intervals
   unfolding written
-  written-full x z = map-of-all (λ (v : IntervalChoice). length v.devices ≡ (n c p r c' p' m)) _ (up_to (intervals c.system)) (all (λ t. maps-long _ (n c p r c' p' m)) (up_to (intervals c.system)))
+  written-full x z = map-of-all (λ (v : IntervalChoice). length v.devices ≡ n) _ (up_to (intervals c.system)) (all (λ t. maps-long _ n) (up_to (intervals c.system)))
 
   overruns-many : (x : Completion ℕ) (q : System) (z : ℤ) → length (written q x z).overruns ≡ energy_windows q
   unfolding written energy_windows

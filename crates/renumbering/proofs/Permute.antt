@@ -1,15 +1,15 @@
 -- Renumbering n things: sums and largest figures over all of them do not see it.
-use Rattle.std.specs.Prelude.{◌≡◌, refl, Bool, true, false, List, [], ◌∷◌, ℕ, zero, suc, ◌+◌, ◌≤◌, ◌<◌}
+use Rattle.std.specs.Prelude.{◌≡◌, refl, Bool, true, false, List, [], ◌∷◌, ℕ, zero, suc, ◌+◌, ◌≤◌, ◌<◌, max}
 use Rattle.std.proofs.Common.{sym, ◌∙◌, ap, arith, ne_eqb}
 use Rattle.std.proofs.Math.Decide.{dec_le}
 use lib.Dec.{eqb, eqb_refl}
 use lib.IntN.{ℤ, pos, ◌+ℤ◌}
 use Rattle.bits.specs.Pick.{pick}
 use Rattle.numbers.specs.Z.{at, nat, ◌⊕◌, by≡}
-use Rattle.numbers.specs.Base.{range, up_to}
+use Rattle.numbers.specs.Base.{range, up_to, largest}
 use Rattle.numbers.specs.Sum.{All, all, sumℤ, sumℕ, sum-cong, sum-add, sumℕ-pos}
-use Rattle.numbers.specs.Every.{all-range, all-up_to}
-use Rattle.renumbering.specs.Permute.{Renumbering}
+use Rattle.numbers.specs.Every.{all-range, all-up_to, largest-bound}
+use Rattle.renumbering.specs.Permute.{Renumbering, undone}
 
 -- ---- sums
 zero-add : (z : ℤ) → pos 0 +ℤ z ≡ z
@@ -75,3 +75,25 @@ module _ {n : ℕ} (r : Renumbering n) where
     where
       natural : {a b : ℕ} → pos a ≡ pos b → a ≡ b
       natural e = ap lib.IntN.nat_abs e
+
+-- ---- largest figures
+pub largest-at : (f : ℕ → ℕ) (k n j : ℕ) → k ≤ j → j < k + n → f j ≤ largest f (range k n)
+unfolding range largest
+largest-at f k zero j a b = absurd (omega arith)
+largest-at f k (suc n) j a b = go (dec_le j k) (λ c. largest-at f (suc k) n j c (omega arith))
+  where
+    go : Dec (j ≤ k) → (suc k ≤ j → f j ≤ largest f (range (suc k) n)) → f j ≤ max (f k) (largest f (range (suc k) n))
+    go (yes e) r = let s : j ≡ k = omega arith in rw s (omega arith)
+    go (no e) r = omega (arith, r (omega arith))
+
+module _ {n : ℕ} (r : Renumbering n) where
+  largest-below : (f g : ℕ → ℕ) → ((i : ℕ) → i < n → g (r.to i) ≡ f i) → largest f (up_to n) ≤ largest g (up_to n)
+  largest-below f g h = largest-bound f (largest g (up_to n)) (up_to n)
+      (all-up_to _ n (λ i l. rw (sym (h i l)) (largest-at g 0 n (r.to i) (omega arith) (omega (arith, r.to_below i l)))))
+
+  -- the same, seen from the other numbers
+  pub seen_back : {A : Type 0} (f g : ℕ → A) → ((i : ℕ) → i < n → g (r.to i) ≡ f i) → (j : ℕ) → j < n → f (r.back j) ≡ g j
+  seen_back f g h j l = sym (h (r.back j) (r.back_below j l)) ∙ ap g (r.again j l)
+
+pub renumbered-largest : {n : ℕ} (r : Renumbering n) (f g : ℕ → ℕ) → ((i : ℕ) → i < n → g (r.to i) ≡ f i) → largest g (up_to n) ≡ largest f (up_to n)
+renumbered-largest r f g h = omega (arith, largest-below r f g h, largest-below (undone r) g f (seen_back r f g h))

@@ -17,8 +17,8 @@ use Rattle.renumbering.specs.Permute.{Renumbering}
 use Rattle.renumbering.specs.Renumbered.{Moved, CarriedChoices}
 use Rattle.renumbering.specs.Alike.{u_same}
 use Rattle.renumbering.proofs.Choices.{state-cost-same}
-use Rattle.renumbering.specs.Needs.{alike}
-use Rattle.renumbering.proofs.Needs.{over-devices, over-devicesℕ, ours-carried}
+use Rattle.renumbering.proofs.Seen.{alike, over-devices, over-devicesℕ}
+use Rattle.renumbering.proofs.Needs.{ours-carried}
 
 module _ (c : Case) (p : Plan) (r : Renumbering (devices c.system)) (c' : Case) (p' : Plan) (m : Moved c p r c' p') where
   abbrev q : System

@@ -1,6 +1,5 @@
 pub mod Permute
 pub mod Renumbered
 pub mod Alike
-pub mod Needs
 pub mod Message
 pub mod Promise

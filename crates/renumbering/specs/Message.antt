@@ -5,13 +5,11 @@ use Prim.Native.Nat.{ℕ}
 use Rattle.std.proofs.Math.ListN.{length}
 use Rattle.numbers.specs.Base.{up_to, gather}
 use Rattle.numbers.specs.Sum.{sumℕ}
-use Rattle.model.specs.Case.{System, Plan, Case}
-use Rattle.model.specs.Forced.{intervals, devices, zones, device}
-use Rattle.model.specs.Rules.{blocks}
+use Rattle.model.specs.Case.{System}
+use Rattle.model.specs.Forced.{device}
 use Rattle.model.specs.Messages.{DeviceChoice, IntervalChoice, Written}
-use Rattle.model.specs.Judgement.{energy_windows}
 use Rattle.renumbering.specs.Permute.{Renumbering}
-use Rattle.renumbering.specs.Renumbered.{rearranged, Moved}
+use Rattle.renumbering.specs.Renumbered.{rearranged}
 
 -- ---- a completion's message, rearranged
 abbrev pub no_choice : DeviceChoice
@@ -35,12 +33,3 @@ rearranged_written {n} r windows w = record {
   overruns = gather (λ j. overruns_of windows (r.back j) w.overruns) (up_to n);
   surplus = w.surplus;
 }
-
--- ---- the message
-module _ (c : Case) (p : Plan) (r : Renumbering (devices c.system)) (c' : Case) (p' : Plan) (m : Moved c p r c' p') where
-  abbrev pub q : System
-  q = c.system
-
-module _ (c : Case) (p : Plan) (r : Renumbering (devices c.system)) (c' : Case) (p' : Plan) (m : Moved c p r c' p') where
-  abbrev pub n : ℕ
-  n = devices c.system

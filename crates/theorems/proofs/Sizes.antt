@@ -226,7 +226,7 @@ module _ (c : Case) (p : Plan) (rq : SystemRange c.system) (rp : PlanRange c.sys
   overrun-fits i w m = omega (arith, overrun-bound (q c p rq rp ok) p rq rp ok most_intervals rq.intervals i w m)
 
   -- in edition e, where an edition that lacks reactive power knows none, and one that lacks busbars has one
-  module _ (e : ℕ) (lacks : Lacks e q p) where
+  module _ (e : ℕ) (lacks : Lacks e (q c p rq rp ok) p) where
     two-fit : (t z : ℕ) → z < zones (q c p rq rp ok)
         → Where (has 2 e) no_reactive_reserves FitsTwo (record { qru = max_zero (C.reactive_need (q c p rq rp ok) p t z C.qru); qrd = max_zero (C.reactive_need (q c p rq rp ok) p t z C.qrd) })
     two-fit t z m = go (has 2 e) lacks.plain
