@@ -1,4 +1,4 @@
-//! Links the static library that `rt staticlib abi` writes.
+//! Links the static library that `tools/artifacts` of the repository builds.
 
 fn main() {
     let library = concat!(env!("CARGO_MANIFEST_DIR"), "/../target/staticlib");

@@ -7,7 +7,7 @@ use std::fs;
 use std::path::Path;
 use std::process::Command;
 
-use common::{each_case, each_pair, Scratch};
+use common::{each_case, each_pair, Scratch, Symlink};
 use reference::breaches::breaches_of;
 use reference::case::{
     read_case, Device, Link, LinkLine, ReactiveReserves, Reserves, Side, StartWindow, Status,
@@ -1358,15 +1358,15 @@ fn renew_refuses_an_output_that_is_an_input() {
     let scratch = Scratch::new("renew-apart");
     let [case, plan] = scratch.day(&lettered('a'));
     let before = [&case, &plan].map(|path| fs::read(path).expect("it is there"));
-    let linked = scratch.path("linked");
-    std::os::unix::fs::symlink(&case, &linked).expect("a link");
+    let link = Symlink::new(&case, scratch.path("linked"));
+    let linked = &link.0;
     let hard = scratch.path("hard");
     fs::hard_link(&plan, &hard).expect("a link");
     let roundabout = format!("{}/./case", scratch.0.display());
     let [one, other] = [scratch.path("one"), scratch.path("other")];
     for (words, named) in [
         (vec![&case, &case], &case),
-        (vec![&case, &linked], &linked),
+        (vec![&case, linked], linked),
         (vec![&case, &roundabout], &roundabout),
         (vec![&case, &plan, &plan, &one], &plan),
         (vec![&case, &one, &plan, &case], &case),
@@ -1654,9 +1654,9 @@ fn market_writes_a_whole_file_or_none() {
         line.starts_with(&format!("refused 1 8: plan {cut_plan}: ")),
         "{line}"
     );
-    let linked = scratch.path("linked");
-    std::os::unix::fs::symlink(&plan, &linked).expect("a link");
-    for input in [&case, &plan, &linked] {
+    let link = Symlink::new(&plan, scratch.path("linked"));
+    let linked = &link.0;
+    for input in [&case, &plan, linked] {
         let line = complaint(&["market", &case, &plan, input], 3);
         assert_eq!(line, format!("desk: {input} is an input (see desk --help)"));
     }
@@ -1915,9 +1915,9 @@ fn mend_writes_a_mended_plan_or_nothing() {
         line.starts_with(&format!("refused 1 8: plan {cut_plan}: ")),
         "{line}"
     );
-    let linked = scratch.path("linked");
-    std::os::unix::fs::symlink(&broken, &linked).expect("a link");
-    for input in [&case, &broken, &linked] {
+    let link = Symlink::new(&broken, scratch.path("linked"));
+    let linked = &link.0;
+    for input in [&case, &broken, linked] {
         let line = complaint(&["mend", &case, &broken, "-o", input], 3);
         assert_eq!(line, format!("desk: {input} is an input (see desk --help)"));
     }

@@ -1,6 +1,6 @@
 //! The batch program's input and output when they fail, are interrupted, come in pieces or have no
 //! room: with what the system has for it, and with a library in C between the two (`streams.c`),
-//! which needs `cc`. It is the program that `rt check batch` builds into `target/bin` of the
+//! which needs `cc`. It is the program that `tools/artifacts` puts into `target/bin` of the
 //! repository. Where `KADUNFO_DUMPS` names a folder it is run under callgrind, and each run leaves a
 //! dump there for the reference's `mask`.
 
@@ -59,7 +59,7 @@ const OUTPUT_FAILED: &str = "output failed\n";
 fn words() -> Vec<String> {
     assert!(
         Path::new(PROGRAM).exists(),
-        "`rt check batch` builds the program"
+        "`tools/artifacts` builds the program"
     );
     let mut words = vec![PROGRAM.to_string()];
     if let Ok(folder) = std::env::var("KADUNFO_DUMPS") {

@@ -1,5 +1,5 @@
 //! The batch program while its input is not ready: it sleeps between two tries, so that fifty take
-//! half a second and not some microseconds, and answers as it does to input that is. It is the program that `rt check batch` builds into `target/bin` of the
+//! half a second and not some microseconds, and answers as it does to input that is. It is the program that `tools/artifacts` puts into `target/bin` of the
 //! repository.
 
 use std::fs;
@@ -42,7 +42,7 @@ fn waiting_sleeps() {
         .stdin(OwnedFd::from(receiver))
         .stdout(Stdio::piped())
         .spawn()
-        .expect("`rt check batch` builds the program");
+        .expect("`tools/artifacts` builds the program");
 
     let (begun, rest) = input.split_at(input.len() / 2);
     sender.write_all(begun).expect("the first half is sent");

@@ -1,7 +1,7 @@
 // Reads a batch frame by frame and writes the answers. Bytes are only copied here: `answers` says what they mean.
 #![tactic(auto)]
 
-ghost use Rattle.std.specs.Prelude.{◌≡◌, true, ℕ, List, ◌≤◌, ◌<◌, min, length, take, IfOk, OnOk, IfErr, OnErr, IfSome};
+ghost use Rattle.std.specs.Prelude.{◌≡◌, true, ℕ, List, ◌+◌, ◌≤◌, ◌<◌, min, length, take, IfOk, OnOk, IfErr, OnErr, IfSome};
 ghost use Rattle.std.specs.Io.KnownBytes.{Keeps, Appends, Consumes};
 ghost use Rattle.model.specs.Editions.{batch};
 ghost use Rattle.case_reader.specs.Whole.{CaseRoom};
@@ -177,6 +177,7 @@ pub fn start<S: Clock + Eprint, R: Read, W: Write>(
 ) -> io::Result<Started>
     requires { (length frame.old ≡ frame_room) × CaseRoom batch.devices batch.intervals halves.old zones.old minima.old devices.old cells.old }
     ensures rest { IfOk result (λ r. r.rest ≤ left) }
+    ensures size { IfOk result (λ r. length (frame_read left r.rest frame.new) + r.rest ≡ left) }
     ensures read { IfOk result (λ r. ReadsFrame (R.remaining input.old) (R.remaining input.new) left (frame_read left r.rest frame.new)) }
     ensures told { IfOk result (λ r. let f = frame_read left r.rest frame.new in
         Appends (W.contents output.old) (W.contents output.new) (texts (case_lines f (framed f)))) }
@@ -236,6 +237,7 @@ pub fn next<S: Clock + Eprint, R: Read, W: Write>(
     requires decoded { Decoded front halves.now zones.now minima.now devices.now cells.now × Work halves.now devices.now settings.old starts.old powers.old }
     requires devices_len_bound { (length devices.now ≤ batch.devices) × (length halves.now ≤ batch.intervals) × (length frame.old ≡ frame_room) × (result_room ≤ length res.old) }
     ensures rest { IfOk result (λ r. (r.rest ≤ left) × (r.more ≡ true → r.rest < left)) }
+    ensures size { IfOk result (λ r. length (frame_read left r.rest frame.new) + r.rest ≡ left) }
     ensures read { IfOk result (λ r. ReadsFrame (R.remaining input.old) (R.remaining input.new) left (frame_read left r.rest frame.new)) }
     ensures told { let x = stated_rows front halves.now zones.now minima.now devices.now cells.now in
         IfOk result (λ r. let f = frame_read left r.rest frame.new in

@@ -81,6 +81,22 @@ impl Scratch {
     }
 }
 
+/// A link that is gone when the test ends, well or not: `rt ci` takes no checkout with a link in it.
+pub struct Symlink(pub String);
+
+impl Symlink {
+    pub fn new(to: &str, name: String) -> Symlink {
+        std::os::unix::fs::symlink(to, &name).expect("a link");
+        Symlink(name)
+    }
+}
+
+impl Drop for Symlink {
+    fn drop(&mut self) {
+        let _ = fs::remove_file(&self.0);
+    }
+}
+
 /// What is called in a thread that has the stack which the header promises to be enough.
 pub fn in_promised_stack<T: Send>(call: impl FnOnce() -> T + Send) -> T {
     thread::scope(|scope| {
