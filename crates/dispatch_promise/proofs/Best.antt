@@ -406,7 +406,7 @@ module _ (c : Case) (t : ℕ) (sets earlier : List ℕ) (h : Asked c t sets earl
       cheapest p y s =
           let r = rising (js c t sets earlier h) (merit-order (own c t sets earlier h)) in
           subst (λ (z : ℤ). z ≤ℤ cost_of y (js c t sets earlier h)) our-cost (subst (λ (z : ℤ). cost price_of (filling c t sets earlier h target meets) (js c t sets earlier h) ≤ℤ z) (rival-cost p y s)
-          (T.cheapest place cap_of floor_of lo hi places (js c t sets earlier h) target fits in-places bounded enough.0 enough.1 (filling c t sets earlier h target meets) fill price_of r.0 r.1 (rival p y s) (feasible p y s)))
+          (T.cheapest place cap_of floor_of lo hi places (js c t sets earlier h) target fits in-places bounded enough.0 enough.1 (filling c t sets earlier h target meets) fill price_of r.0 r.1 (rival c t sets earlier h target p y s) (feasible p y s)))
 
       -- "the first offer in merit order gets the most, then the next": more than any other such powers give it that agree on the offers ahead of it, whatever they cost
       pub first-most : (p : ℕ → ℤ) (y : ℕ → ℕ → ℤ) → Such c t sets earlier target p y → (ks : List Offer) (o : Offer) (ls : List Offer) → ks ++ o ∷ ls ≡ (js c t sets earlier h)
@@ -414,8 +414,8 @@ module _ (c : Case) (t : ℕ) (sets earlier : List ℕ) (h : Asked c t sets earl
       unfolding power_of
       first-most p y s ks o ls e same =
           let split = all_split (λ o. carries (ours c t sets earlier h target meets) o ≡ pos ((filling c t sets earlier h target meets) o)) ks (o ∷ ls) (subst (λ (l : List Offer). All (λ o. carries (ours c t sets earlier h target meets) o ≡ pos ((filling c t sets earlier h target meets) o)) l) (sym e) our-whole) in
-          let other = all_split (λ o. pos (rival p y s o) ≡ carries y o) ks (o ∷ ls) (subst (λ (l : List Offer). All (λ o. pos (rival p y s o) ≡ carries y o) l) (sym e) (rival-whole p y s)) in
-          let agree : All (λ k. rival p y s k ≡ (filling c t sets earlier h target meets) k) ks = all-zip (λ k a b. let z : pos (rival p y s k) ≡ pos ((filling c t sets earlier h target meets) k) = b ∙ a in omega (whole, z)) ks
+          let other = all_split (λ o. pos (rival c t sets earlier h target p y s o) ≡ carries y o) ks (o ∷ ls) (subst (λ (l : List Offer). All (λ o. pos (rival c t sets earlier h target p y s o) ≡ carries y o) l) (sym e) (rival-whole p y s)) in
+          let agree : All (λ k. rival c t sets earlier h target p y s k ≡ (filling c t sets earlier h target meets) k) ks = all-zip (λ k a b. let z : pos (rival c t sets earlier h target p y s k) ≡ pos ((filling c t sets earlier h target meets) k) = b ∙ a in omega (whole, z)) ks
           (all-zip (λ k a b. a ∙ b) ks same split.0) other.0 in
-          let most = T.first-most place cap_of floor_of lo hi places (js c t sets earlier h) target fits in-places bounded enough.0 enough.1 (filling c t sets earlier h target meets) fill (rival p y s) (feasible p y s) ks o ls e agree in
-          subst (λ (z : ℤ). z ≤ℤ carries (ours c t sets earlier h target meets) o) other.1.0 (subst (λ (z : ℤ). pos (rival p y s o) ≤ℤ z) (sym split.1.0) (L.pos-mono most))
+          let most = T.first-most place cap_of floor_of lo hi places (js c t sets earlier h) target fits in-places bounded enough.0 enough.1 (filling c t sets earlier h target meets) fill (rival c t sets earlier h target p y s) (feasible p y s) ks o ls e agree in
+          subst (λ (z : ℤ). z ≤ℤ carries (ours c t sets earlier h target meets) o) other.1.0 (subst (λ (z : ℤ). pos (rival c t sets earlier h target p y s o) ≤ℤ z) (sym split.1.0) (L.pos-mono most))

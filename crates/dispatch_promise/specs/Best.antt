@@ -1,7 +1,6 @@
 -- The dispatch of `Dispatch` is the optimum of `optimum` over the case's own offers: such powers exist exactly where the test says so, and then ours are such, cost
 -- least, and have the most in the first offers.
 use Rattle.std.specs.Prelude.{◌≡◌, T, eqb, length, ℤ}
-use mathlib.Core.List.Permᴰ
 use mathlib.Core.List.{List}
 use Prim.Native.Nat.{ℕ, ◌+◌, ◌-◌, ◌≤◌, ◌<◌, min}
 use Rattle.std.proofs.Math.IntN.{pos}
@@ -13,7 +12,6 @@ use Rattle.ranges.specs.Ranges.{SystemRange}
 use Rattle.offers.specs.declared.Offer.{Offer}
 use Rattle.offers.specs.Merit.{ahead, merit}
 use Rattle.optimum.specs.Levels.{of}
-use Rattle.optimum.proofs.Theorem as T
 use Rattle.raising.specs.Raising.{place}
 use Rattle.dispatching.specs.Dispatch.{offer_of, offers_of, once, can_meet, power_of}
 use Rattle.dispatch_promise.specs.Such.{Such, carries}

@@ -14,7 +14,7 @@ use Rattle.model.specs.ByEdition as B
 use Rattle.renumbered_messages.proofs.Each.{pairs-long, pairs_first, pairs-second}
 use Rattle.renumbered_messages.specs.Plans.{no_row}
 use Rattle.mending.specs.Mending.{Change, with_online, replaced}
-use Rattle.mended_messages.specs.OneField.{OneField, old, online_place, row, row_width, setting_width}
+use Rattle.mended_messages.specs.OneField.{OneField, online_place, row_width, setting_width}
 
 append-twice : (ws xs ys zs : List ℕ) → (ws ++ (xs ++ ys)) ++ zs ≡ ws ++ (xs ++ (ys ++ zs))
 append-twice ws xs ys zs = append_assoc ws (xs ++ ys) zs ∙ ap (λ (l : List ℕ). ws ++ l) (append_assoc xs ys zs)
@@ -97,16 +97,22 @@ pairs_set {A} {B} b (a ∷ xs) (y ∷ ys) e (suc k) x = ap (λ (l : List (A × B
 
 module _ (e n m : ℕ) (p : Plan) (step : length p.flows ≡ length p.settings) (c : Change) (l : c.interval < length p.settings)
     (full : (t : ℕ) → t < length p.settings → length (get_or p.settings t []) ≡ n) (j : c.device < n) where
+  abbrev row : List Setting
+  row = get_or p.settings c.interval []
+
+  abbrev old : Setting
+  old = get_or row c.device no_setting
+
   abbrev changed : List Setting
-  changed = set (row e n m p step c l full j) c.device (with_online (old e n m p step c l full j) c.power)
+  changed = set row c.device (with_online old c.power)
 
   abbrev flow : ℤ
   flow = get_or p.flows c.interval no_flow
 
-  row_field : OneField (c.device * setting_width e + 1) (old e n m p step c l full j).online c.power ((B.planned e n).write ((row e n m p step c l full j), flow)) ((B.planned e n).write (changed, flow))
+  row_field : OneField (c.device * setting_width e + 1) old.online c.power ((B.planned e n).write (row, flow)) ((B.planned e n).write (changed, flow))
   unfolding ◌then◌ list
-  row_field = field-behind ((since e 5 no_flow B.flow).write flow) (field-list no_setting (B.setting e).write (setting_width e) (row e n m p step c l full j) c.device
-      (with_online (old e n m p step c l full j) c.power) (omega (arith, full c.interval l)) (λ k m. setting-wide e (get_or (row e n m p step c l full j) k no_setting)) (setting-field e (old e n m p step c l full j) c.power))
+  row_field = field-behind ((since e 5 no_flow B.flow).write flow) (field-list no_setting (B.setting e).write (setting_width e) row c.device
+      (with_online old c.power) (omega (arith, full c.interval l)) (λ k m. setting-wide e (get_or row k no_setting)) (setting-field e old c.power))
 
   at_row : (t : ℕ) → get_or (M.pairs p.settings p.flows) t no_row ≡ (get_or p.settings t [], get_or p.flows t no_flow)
   at_row t i = (pairs_first [] no_flow p.settings p.flows step t i, pairs-second [] no_flow p.settings p.flows step t i)
@@ -121,15 +127,15 @@ module _ (e n m : ℕ) (p : Plan) (step : length p.flows ≡ length p.settings) 
   abbrev rows_of : List (List Setting × ℤ) → List ℕ
   rows_of zs = gather (B.planned e n).write zs
 
-  rows-field : OneField rows_place (old e n m p step c l full j).online c.power (rows_of (M.pairs p.settings p.flows)) (rows_of (M.pairs (set p.settings c.interval changed) p.flows))
-  rows-field = subst (λ (zs : List (List Setting × ℤ)). OneField rows_place (old e n m p step c l full j).online c.power (rows_of (M.pairs p.settings p.flows)) (rows_of zs))
+  rows-field : OneField rows_place old.online c.power (rows_of (M.pairs p.settings p.flows)) (rows_of (M.pairs (set p.settings c.interval changed) p.flows))
+  rows-field = subst (λ (zs : List (List Setting × ℤ)). OneField rows_place old.online c.power (rows_of (M.pairs p.settings p.flows)) (rows_of zs))
       (sym (pairs_set no_flow p.settings p.flows step c.interval changed))
       (field-list no_row (B.planned e n).write (row_width e n) (M.pairs p.settings p.flows) c.interval (changed, flow)
       (omega (arith, l, pairs-long p.settings p.flows step)) ahead-wide
-      (subst (λ (r : List Setting × ℤ). OneField (c.device * setting_width e + 1) (old e n m p step c l full j).online c.power ((B.planned e n).write r) ((B.planned e n).write (changed, flow)))
+      (subst (λ (r : List Setting × ℤ). OneField (c.device * setting_width e + 1) old.online c.power ((B.planned e n).write r) ((B.planned e n).write (changed, flow)))
       (sym (at_row c.interval)) row_field))
 
-  pub plan-field : OneField (online_place e n c.interval c.device) (old e n m p step c l full j).online c.power ((B.plan_layout e n m).write p) ((B.plan_layout e n m).write (replaced p c))
+  pub plan-field : OneField (online_place e n c.interval c.device) old.online c.power ((B.plan_layout e n m).write p) ((B.plan_layout e n m).write (replaced p c))
   unfolding B.plan_by M.apart replaced held ◌then◌ nat list
   plan-field = field-ahead (bits_of 4 B.plan_kind) (length-bits 4 B.plan_kind) (field-ahead (bits_of 4 e) (length-bits 4 e)
       (field-ahead (bits_of (widths_of e).device_bits n) (length-bits (widths_of e).device_bits n)

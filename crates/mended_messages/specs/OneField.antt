@@ -1,11 +1,9 @@
 -- A plan and the plan with one online power replaced: as bits of their messages they differ in that field alone.
-use Rattle.std.specs.Prelude.{◌≡◌, List, [], ◌++◌, ℕ, ◌+◌, ◌*◌, ◌<◌, length, get_or}
+use Rattle.std.specs.Prelude.{◌≡◌, List, ◌++◌, ℕ, ◌+◌, ◌*◌, length}
 use Rattle.numbers.specs.Sum.{gate}
 use Rattle.layouts.specs.Layout.{bits_of}
 use Rattle.layouts.specs.Since.{has}
-use Rattle.model.specs.Case.{Plan, Setting, no_setting}
 use Rattle.model.specs.Editions.{widths_of}
-use Rattle.mending.specs.Mending.{Change}
 
 -- bits that differ in one field of 17 bits, an online power's, at a place: `old` in the first, `new` in the second
 pub record OneField (at old new : ℕ) (xs ys : List ℕ) : Type 0 where
@@ -28,11 +26,3 @@ row_width e devices = devices * setting_width e + gate (has 5 e) 18
 -- behind kind, edition and counts, so many intervals, devices and the bit of "on": where an online power stands, interval and device counted from 0
 abbrev pub online_place : ℕ → ℕ → ℕ → ℕ → ℕ
 online_place e devices t i = 4 + (4 + ((widths_of e).device_bits + ((widths_of e).interval_bits + (t * row_width e devices + (i * setting_width e + 1)))))
-
-module _ (e n m : ℕ) (p : Plan) (step : length p.flows ≡ length p.settings) (c : Change) (l : c.interval < length p.settings)
-    (full : (t : ℕ) → t < length p.settings → length (get_or p.settings t []) ≡ n) (j : c.device < n) where
-  abbrev pub row : List Setting
-  row = get_or p.settings c.interval []
-
-  abbrev pub old : Setting
-  old = get_or row c.device no_setting

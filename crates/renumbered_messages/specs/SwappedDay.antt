@@ -11,12 +11,12 @@ plan a b = reactive_plan no_reactive no_reactive no_reactive a b 0
 
 -- a case and a plan; what judging tells of them, the list of their breaches, and both of them swapped
 pub record Row : Type 0 where
-  case : Case
-  plan : Plan
-  tells : List ℤ
-  lists : List ℕ
-  swapped_tells : List ℤ
-  swapped_lists : List ℕ
+  pub case : Case
+  pub plan : Plan
+  pub tells : List ℤ
+  pub lists : List ℕ
+  pub swapped_tells : List ℤ
+  pub swapped_lists : List ℕ
 
 unfoldable pub table : List Row
 table =
