@@ -9,7 +9,6 @@ use std::io::{ErrorKind, Read, Write};
 use std::net::Shutdown;
 use std::os::fd::OwnedFd;
 use std::os::unix::net::UnixStream;
-use std::os::unix::process::ExitStatusExt;
 use std::path::{Path, PathBuf};
 use std::process::{Child, Command, Output, Stdio};
 use std::sync::LazyLock;
@@ -33,8 +32,6 @@ const EIO: u32 = 5;
 const EBADF: u32 = 9;
 const EISDIR: u32 = 21;
 const ECONNRESET: u32 = 104;
-
-const SIGPIPE: i32 = 13;
 
 fn input() -> Vec<u8> {
     fs::read(INPUT).expect("the program's input")
@@ -147,8 +144,9 @@ fn output_that_cannot_be_written_is_told() {
     hold(&ended(behind("exec <&- >&-;")), "", OUTPUT_FAILED);
 }
 
+/// A program of this Rattle ignores the signal from its start on, whatever the shell does.
 #[test]
-fn a_pipe_that_nobody_reads_ends_the_program() {
+fn a_pipe_that_nobody_reads_ends_the_run() {
     let unread = || {
         let (reader, writer) = std::io::pipe().expect("a pipe");
         drop(reader);
@@ -156,7 +154,7 @@ fn a_pipe_that_nobody_reads_ends_the_program() {
     };
     let mut command = given(program());
     command.stdout(unread());
-    assert_eq!(ended(command).status.signal(), Some(SIGPIPE));
+    hold(&ended(command), "", OUTPUT_FAILED);
     let mut deaf = given(behind("trap '' PIPE;"));
     deaf.stdout(unread());
     hold(&ended(deaf), "", OUTPUT_FAILED);

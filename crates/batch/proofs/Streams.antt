@@ -1,5 +1,5 @@
 -- The answers told so far, and those to the bytes that are left.
-use Rattle.std.proofs.Common.{◌≡◌, refl, None, Some, IfSome, Bool, true, false, inl, inr, ℕ, zero, suc, ◌+◌, ◌-◌, ◌^◌, ◌≤◌, ◌<◌, min, List, [], ◌∷◌, ◌++◌, length, take, drop, arith, ap, ◌∙◌, sym, subst, append_assoc, append-nil, add-one, length-take, length-drop, length-append, take_all, take_at, drop_at}
+use Rattle.std.proofs.Common.{◌≡◌, refl, None, Some, IfSome, Result, Ok, Err, OnOk, IfErr, IsErrAnd, Bool, true, false, inl, inr, ℕ, zero, suc, ◌+◌, ◌-◌, ◌^◌, ◌≤◌, ◌<◌, min, List, [], ◌∷◌, ◌++◌, length, take, drop, arith, ap, ◌∙◌, sym, subst, append_assoc, append-nil, add-one, length-take, length-drop, length-append, take_all, take_at, drop_at}
 use Rattle.std.specs.declared.option.Option.{Option}
 use Rattle.std.specs.declared.io.Error.{Error}
 use Rattle.std.specs.Io.KnownBytes.{Appends, Consumes}
@@ -223,3 +223,17 @@ module _ (x : Stated) (f : List ℕ) (rest : ℕ) (more : Bool) (size : length f
         subst (Appends old later) (sym (append_assoc text (take p.0 behind) line) ∙ ap (λ (l : List ℕ). l ++ line) (sym front))
             (Appends-trans old new later text (take p.0 behind ++ line) told p.2),
       )
+
+-- ---- by how a call ended
+
+pub err-at : {A : Type 0} (P : Error → Type 0) (r : Result A Error) (d : Error) → IsErrAnd r (λ e. e ≡ d) → P d → IfErr r P
+err-at P (Ok x) d h p = tt
+err-at P (Err e) d h p = subst P (sym h) p
+
+pub on-ok : {A E P Q : Type 0} (r : Result A E) → OnOk r P → (P → Q) → OnOk r Q
+on-ok (Ok x) p f = f p
+on-ok (Err e) p f = tt
+
+pub if-err : {A E : Type 0} {P Q : E → Type 0} (r : Result A E) → IfErr r P → ((e : E) → P e → Q e) → IfErr r Q
+if-err (Ok x) p f = tt
+if-err (Err e) p f = f e p

@@ -40,9 +40,9 @@ returns c =
     let a : _ = c.args in
     let n : ℕ = c.held-n.result in
     let taken : c.loop-i.all ≡ copied n a.offers.now c.no_offers-all.result =
-        let e : c.loop-i.i ≡ n = omega arith in c.loop-i.invariant.held ∙ ap (λ (k : ℕ). copied k a.offers.now c.no_offers-all.result) e in
+    let e : c.loop-i.i ≡ n = omega arith in c.loop-i.invariant.held ∙ ap (λ (k : ℕ). copied k a.offers.now c.no_offers-all.result) e in
     let back : c.loop-j.offers ≡ copied n c.offers_of-back.result a.offers.now =
-        let e : c.loop-j.j ≡ n = omega arith in c.loop-j.invariant.back ∙ ap (λ (k : ℕ). copied k c.offers_of-back.result a.offers.now) e in
+    let e : c.loop-j.j ≡ n = omega arith in c.loop-j.invariant.back ∙ ap (λ (k : ℕ). copied k c.offers_of-back.result a.offers.now) e in
     let tells = c.dispatch_told-done.new in
     rw back
     (put_back a.case.now a.interval a.sets.now a.powers.now tells.powers a.offers.now c.no_offers-all.result a.target a.figures.now tells.figures c.dispatch_told-done.result n c.held-n.ensures
