@@ -38,8 +38,8 @@ unfolding decimal decimal_within
 last-digit n ds h e = rw (le-ltb n 10 h) (ap (λ (l : List ℕ). l ++ (digit (n % 10) ∷ [])) (e ∙ within-same (suc (n / 10)) n (n / 10) (omega arith) (omega arith)))
 
 -- what the library prints of a number is its digits in decimal
-pub spells : (n : ℕ) → n < 2 ^ 64 → printed n ≡ decimal n
-spells = decimal_by_steps (λ n ds. ds ≡ decimal n) one-digit last-digit
+pub prints : (n : ℕ) → n < 2 ^ 64 → printed n ≡ decimal n
+prints = decimal_by_steps (λ n ds. ds ≡ decimal n) one-digit last-digit
 
 -- ---- numbers behind spaces
 pub none_of : [] ≡ figures []

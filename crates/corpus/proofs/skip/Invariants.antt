@@ -1,0 +1,9 @@
+-- With each turn fewer bytes are left.
+use Rattle.std.proofs.Common.{◌≤◌}
+use Rattle.corpus.proofs.skip.Given as goal
+
+abbrev pub invariant-loop-left : goal.invariant-loop-left
+invariant-loop-left g l = l.left ≤ l.count
+
+abbrev pub decreases-loop-left : goal.decreases-loop-left
+decreases-loop-left g l = l.left
