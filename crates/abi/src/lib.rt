@@ -197,7 +197,7 @@ pub extern "C" fn kadunfo_mend(case: &[u8], plan: &[u8], figures: &mut [u64]) ->
     word
 }
 
-// `dispatch` for hosts, whose list is taken apart into an array, dispatched and put back: a walk by hand, since no function over a slice of structs is covered.
+// `dispatch` for hosts, whose list is taken apart into an array, dispatched and put back.
 // "The caller lends a list of offers, .. and finds it again in merit order", the powers "written over the earlier powers": 0, 2 and the case's fault, or 7 with 8 or 9 and
 // what is returned; 5, with nothing done, where `figures` has fewer than four places.
 #[unsafe(no_mangle)]
