@@ -8,7 +8,7 @@ use Rattle.model.specs.declared.Inspected.TheVariants as I
 use Rattle.model.specs.Forced.{intervals, devices, zones}
 use Rattle.model.specs.Editions.{Largest}
 use Rattle.model.specs.ByEdition.{Stated, stated_in, case_layout}
-use Rattle.refusals.specs.Refusals.{CaseRefusal}
+use Rattle.refusals.proofs.Refusals.{CaseRefusal}
 
 -- the counts of a case that passes reading, or its fault: what the batch program prints for message 0
 abbrev pub inspected_of : Whole Stated → Inspected

@@ -9,8 +9,8 @@ use Rattle.model.specs.Messages.{Counts, no_bars, Written}
 use Rattle.model.specs.ByEdition as B
 use Rattle.model.specs.Judgement.{counts_of, energy_windows, completion_in}
 use Rattle.refusals.specs.Names.{Name, kind}
-use Rattle.refusals.specs.Traced.{Traced, int-traced, held-traced, pair-traced, list-traced}
-use Rattle.refusals.specs.Messages.{any-traced, count-traced, fixed-traced, since-traced}
+use Rattle.refusals.proofs.Traced.{Traced, int-traced, held-traced, pair-traced, list-traced}
+use Rattle.refusals.proofs.Messages.{any-traced, count-traced, fixed-traced, since-traced}
 use Rattle.refusals.proofs.Whole.{broken-off}
 use Rattle.market.specs.Copy.{market_kind, Copy, change, interval_copy, copy_front_by, copy_by, copy_layout, copy_in}
 use Rattle.completion_reading.specs.Readers.{desk_in, market_in}

@@ -6,19 +6,41 @@ use Rattle.std.proofs.Common.{◌∙◌}
 use Rattle.layouts.specs.declared.Fault.{Fault}
 use Rattle.layouts.specs.declared.Fault.TheVariants as F
 use Rattle.layouts.specs.Faults.{number_of}
-use Rattle.layouts.specs.Layout.{passes, fails}
+use Rattle.layouts.specs.Layout.{Layout, passes, fails, begin}
 use Rattle.model.specs.declared.Subject.TheVariants as S
 use Rattle.model.specs.declared.Verdict.TheVariants.{Refused}
 use Rattle.model.specs.Case.{Plan}
+use Rattle.model.specs.Forced.{intervals, devices}
 use Rattle.model.specs.Editions.{Largest}
 use Rattle.model.specs.ByEdition as B
 use Rattle.model.specs.ByEdition.{Stated, stated_in, planned_in}
 use Rattle.model.specs.Judgement.{read_plan, judgement, refused_as, with_plan, with_case}
-use Rattle.refusals.specs.Visited.{AllGood, FieldTold}
-use Rattle.refusals.specs.Whole.{Wrong}
-use Rattle.refusals.proofs.Whole.{broken-off, run_on, refusal, field_of, field-wrong, passes-faultless, faultless-passes}
-use Rattle.refusals.specs.Messages.{case-traced}
-use Rattle.refusals.specs.Refusals.{CaseBrokenOff, CaseFaultless, CaseRefusal, PlanBrokenOff, PlanFaultless, PlanRefusal, case_fields, plan-of, plan_fields, plan_of}
+use Rattle.refusals.specs.Visited.{Part, AllGood, FieldTold}
+use Rattle.refusals.proofs.Traced.{Traced}
+use Rattle.refusals.proofs.Whole.{BrokenOff, Refusal, Wrong, Faultless, broken-off, run_on, refusal, field_of, field-wrong, passes-faultless, faultless-passes}
+use Rattle.refusals.proofs.Messages.{case-traced, plan-traced}
+
+-- how the plans of a case are laid out, and their fields
+abbrev pub plan_of : Stated → Layout Plan
+plan_of x = B.plan_layout x.edition (devices x.case.system) (intervals x.case.system)
+
+abbrev pub plan-of : (x : Stated) → Traced (plan_of x)
+plan-of x = plan-traced x.edition (devices x.case.system) (intervals x.case.system)
+
+-- the fields of a message in order: all of them where it passes reading, else up to the one that is refused
+abbrev pub case_fields : Largest → List ℕ → List Part
+case_fields l s = (case-traced l).fields s begin
+
+abbrev pub plan_fields : Stated → List ℕ → List Part
+plan_fields x s = (plan-of x).fields s begin
+
+-- ---- broken off
+
+abbrev pub CaseBrokenOff : Largest → List ℕ → ℕ → Type 0
+CaseBrokenOff l s k = BrokenOff (B.case_layout l) (case-traced l) s k
+
+abbrev pub PlanBrokenOff : Stated → List ℕ → ℕ → Type 0
+PlanBrokenOff x s k = BrokenOff (plan_of x) (plan-of x) s k
 
 -- every proper beginning of a case that passes reading is refused by 1, at the first bit of the first field that is not whole
 pub case-broken-off : (l : Largest) (s : List ℕ) (x : Stated) → stated_in l s ≡ passes x → (k : ℕ) → k < length s → CaseBrokenOff l s k
@@ -50,6 +72,14 @@ pub plan-run-on : (x : Stated) (s : List ℕ) (p : Plan) → read_plan x s ≡ p
 unfolding planned_in
 plan-run-on x s p h e n = run_on (plan_of x) (plan-of x) s p h e n
 
+-- ---- the field of a refusal
+
+abbrev pub CaseRefusal : Largest → List ℕ → Fault → Type 0
+CaseRefusal l s f = Refusal (B.case_layout l) (case-traced l) s f
+
+abbrev pub PlanRefusal : Stated → List ℕ → Fault → Type 0
+PlanRefusal x s f = Refusal (plan_of x) (plan-of x) s f
+
 pub case-refusal : (l : Largest) (s : List ℕ) (f : Fault) → stated_in l s ≡ fails f → CaseRefusal l s f
 unfolding stated_in
 case-refusal l s f h = refusal (B.case_layout l) (case-traced l) s f h
@@ -74,6 +104,14 @@ case-field-wrong l s h = field-wrong (B.case_layout l) (case-traced l) s h
 pub plan-field-wrong : (x : Stated) (s : List ℕ) → ¬ AllGood s 0 (plan_fields x s) → Wrong (plan_of x) (plan-of x) s
 plan-field-wrong x s h = field-wrong (plan_of x) (plan-of x) s h
 
+-- "A message passes reading when none of numbers 1 to 6 is found in it": just where every field is whole and in its range, no bit behind the last is wrong, and none
+-- contradicts an earlier one
+abbrev pub CaseFaultless : Largest → List ℕ → Type 0
+CaseFaultless l s = Faultless (B.case_layout l) (case-traced l) s
+
+abbrev pub PlanFaultless : Stated → List ℕ → Type 0
+PlanFaultless x s = Faultless (plan_of x) (plan-of x) s
+
 pub case-faultless : (l : Largest) (s : List ℕ) (x : Stated) → stated_in l s ≡ passes x → CaseFaultless l s
 unfolding stated_in
 case-faultless l s x h = passes-faultless (B.case_layout l) (case-traced l) s x h
@@ -91,6 +129,7 @@ unfolding planned_in
 plan-passes x s h = faultless-passes (plan_of x) (plan-of x) s h
 
 -- ---- as judged: the case first, then the plan; the result buffer stays as it was
+
 module _ (l : Largest) (cs : List ℕ) (x : Stated) (h : stated_in l cs ≡ passes x) where
   pub judged-case-broken-off : (k : ℕ) (n : k < length cs) (ps buffer : List ℕ)
       → judgement l (take k cs) ps buffer ≡ refused_as (Refused S.Case (F.Cut (case-broken-off l cs x h k n).bit)) buffer

@@ -11,8 +11,8 @@ use Rattle.model.specs.Open.{open-messages}
 use Rattle.refusals.specs.Names as N
 use Rattle.refusals.specs.Names.{Name}
 use Rattle.refusals.specs.Visited.{Part}
-use Rattle.refusals.specs.Traced.{nat-traced, int-traced, nothing-traced, present-traced, held-traced, then-traced, pair-traced, list-traced, counted-traced, such-traced}
-use Rattle.refusals.specs.Messages as T
+use Rattle.refusals.proofs.Traced.{nat-traced, int-traced, nothing-traced, present-traced, held-traced, then-traced, pair-traced, list-traced, counted-traced, such-traced}
+use Rattle.refusals.proofs.Messages as T
 
 -- name, first bit and width of each
 placed : ℕ → List Part → List (Name × ℕ × ℕ)

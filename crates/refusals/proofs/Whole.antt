@@ -14,13 +14,13 @@ use Rattle.layouts.specs.declared.Clash.TheVariants.{Clear, At}
 use Rattle.layouts.specs.declared.Place.{Place}
 use Rattle.layouts.specs.Faults.{number_of, returned_by}
 use Rattle.layouts.specs.Layout.{Layout, Whole, passes, fails, settle, begin, read_whole, first_one, tail_fault, bytes_for, or_else}
-use Rattle.refusals.specs.Visited.{Part, AllGood, first_beyond, Contradiction, RefusedAt, FieldTold}
+use Rattle.refusals.specs.Visited.{Part, end_of, AllGood, first_beyond, first_clash, NotWhole, Contradiction, RefusedAt, FieldTold}
 use Rattle.refusals.specs.Visited.{unless}
 use Rattle.refusals.proofs.Visited.{field_told, good-ends, within_end, beyond-first, clash-first, refused-not-good}
-use Rattle.refusals.specs.Traced.{Traced, Walk, stops, goes, Passed, bit-same, reach-length}
-use Rattle.refusals.specs.Whole.{BrokenOff, Faultless, Refusal, Wrong, by-clash, by-tail, by_field}
+use Rattle.refusals.proofs.Traced.{Traced, Walk, stops, goes, Passed, bit-same, reach-length}
 
 -- ---- behind the last field
+
 first-same : (s r : List ℕ) (at n : ℕ) → ((k : ℕ) → k < at + n → bit_at r k ≡ bit_at s k) → first_one r at n ≡ first_one s at n
 unfolding first_one
 first-same s r at zero h = refl
@@ -54,6 +54,7 @@ tail-behind s e at some room f =
     rw (c, lt-ltb (bytes_for at) (length (s ++ e)) (omega arith), b) refl
 
 -- ---- a message that passes reading
+
 module _ {A : Type 0} (l : Layout A) (u : Traced l) where
   -- the fields of a message: all of one that passes, else up to the one refused
   abbrev fields_of : List ℕ → List Part
@@ -92,6 +93,15 @@ module _ {A : Type 0} (l : Layout A) (u : Traced l) where
   room : (s : List ℕ) (a : A) (h : Passes s a) → h.behind.at ≤ 8 * reach s
   room s a h = rw h.passed.ends (good-ends s 0 (fields_of s) (omega arith) h.passed.good)
 
+  -- ---- broken off
+
+  -- a beginning of k bytes is refused by 1, at the first bit of the first field that does not end within them
+  pub record BrokenOff (s : List ℕ) (k : ℕ) : Type 0 where
+    pub bit : ℕ
+    pub found : first_beyond (8 * k) 0 (u.fields s begin) ≡ At bit
+    pub first : NotWhole (8 * k) 0 (u.fields s begin) bit
+    pub refused : read_whole l (take k s) ≡ fails (F.Cut bit)
+
   cut_at : (c e : List ℕ) (b : ℕ) → first_beyond (8 * reach c) 0 (fields_of (c ++ e)) ≡ At b → read_whole l c ≡ fails (F.Cut b)
   unfolding read_whole
   cut_at c e b h = u.broken c e begin fails _ ∙ ap (λ (x : Clash). unless x fails (l.read (c ++ e) begin fails (onward c))) h
@@ -101,10 +111,10 @@ module _ {A : Type 0} (l : Layout A) (u : Traced l) where
   unfolding reach
   all_read s a h k short = let t = room s a h in let m = h.tail.last in let n = length-take-le k s (omega arith) in omega arith
 
-  pub broken-off : (s : List ℕ) (a : A) → read_whole l s ≡ passes a → (k : ℕ) → k < length s → (BrokenOff l u) s k
+  pub broken-off : (s : List ℕ) (a : A) → read_whole l s ≡ passes a → (k : ℕ) → k < length s → BrokenOff s k
   broken-off s a h k short = go (whole-passes s a h) (first_beyond (8 * k) 0 (fields_of s)) refl
     where
-      go : Passes s a → (c : Clash) → first_beyond (8 * k) 0 (fields_of s) ≡ c → (BrokenOff l u) s k
+      go : Passes s a → (c : Clash) → first_beyond (8 * k) 0 (fields_of s) ≡ c → BrokenOff s k
       go w Clear e = absurd (let t = within_end (8 * k) 0 (fields_of s) (omega arith) e in let m = w.tail.last in let z = w.passed.ends in omega arith)
       go w (At b) e = record {
         bit = b;
@@ -139,14 +149,25 @@ module _ {A : Type 0} (l : Layout A) (u : Traced l) where
           ∙ w.run (Whole A) fails (onward (s ++ e))
           ∙ ap (λ (c : Clash). settle a c w.behind.clash) (tail w)
 
-  pub refusal : (s : List ℕ) (x : Fault) → read_whole l s ≡ fails x → (Refusal l u) s x
+  -- ---- the field of a refusal
+
+  -- what a refusal tells of the fields visited
+  pub data Refusal (s : List ℕ) (x : Fault) : Type 0 where
+    -- 1 to 4: the last is cut or out of its range, those before it are whole and in theirs
+    by_field : FieldTold s (u.fields s begin) x → Refusal s x
+    -- 6 "first wrong bit: fill bit not 0, or first bit of a surplus byte", behind the last, where every field is whole and in its range
+    by-tail : AllGood s 0 (u.fields s begin) → tail_fault s (end_of 0 (u.fields s begin)) ≡ At (returned_by x) → number_of x ≡ 6 → Refusal s x
+    -- 5 "first bit of the later field": the first bit of the first of them that contradicts an earlier one, where every field is in its range and nothing is wrong behind the last
+    by-clash : AllGood s 0 (u.fields s begin) → tail_fault s (end_of 0 (u.fields s begin)) ≡ Clear → Contradiction 0 (u.fields s begin) (returned_by x) → number_of x ≡ 5 → Refusal s x
+
+  pub refusal : (s : List ℕ) (x : Fault) → read_whole l s ≡ fails x → Refusal s x
   unfolding read_whole settle
   refusal s x h = go (u.walk s begin)
     where
       same : {g : Fault} → ◌≡◌ {A = Whole A} (fails g) (fails x) → g ≡ x
       same e = cc
 
-      settled : (a : A) (q : Place) → Passed s begin (fields_of s) q → (f c : Clash) → tail_fault s q.at ≡ f → q.clash ≡ c → settle a f c ≡ fails x → (Refusal l u) s x
+      settled : (a : A) (q : Place) → Passed s begin (fields_of s) q → (f c : Clash) → tail_fault s q.at ≡ f → q.clash ≡ c → settle a f c ≡ fails x → Refusal s x
       settled a q g (At b) c d k e =
           let z : F.Tail b ≡ x = same e in
           by-tail g.good (ap (tail_fault s) (sym g.ends) ∙ d ∙ ap (λ (y : Fault). At (returned_by y)) z) (sym (ap number_of z))
@@ -156,17 +177,23 @@ module _ {A : Type 0} (l : Layout A) (u : Traced l) where
           by-clash g.good (ap (tail_fault s) (sym g.ends) ∙ d) (subst (λ (n : ℕ). Contradiction 0 (fields_of s) n) (ap returned_by z) c) (sym (ap number_of z))
       settled a q g Clear Clear d k e = absurd (let z : ◌≡◌ {A = ℕ} 0 1 = cc in omega arith)
 
-      go : Walk s begin (fields_of s) (λ X bad next. l.read {X = X} s begin bad next) → (Refusal l u) s x
+      go : Walk s begin (fields_of s) (λ X bad next. l.read {X = X} s begin bad next) → Refusal s x
       go (stops f r e) =
           let t : f ≡ x = same (sym (e (Whole A) fails (onward s)) ∙ h) in
           by_field (field_told s (fields_of s) x (subst (λ (y : Fault). RefusedAt s 0 (fields_of s) y) t r))
       go (goes a q g e) = settled a q g (tail_fault s q.at) q.clash refl refl (sym (e (Whole A) fails (onward s)) ∙ h)
 
-  pub field-wrong : (s : List ℕ) → ¬ AllGood s 0 (u.fields s begin) → (Wrong l u) s
+  -- and where one of the fields visited is cut or out of its range, the message is refused for it
+  pub record Wrong (s : List ℕ) : Type 0 where
+    pub fault : Fault
+    pub refused : read_whole l s ≡ fails fault
+    pub told : FieldTold s (u.fields s begin) fault
+
+  pub field-wrong : (s : List ℕ) → ¬ AllGood s 0 (u.fields s begin) → Wrong s
   unfolding read_whole
   field-wrong s h = go (u.walk s begin)
     where
-      go : Walk s begin (fields_of s) (λ X bad next. l.read {X = X} s begin bad next) → (Wrong l u) s
+      go : Walk s begin (fields_of s) (λ X bad next. l.read {X = X} s begin bad next) → Wrong s
       go (stops x r e) = record { fault = x; refused = e (Whole A) fails _; told = field_told s (fields_of s) x r }
       go (goes a q g e) = absurd (h g.good)
 
@@ -174,18 +201,26 @@ module _ {A : Type 0} (l : Layout A) (u : Traced l) where
   pub field_of : (s : List ℕ) (x : Fault) → read_whole l s ≡ fails x → number_of x < 5 → FieldTold s (u.fields s begin) x
   field_of s x h n = go (refusal s x h)
     where
-      go : (Refusal l u) s x → FieldTold s (u.fields s begin) x
+      go : Refusal s x → FieldTold s (u.fields s begin) x
       go (by_field t) = t
       go (by-tail g t e) = absurd (omega arith)
       go (by-clash g t c e) = absurd (omega arith)
 
+  -- ---- what passes reading
+
+  -- "none of numbers 1 to 6 is found in it": every field is whole and in its range, no bit behind the last is wrong, and none contradicts an earlier one
+  pub record Faultless (s : List ℕ) : Type 0 where
+    pub good : AllGood s 0 (u.fields s begin)
+    pub tail : tail_fault s (end_of 0 (u.fields s begin)) ≡ Clear
+    pub clash : first_clash 0 (u.fields s begin) ≡ Clear
+
   -- such a message passes, and no other
-  pub passes-faultless : (s : List ℕ) (a : A) → read_whole l s ≡ passes a → (Faultless l u) s
+  pub passes-faultless : (s : List ℕ) (a : A) → read_whole l s ≡ passes a → Faultless s
   passes-faultless s a h =
       let w = whole-passes s a h in
       record { good = w.passed.good; tail = ap (tail_fault s) (sym w.passed.ends) ∙ w.none; clash = sym w.passed.clash ∙ w.clear }
 
-  pub faultless-passes : (s : List ℕ) → (Faultless l u) s → (a : A) × (read_whole l s ≡ passes a)
+  pub faultless-passes : (s : List ℕ) → Faultless s → (a : A) × (read_whole l s ≡ passes a)
   unfolding read_whole settle
   faultless-passes s h = go (u.walk s begin)
     where

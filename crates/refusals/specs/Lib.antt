@@ -1,6 +1,2 @@
 pub mod Names
 pub mod Visited
-pub mod Traced
-pub mod Whole
-pub mod Messages
-pub mod Refusals

@@ -24,7 +24,7 @@ use Rattle.ranges.specs.Plain.{SystemPlain}
 use Rattle.ranges.specs.Barless.{SystemBarless}
 use Rattle.ranges.specs.Ranges.{CaseRange, PlanRange, planned-range}
 use Rattle.theorems.specs.Sizes.{surplus_limit, floored}
-use Rattle.refusals.specs.Refusals.{CaseRefusal, PlanRefusal}
+use Rattle.refusals.proofs.Refusals.{CaseRefusal, PlanRefusal}
 use Rattle.theorems.specs.Theorem.{Right, right-verdict}
 use Rattle.theorems.specs.OfEdition.{RightOf, right_of}
 use Rattle.theorems.specs.Chosen.{Holds}

@@ -9,7 +9,7 @@ use Rattle.model.specs.ByEdition as B
 use Rattle.refusals.specs.Names as N
 use Rattle.refusals.specs.Names.{Name}
 use Rattle.refusals.specs.Visited.{kind_or_edition, count, other}
-use Rattle.refusals.specs.Traced.{Traced, nat-traced, int-traced, present-traced, held-traced, then-traced, pair-traced, list-traced, counted-traced, such-traced}
+use Rattle.refusals.proofs.Traced.{Traced, nat-traced, int-traced, present-traced, held-traced, then-traced, pair-traced, list-traced, counted-traced, such-traced}
 
 -- ---- fields and groups of fields
 
