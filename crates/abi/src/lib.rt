@@ -216,18 +216,10 @@ pub extern "C" fn kadunfo_dispatch(
     let mut all = offer_tests::no_offers();
     let count = offers.len();
     let n = offer_tests::held(count);
-    let mut i = 0;
-    while i < n {
-        all[i] = offers[i];
-        i += 1;
-    }
+    all[..n].copy_from_slice(&offers[..n]);
     let done = dispatch_told(case, interval, sets, powers, all, count, target, figures);
     let back = dispatch_tellings::offers_of(done);
-    let mut j = 0;
-    while j < n {
-        offers[j] = back[j];
-        j += 1;
-    }
+    offers[..n].copy_from_slice(&back[..n]);
     dispatch_tellings::word_of(done)
 }
 

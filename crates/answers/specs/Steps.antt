@@ -1,5 +1,5 @@
 -- The answers to a frame, by the splitter's cases.
-use Rattle.std.specs.Prelude.{◌≡◌, refl, Bool, true, false, List, [], ◌∷◌, ℕ, ◌≤◌, ◌<◌, length}
+use Rattle.std.specs.Prelude.{Ok, Err, ◌≡◌, refl, Bool, true, false, List, [], ◌∷◌, ℕ, ◌≤◌, ◌<◌, length}
 use Rattle.std.proofs.Common.{sym, ap, subst, ◌∙◌, arith}
 use Rattle.layouts.specs.Faults.{number_of}
 use Rattle.layouts.specs.Framing.{part, message_at}
@@ -15,14 +15,13 @@ use Rattle.model.specs.Editions.{batch}
 use Rattle.model.specs.ByEdition.{Stated, stated_in}
 use Rattle.model.specs.Forced as F
 use Rattle.model.specs.Judgement.{read_plan, completion_bytes}
-use Rattle.layouts.specs.Layout.{passes}
+use Rattle.layouts.specs.Layout.{passes, fails}
 use Rattle.row_places.specs.declared.Front.{Front}
 use Rattle.row_places.specs.declared.Counts.{Counts}
 use Rattle.records.specs.Viewed.{devices-are, intervals-are}
-use Rattle.message_ends.specs.declared.Ending.{Ending}
-use Rattle.message_ends.specs.declared.Ending.TheVariants.{Passes, Fails}
 use Rattle.message_ends.specs.Ended.{ended}
-use Rattle.case_reader.specs.Whole.{CaseDone}
+use Rattle.case_reader.specs.Whole.{CasePassed, CaseRefused}
+use Rattle.case_reader.specs.declared.CaseHead.{CaseHead}
 use Rattle.case_inspection.specs.Inspection.{inspected_of}
 use Rattle.plan_judgement.specs.JudgesPlan.{JudgesPlan}
 use Rattle.decoded_cases.specs.Decoded.{Decoded, stated_rows, stated_first}
@@ -42,45 +41,68 @@ pub never : {P : Type 0} → false ≡ true → P
 never k = let z : ◌≡◌ {A = ℕ} 0 1 = cc in absurd (omega arith)
 
 -- what the splitter finds holds the message, so the case's line is that of its reading
-module _ (frame halves : List ℕ) (zones minima devices cells : List (List ℕ)) {m : List ℕ} {end : Ending} {front : Front} {counts : Counts} (i : m ≡ message_at limit frame 0)
-    (d : CaseDone batch.devices batch.intervals m halves zones minima devices cells end front counts) where
-  abbrev held : Stated
-  held = stated_first front counts halves zones minima devices cells
+module _ (frame : List ℕ) {m : List ℕ} (i : m ≡ message_at limit frame 0) where
+  message-is : {from until : ℕ} → framed frame ≡ B.Message from until → stated_in batch (part frame from until) ≡ stated_in batch m
+  message-is t = ap (stated_in batch) (some limit frame 0 refl t ∙ sym i)
 
-  read_is : {from until : ℕ} → framed frame ≡ B.Message from until → stated_in batch (part frame from until) ≡ ended held end
-  read_is t = ap (stated_in batch) (some limit frame 0 refl t ∙ sym i) ∙ sym d.is
+  -- a case that is refused
+  module _ {f : Fault} (d : CaseRefused batch.devices batch.intervals m f) where
+    read-off : {from until : ℕ} → framed frame ≡ B.Message from until → stated_in batch (part frame from until) ≡ fails f
+    read-off t = message-is t ∙ sym d.is
 
-  -- the counts are the decoded case's
-  counts-are : end ≡ Passes → case_line 0 counts.devices counts.intervals counts.zones ≡ read_line (passes held)
-  counts-are k =
-      let j = inspect-passes batch (omega arith) (omega arith) m halves zones minima devices cells end front counts d k ∙ ap inspected_of (sym d.is ∙ ap (ended held) k) in
-      cc
+    lines-off : (x : Framed) → framed frame ≡ x → ended_lines x (Err f) ≡ case_lines frame x
+    lines-off B.End t = refl
+    lines-off (B.Refused g) t = refl
+    lines-off (B.Message from until) t = rw (read-off t) refl
 
-  lines_are : (x : Framed) (y : Ending) → framed frame ≡ x → end ≡ y → ended_lines x y counts ≡ case_lines frame x
-  lines_are B.End y t k = refl
-  lines_are (B.Refused f) y t k = refl
-  lines_are (B.Message from until) Passes t k = rw (read_is t, k) (ap (λ (l : Line). l ∷ []) (counts-are k))
-  lines_are (B.Message from until) (Fails f) t k = rw (read_is t, k) refl
+    after-off : (held : Stated) (x : Framed) → framed frame ≡ x → after_of (ended_more x (Err f)) held ≡ case_after frame x
+    after-off held B.End t = refl
+    after-off held (B.Refused g) t = refl
+    after-off held (B.Message from until) t = rw (read-off t) refl
 
-  after_is : (x : Framed) (y : Ending) → framed frame ≡ x → end ≡ y → after_of (ended_more x y) held ≡ case_after frame x
-  after_is B.End y t k = refl
-  after_is (B.Refused f) y t k = refl
-  after_is (B.Message from until) Passes t k = rw (read_is t, k) refl
-  after_is (B.Message from until) (Fails f) t k = rw (read_is t, k) refl
+    never-more : (x : Framed) {P : Type 0} → ended_more x (Err f) ≡ true → P
+    never-more B.End h = never h
+    never-more (B.Refused g) h = never h
+    never-more (B.Message from until) h = never h
 
-  goes_on : (x : Framed) (y : Ending) → ended_more x y ≡ true → y ≡ Passes
-  goes_on B.End y h = never h
-  goes_on (B.Refused f) y h = never h
-  goes_on (B.Message from until) Passes h = refl
-  goes_on (B.Message from until) (Fails f) h = never h
+    pub case-refused : (halves : List ℕ) (zones minima devices cells : List (List ℕ)) (front : Front) (counts : Counts) {before after : List ℕ} {n : ℕ} {more : Bool}
+        → WritesCase (framed frame) (Err f) before after (record { bytes = n; more = more })
+        → AnswersCase frame halves zones minima devices cells before after (record { bytes = n; more = more; front = front; counts = counts })
+    case-refused halves zones minima devices cells front counts {before} {after} {n} w = let held = stated_first front counts halves zones minima devices cells in record {
+      text = subst (λ (ls : List Line). Writes (texts ls) before after n) (lines-off (framed frame) refl) w.text;
+      next = ap (λ (b : Bool). after_of b held) w.more ∙ after-off held (framed frame) refl;
+      decoded = λ h. never-more (framed frame) (sym w.more ∙ h);
+    }
 
-  pub case-answered : {before after : List ℕ} {n : ℕ} {more : Bool} → WritesCase (framed frame) end counts before after (record { bytes = n; more = more })
-      → AnswersCase frame halves zones minima devices cells before after (record { bytes = n; more = more; front = front; counts = counts })
-  case-answered {before} {after} {n} {more} w = record {
-    text = subst (λ (ls : List Line). Writes (texts ls) before after n) (lines_are (framed frame) end refl refl) w.text;
-    next = ap (λ (b : Bool). after_of b held) w.more ∙ after_is (framed frame) end refl refl;
-    decoded = λ h. decoded-first batch (omega arith) (omega arith) m halves zones minima devices cells end front counts d (goes_on (framed frame) end (sym w.more ∙ h));
-  }
+  -- one that passes
+  module _ (halves : List ℕ) (zones minima devices cells : List (List ℕ)) (c : CaseHead) (d : CasePassed batch.devices batch.intervals m halves zones minima devices cells c.front c.counts) where
+    abbrev held : Stated
+    held = stated_first c.front c.counts halves zones minima devices cells
+
+    read-on : {from until : ℕ} → framed frame ≡ B.Message from until → stated_in batch (part frame from until) ≡ passes held
+    read-on t = message-is t ∙ sym d.is
+
+    -- the counts are the decoded case's
+    counts-are : case_line 0 c.counts.devices c.counts.intervals c.counts.zones ≡ read_line (passes held)
+    counts-are = let j = inspect-passes batch (omega arith) (omega arith) m halves zones minima devices cells c.front c.counts d ∙ ap inspected_of (sym d.is) in cc
+
+    lines-on : (x : Framed) → framed frame ≡ x → ended_lines x (Ok c) ≡ case_lines frame x
+    lines-on B.End t = refl
+    lines-on (B.Refused g) t = refl
+    lines-on (B.Message from until) t = rw (read-on t) (ap (λ (l : Line). l ∷ []) counts-are)
+
+    after-on : (x : Framed) → framed frame ≡ x → after_of (ended_more x (Ok c)) held ≡ case_after frame x
+    after-on B.End t = refl
+    after-on (B.Refused g) t = refl
+    after-on (B.Message from until) t = rw (read-on t) refl
+
+    pub case-answered : {before after : List ℕ} {n : ℕ} {more : Bool} → WritesCase (framed frame) (Ok c) before after (record { bytes = n; more = more })
+        → AnswersCase frame halves zones minima devices cells before after (record { bytes = n; more = more; front = c.front; counts = c.counts })
+    case-answered {before} {after} {n} {more} w = record {
+      text = subst (λ (ls : List Line). Writes (texts ls) before after n) (lines-on (framed frame) refl) w.text;
+      next = ap (λ (b : Bool). after_of b held) w.more ∙ after-on (framed frame) refl;
+      decoded = λ h. decoded-first batch (omega arith) (omega arith) m halves zones minima devices cells c.front c.counts d;
+    }
 
 -- ---- a plan
 

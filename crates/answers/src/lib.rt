@@ -10,6 +10,7 @@ ghost use Rattle.answers.specs.Answers.{accepts, AnswersCase, AnswersPlan};
 ghost use Rattle.answers.specs.Room.{result_room};
 
 use case_inspection::ZONES;
+use case_reader::NO_CASE;
 use frames::LIMIT;
 use layouts::Framed;
 use model::Verdict;
@@ -59,17 +60,22 @@ pub fn answer_case(
         devices,
         cells,
     );
-    let ending = read.ending;
-    let front = read.front;
-    let counts = read.counts;
-    let line = case_lines::case_line(frame, ending, counts, out);
+    let line = case_lines::case_line(frame, read, out);
     let bytes = line.bytes;
     let more = line.more;
-    CaseAnswer {
-        bytes,
-        more,
-        front,
-        counts,
+    match read {
+        Ok(head) => CaseAnswer {
+            bytes,
+            more,
+            front: head.front,
+            counts: head.counts,
+        },
+        Err(_) => CaseAnswer {
+            bytes,
+            more,
+            front: NO_CASE.front,
+            counts: NO_CASE.counts,
+        },
     }
 }
 

@@ -1,6 +1,6 @@
 -- What a copier has copied and written, and how its steps follow one another.
-use Rattle.std.specs.Prelude.{◌≡◌, refl, Bool, true, false, List, [], ◌∷◌, ◌++◌, ℕ, zero, suc, ◌+◌, ◌-◌, ◌*◌, ◌/◌, ◌%◌, ◌^◌, ◌≤◌, ◌<◌, length, drop}
-use Rattle.std.proofs.Common.{sym, ◌∙◌, ap, append-nil, append_assoc, arith, add-one, mul-le-mul, length-append, lt-ltb, ne_eqb}
+use Rattle.std.specs.Prelude.{◌≡◌, refl, List, [], ◌∷◌, ◌++◌, ℕ, zero, suc, ◌+◌, ◌-◌, ◌*◌, ◌/◌, ◌%◌, ◌^◌, ◌≤◌, ◌<◌, length, drop}
+use Rattle.std.proofs.Common.{sym, ◌∙◌, ap, append-nil, append_assoc, arith, add-one, length-append, lt-ltb, ne_eqb}
 use Rattle.std.proofs.Math.Nat.{two-pow-succ, pow-le-pow_right}
 use Rattle.bits.specs.Bits.{bit_at, field_at, reach}
 use Rattle.bits.specs.Pick.{pick}
@@ -11,9 +11,8 @@ use Rattle.layouts.specs.Since.{has, has-not, has-it}
 use Rattle.pen.specs.declared.Pen.{Pen}
 use Rattle.pen.specs.Pens.{Ready, Pushes, Finishes, pushes-then}
 use Rattle.pen.specs.Runs.{Room, bit_of, fresh, pushes-none, pushes-as, pushes-whole}
-use Rattle.writing.specs.Splice.{Splice, none, keep, skip, add, by, ◌⨾◌, times, past, spliced, farther, along}
+use Rattle.writing.specs.Splice.{Splice, none, keep, add, by, ◌⨾◌, times, past, spliced, farther, along}
 use Rattle.writing.proofs.Splice.{past_up}
-use Rattle.model.specs.Editions as E
 use Rattle.model.specs.ByEdition.{first_line, second_line}
 use Rattle.bit_copier.specs.declared.Copier.{Copier}
 
@@ -79,19 +78,6 @@ pow-some : (n : ℕ) → 0 < 2 ^ n
 pow-some zero = omega arith
 pow-some (suc n) = omega (arith, two-pow-succ n, pow-some n)
 
--- a pen far behind any message stands; one that has no room counts
-pub puts-stands : (width value : ℕ) (buffer : List ℕ) (p : Pen) → Ready p → most < p.at → Puts width value buffer buffer p p
-puts-stands width value buffer p h k = record { ready = h; long = refl; moved = λ i. absurd (omega arith); pushes = λ i. absurd (omega arith) }
-
-pub puts-counts : (width value : ℕ) (buffer : List ℕ) (p r : Pen) → Ready p → r.acc ≡ 0 → r.n ≡ (p.n + width) % 64 → r.at ≡ p.at + (p.n + width) / 64 * 8
-    → length buffer < (p.at * 8 + (p.n + width) + 7) / 8 → Puts width value buffer buffer p r
-puts-counts width value buffer p r h a b c k = record {
-  ready = record { few = omega arith; small = rw a (pow-some r.n) };
-  long = refl;
-  moved = λ i. omega arith;
-  pushes = λ i j. absurd (omega arith);
-}
-
 -- what puts one field is a step by any splice that gives its bits
 put-moves : (t : Splice) (w v : ℕ) {s entry exit : List ℕ} {q r : Copier} → spliced t s q.from ≡ bits_of w v → r.from ≡ past t s q.from → r.from ≤ 8 * reach s
     → Puts w v entry exit q.pen r.pen → Moves t s entry exit q r
@@ -112,13 +98,7 @@ pub add-moves : (w v : ℕ) {s entry exit : List ℕ} {q r : Copier} → Set s q
 unfolding past spliced
 add-moves w v h a = put-moves (add w v) w v refl a.from (omega (arith, a.from, h.inside)) a.put
 
--- so many bits of the message, whose value is v
-pub keep-moves : (w v : ℕ) {s entry exit : List ℕ} {q r : Copier} → v ≡ field_at s q.from w → r.from ≡ q.from + w → q.from + w ≤ 8 * reach s → Puts w v entry exit q.pen r.pen
-    → Moves (keep w) s entry exit q r
-unfolding past spliced
-keep-moves w v e f i p = put-moves (keep w) w v (rw e refl) f (omega arith) p
-
--- the same in another width
+-- so many bits of the message, whose value is v, in another width
 pub wide-moves : (u w v : ℕ) {s entry exit : List ℕ} {q r : Copier} → v ≡ field_at s q.from u → r.from ≡ q.from + u → q.from + u ≤ 8 * reach s → Puts w v entry exit q.pen r.pen
     → Moves (by u w (λ x. none)) s entry exit q r
 unfolding past spliced
@@ -127,10 +107,6 @@ wide-moves u w v e f i p = put-moves (by u w (λ x. none)) w v (rw e (append-nil
 -- a message that ends too early is left alone: nothing is said of the splice
 pub short-moves : (t : Splice) {s buffer : List ℕ} {q : Copier} → Set s q → 8 * reach s < past t s q.from → Moves t s buffer buffer q q
 short-moves t h k = record { ready = h.ready; inside = h.inside; long = refl; does = λ w. absurd (omega (arith, w.inside)) }
-
-pub short-keep : (w : ℕ) {s buffer : List ℕ} {q : Copier} → Set s q → 8 * reach s - q.from < w → Moves (keep w) s buffer buffer q q
-unfolding past
-short-keep w {s} {buffer} {q} h k = short-moves (keep w) h (omega (arith, h.inside))
 
 pub short-wide : (u w : ℕ) {s buffer : List ℕ} {q : Copier} → Set s q → 8 * reach s - q.from < u → Moves (by u w (λ x. none)) s buffer buffer q q
 unfolding past
@@ -185,9 +161,6 @@ field-small s at w v e = rw e (field_lt s at w)
 
 pub wide-small : (s : List ℕ) (at w u v : ℕ) → v ≡ field_at s at w → w ≤ u → v < 2 ^ u
 wide-small s at w u v e h = let two : 0 < 2 = omega arith in omega (arith, field-small s at w v e, pow-le-pow_right two h)
-
-pub peeked-none : (w : ℕ) {s : List ℕ} {q : Copier} → Set s q → 8 * reach s - q.from < w → Peeked w s q 0
-peeked-none w {s} {q} h k = record { small = pow-some w; is = λ i. absurd (omega arith) }
 
 pub peeked-is : (w v : ℕ) (s : List ℕ) (q : Copier) → v ≡ field_at s q.from w → Peeked w s q v
 peeked-is w v s q e = record { small = field-small s q.from w v e; is = λ i. e }
@@ -283,25 +256,12 @@ times_more k {t} {s} {a} {b} {c} {p} {q} {r} f g = rw (add-one k) (moves-as (rec
 pub times-done : (k n : ℕ) {t : Splice} {s a b : List ℕ} {q r : Copier} → k ≤ n → n ≤ k → Moves (times k t) s a b q r → Moves (times n t) s a b q r
 times-done k n {t} {s} {a} {b} {q} {r} h i m = let e : k ≡ n = omega arith in rw (sym e) m
 
-pub keep-zero : (n : ℕ) {s buffer : List ℕ} {q : Copier} → n ≡ 0 → Set s q → Moves (keep n) s buffer buffer q q
-keep-zero n e h = rw e (keep-none h)
-
 pub keep_all : (n m : ℕ) {s a b : List ℕ} {q r : Copier} → n ≡ m → Moves (keep n) s a b q r → Moves (keep m) s a b q r
 keep_all n m e h = rw (sym e) h
 
 -- a count of parts of one width, copied in one run
 pub counted-run : (n w : ℕ) {s a b c : List ℕ} {p q r : Copier} → Peeked 3 s p n → Moves (keep 3) s a b p q → Moves (keep (n * w)) s b c q r → Moves (by 3 3 (λ k. times k (keep w))) s a c p r
 counted-run n w {s} {q = q} k x y = moves-by-keep 3 n (λ m. times m (keep w)) k x (moves-as (times-keep n w s q.from) y)
-
-pub few-parts : (n w : ℕ) → n < 2 ^ 3 → w ≤ 1000 → n * w ≤ 8 * 1000
-few-parts n w h k = let i : n ≤ 8 = omega arith in mul-le-mul i k
-
-pub widths-some : (e : ℕ) → (1 ≤ E.starts_bits e) × (1 ≤ E.device_bits e) × (1 ≤ E.interval_bits e)
-widths-some e = go (has 4 e) refl
-  where
-    go : (b : Bool) → has 4 e ≡ b → (1 ≤ E.starts_bits e) × (1 ≤ E.device_bits e) × (1 ≤ E.interval_bits e)
-    go true h = rw h (omega arith, omega arith, omega arith)
-    go false h = rw h (omega arith, omega arith, omega arith)
 
 -- the width of a field, said otherwise
 pub by_as : (v u w : ℕ) (f : ℕ → Splice) {s a b : List ℕ} {q r : Copier} → v ≡ u → Moves (by v w f) s a b q r → Moves (by u w f) s a b q r
@@ -326,22 +286,12 @@ counted-far p h = record { small = omega arith; is = λ i. absurd (omega arith) 
 pub counted-near : (p : Pen) → Ready p → p.at ≤ most → Counted p (p.at + (p.n + 7) / 8)
 counted-near p k h = record { small = omega (arith, k.few); is = λ i. omega arith }
 
-pub closes-far : (buffer : List ℕ) (p : Pen) → most < p.at → Closes buffer buffer p
-closes-far buffer p h = record { long = refl; whole = λ i. absurd (omega arith) }
-
-pub closes-short : (buffer : List ℕ) (p : Pen) → length buffer < p.at + (p.n + 7) / 8 → Closes buffer buffer p
-closes-short buffer p h = record { long = refl; whole = λ i j. absurd (omega arith) }
-
 pub closes-all : (entry exit : List ℕ) (p : Pen) → Finishes entry exit p → Closes entry exit p
 closes-all entry exit p f = record { long = f.long; whole = λ i j. f }
 
 -- a run of parts of one width
 pub run-times : (n w : ℕ) {s a b : List ℕ} {q r : Copier} → Moves (keep (n * w)) s a b q r → Moves (times n (keep w)) s a b q r
 run-times n w {s} {q = q} m = moves-as (times-keep n w s q.from) m
-
--- a value of fewer bits
-pub pow-within : (v w u : ℕ) → v < 2 ^ w → w ≤ u → v < 2 ^ u
-pow-within v w u h k = let two : 0 < 2 = omega arith in omega (arith, pow-le-pow_right two k)
 
 -- ---- a whole message, in two passes: one that counts, one that writes
 

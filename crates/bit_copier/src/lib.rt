@@ -1,13 +1,13 @@
 // A message written anew: its bits copied as they stand, with others put in between, through a pen.
 #![tactic(auto)]
 
-ghost use Rattle.std.specs.Prelude.{◌≡◌, length, ◌+◌, ◌*◌, ◌^◌, ◌≤◌, ◌<◌};
+ghost use Rattle.std.specs.Prelude.{◌≡◌, List, ℕ, length, ◌+◌, ◌*◌, ◌^◌, ◌≤◌, ◌<◌};
 ghost use Rattle.bits.specs.Bits.{field_at, reach};
 ghost use Rattle.pen.specs.Pens.{Ready};
 ghost use Rattle.bits.specs.Pick.{pick};
 ghost use Rattle.layouts.specs.Since.{has};
-ghost use Rattle.writing.specs.Splice.{none, keep, add, by, times};
-ghost use Rattle.bit_copier.specs.Moves.{Set, Puts, Adding, Moves, Peeked, Counted, Closes};
+ghost use Rattle.writing.specs.Splice.{Splice, none, keep, add, by, times};
+ghost use Rattle.bit_copier.specs.Moves.{Set, Puts, Adding, Moves, Peeked, Counted, Closes, Renews};
 
 use bits::{bits_at, reached};
 use pen::{Pen, finish, push};
@@ -48,28 +48,8 @@ pub fn add_field(buf: &mut [u8], q: Copier, width: u64, value: u64) -> Copier
     requires { Ready q.pen × (1 ≤ width) × (width ≤ 56) × (value < 2 ^ width) }
     ensures { Adding width value buf.old buf.new q result }
 {
-    let p = q.pen;
-    let from = q.from;
-    let pen = put(buf, p, width, value);
-    Copier { from, pen }
-}
-
-// The next bits of the message, as they stand.
-pub fn keep_field(s: &[u8], buf: &mut [u8], q: Copier, width: u64) -> Copier
-    requires { Set s.now q × (1 ≤ width) × (width ≤ 56) }
-    ensures { Moves (keep width) s.now buf.old buf.new q result }
-{
-    let from = q.from;
-    if 8 * reached(s) - from < width {
-        return q;
-    }
-    let value = bits_at(s, from, width);
-    let p = q.pen;
-    let pen = put(buf, p, width, value);
-    Copier {
-        from: from + width,
-        pen,
-    }
+    let pen = put(buf, q.pen, width, value);
+    Copier { pen, ..q }
 }
 
 // The next field of the message, written in another width.
@@ -82,12 +62,19 @@ pub fn widen_field(s: &[u8], buf: &mut [u8], q: Copier, width: u64, wider: u64) 
         return q;
     }
     let value = bits_at(s, from, width);
-    let p = q.pen;
-    let pen = put(buf, p, wider, value);
+    let pen = put(buf, q.pen, wider, value);
     Copier {
         from: from + width,
         pen,
     }
+}
+
+// The next bits of the message, as they stand.
+pub fn keep_field(s: &[u8], buf: &mut [u8], q: Copier, width: u64) -> Copier
+    requires { Set s.now q × (1 ≤ width) × (width ≤ 56) }
+    ensures { Moves (keep width) s.now buf.old buf.new q result }
+{
+    widen_field(s, buf, q, width, width)
 }
 
 // The next field's value, where the message has it.
@@ -111,15 +98,34 @@ pub fn keep_run(s: &[u8], buf: &mut [u8], q: Copier, count: u64) -> Copier
     ensures { Moves (keep count) s.now buf.old buf.new q result }
 {
     let mut t = q;
-    let mut left = count;
-    while WORD < left {
+    for _ in 0..count / WORD {
         t = keep_field(s, buf, t, WORD);
-        left -= WORD;
     }
-    if left == 0 {
+    let rest = count % WORD;
+    if rest == 0 {
         return t;
     }
-    keep_field(s, buf, t, left)
+    keep_field(s, buf, t, rest)
+}
+
+// So many parts, one behind the other, each copied by the step: a part's splice, of a message, is what the step copies by.
+pub fn copy_each<F: Fn(&mut [u8], Copier) -> Copier>(
+    buf: &mut [u8],
+    q: Copier,
+    n: u64,
+    step: F,
+) -> Copier
+    ghost part: { Splice × List ℕ }
+    requires set { Set part.1 q }
+    requires callable { (b : _) (p : _) → Set part.1 p → F.pre step b p }
+    requires copies { (b : _) (p : _) (r : _) (e : _) → Set part.1 p → F.post step b p r e → Moves part.0 part.1 b.now e.now p r }
+    ensures { Moves (times n part.0) part.1 buf.old buf.new q result }
+{
+    let mut t = q;
+    for _ in 0..n {
+        t = step(buf, t);
+    }
+    t
 }
 
 // What came with an edition: copied where the message has it, else its neutral value.
@@ -180,4 +186,29 @@ pub fn close(buf: &mut [u8], p: Pen)
         return;
     }
     finish(buf, p);
+}
+
+// A message written anew by a step that copies all of it: how many bytes it takes, counted first; written only where they fit.
+pub fn renew<F: Fn(&mut [u8], Copier) -> Copier>(buf: &mut [u8], from: u64, step: F) -> u64
+    ghost whole: { Splice × List ℕ }
+    requires inside { from ≤ 8 * reach whole.1 }
+    requires callable { (b : _) (p : _) → Set whole.1 p → F.pre step b p }
+    requires copies { (b : _) (p : _) (r : _) (e : _) → Set whole.1 p → F.post step b p r e → Moves whole.0 whole.1 b.now e.now p r }
+    ensures { Renews whole.0 from whole.1 buf.old buf.new result }
+{
+    let pen = Pen {
+        acc: 0,
+        n: 0,
+        at: 0,
+    };
+    let start = Copier { from, pen };
+    let mut none = [0u8; 1];
+    let counted = step(&mut none, start);
+    let needed = bytes_in(counted.pen);
+    if (buf.len() as u64) < needed {
+        return needed;
+    }
+    let copied = step(buf, start);
+    close(buf, copied.pen);
+    needed
 }

@@ -5,20 +5,20 @@ ghost use Rattle.std.specs.Prelude.{◌≡◌, ◌+◌, ◌-◌, ◌^◌, ◌<�
 ghost use Rattle.block_fill.specs.Filled.{Filled, Offered, cap_of};
 ghost use Rattle.block_fill.specs.Above.{Four, sum_of, FloorsFit, FilledAbove, SumsFit};
 
-use block_pick::Pick;
 use kilowatts::Kw;
+use std::array;
 
 // The blocks of an offer filled with p, at prices kept from 0: the cheapest first when producing, the dearest when consuming; it ends where nothing is left.
 pub fn fill(p: Kw, side: u32, blocks: usize, caps: [Kw; 4], prices: [u32; 4]) -> [Kw; 4]
     requires { Offered blocks caps }
     ensures { Filled side p.0 caps prices result }
 {
-    let mut powers = [Kw(0), Kw(0), Kw(0), Kw(0)];
+    let mut powers = [Kw(0); 4];
     let mut picked = [false; 4];
     let mut left = p;
     while 0 < left.0 {
         let next = block_pick::next(side, prices, blocks, picked);
-        let Pick::Block(k) = next else {
+        let Some(k) = next else {
             return powers;
         };
         let cap = caps[k];
@@ -30,14 +30,12 @@ pub fn fill(p: Kw, side: u32, blocks: usize, caps: [Kw; 4], prices: [u32; 4]) ->
     powers
 }
 
+// The same as `cell_bounds::sum_of`, which a lower crate cannot call, where the sum alone is known to be small.
 fn sum_of(powers: [Kw; 4]) -> Kw
     requires { sum_of powers < 2 ^ 32 }
     ensures { result.0 ≡ sum_of powers }
 {
-    let a = powers[0];
-    let b = powers[1];
-    let c = powers[2];
-    let d = powers[3];
+    let [a, b, c, d] = powers;
     Kw(a.0 + b.0 + c.0 + d.0)
 }
 
@@ -45,11 +43,7 @@ fn sum_of(powers: [Kw; 4]) -> Kw
 fn room_above(floors: [Kw; 4], caps: [Kw; 4]) -> [Kw; 4]
     ensures { Four (λ k. cap_of caps k - cap_of floors k) result }
 {
-    let a = caps[0].less(floors[0]);
-    let b = caps[1].less(floors[1]);
-    let c = caps[2].less(floors[2]);
-    let d = caps[3].less(floors[3]);
-    [a, b, c, d]
+    array::from_fn(|k| caps[k].less(floors[k]))
 }
 
 // Each block's floor and what it takes above it.
@@ -57,11 +51,7 @@ fn with_floors(floors: [Kw; 4], more: [Kw; 4]) -> [Kw; 4]
     requires { SumsFit floors more }
     ensures { Four (λ k. cap_of floors k + cap_of more k) result }
 {
-    let a = floors[0].plus(more[0]);
-    let b = floors[1].plus(more[1]);
-    let c = floors[2].plus(more[2]);
-    let d = floors[3].plus(more[3]);
-    [a, b, c, d]
+    array::from_fn(|k| floors[k].plus(more[k]))
 }
 
 // "Floors first, then price order": each block its floor, and what is left of p filled above them; without floors it is filling.

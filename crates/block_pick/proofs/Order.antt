@@ -1,23 +1,10 @@
 -- The order in which a device's blocks are picked: of any two blocks one goes ahead.
-use Rattle.std.specs.Prelude.{◌≡◌, refl, ◌⊎◌, Bool, true, false, List, [], ◌∷◌, ℕ, ◌≤◌, ◌<◌, T, ltb, eqb, get_or, ℤ, pos, negsuc}
-use Rattle.std.proofs.Common.{inl, inr, arith, eq-eqb, ne_eqb}
+use Rattle.std.specs.Prelude.{◌≡◌, ◌⊎◌, Bool, true, false, List, [], ◌∷◌, ℕ, ◌≤◌, ◌<◌, T, get_or, ℤ, pos, negsuc}
+use Rattle.std.proofs.Common.{inl, inr, arith}
 use Rattle.std.proofs.Math.Decide.{dec_le}
-use Rattle.numbers.specs.Blocks.{rank, first}
+use Rattle.numbers.specs.Blocks.{first}
 use Rattle.numbers.proofs.Blocks.{first-order, apart}
-use Rattle.block_pick.specs.Order.{Linear, ahead, ahead_in}
-
--- a block of a higher number goes ahead only by its price
-higher : (a b : Bool) → a ≡ rank a b false
-higher true b = refl
-higher false true = refl
-higher false false = refl
-
-module _ (side a b : ℕ) where
-  pub dearer-ahead : side ≡ 1 → ltb b a ≡ ahead (eqb side 1) a b false
-  dearer-ahead e = rw (eq-eqb side 1 e) (higher (ltb b a) (ltb a b))
-
-  pub cheaper-ahead : (side ≡ 1 → ⊥) → ltb a b ≡ ahead (eqb side 1) a b false
-  cheaper-ahead e = rw (ne_eqb side 1 e) (higher (ltb a b) (ltb b a))
+use Rattle.block_pick.specs.Order.{Linear, ahead_in}
 
 first-linear : (price : ℕ → ℤ) → Linear (first price)
 first-linear price = record {

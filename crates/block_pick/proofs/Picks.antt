@@ -1,11 +1,10 @@
 -- The next block: a definition that computes it, and what its answer says.
 use Rattle.std.specs.Prelude.{◌≡◌, refl, ◌⊎◌, Bool, true, false, not, List, [], ◌∷◌, ℕ, zero, suc, ◌+◌, ◌<◌, T, ltb, get_or}
-use Rattle.std.proofs.Common.{sym, ap, inl, inr, arith, add-one, le-ltb, ltb-true, ltb-false, T_not, ltb→lt}
+use Rattle.std.proofs.Common.{ap, inl, inr, arith, add-one, ltb-true, ltb-false, T_not, ltb→lt}
 use Rattle.std.proofs.Math.Decide.{ℕ_discrete}
 use Rattle.numbers.specs.Blocks.{rank}
 use Rattle.bits.specs.Pick.{pick}
-use Rattle.block_pick.specs.declared.Pick.{Pick}
-use Rattle.block_pick.specs.declared.Pick.TheVariants.{Block, None}
+use Rattle.std.specs.Prelude.{Option, Some, None}
 use Rattle.block_pick.specs.Order.{Linear, ahead, ahead_in}
 use Rattle.block_pick.proofs.Order.{ahead-linear}
 use Rattle.block_pick.specs.Ranks.{taken, NextIs, Picked, rank_in}
@@ -13,15 +12,15 @@ use Rattle.block_pick.proofs.Ranks.{pick-rank}
 use Rattle.block_pick.specs.Picks.{AllPicked, Below, BestPriced, BetterPriced, Numbered, Picks, Says, better, next_of, next_up_to, number_of, picked_at, price_at}
 
 -- prices 5, 2, 5, 1: the second pick when producing and when consuming, and none
-ex-picks : (next_of false (5 ∷ 2 ∷ 5 ∷ 1 ∷ []) 4 (false ∷ false ∷ false ∷ true ∷ []) ≡ Block 1)
-    × (next_of true (5 ∷ 2 ∷ 5 ∷ 1 ∷ []) 4 (true ∷ false ∷ false ∷ false ∷ []) ≡ Block 2)
+ex-picks : (next_of false (5 ∷ 2 ∷ 5 ∷ 1 ∷ []) 4 (false ∷ false ∷ false ∷ true ∷ []) ≡ Some 1)
+    × (next_of true (5 ∷ 2 ∷ 5 ∷ 1 ∷ []) 4 (true ∷ false ∷ false ∷ false ∷ []) ≡ Some 2)
     × (next_of true (5 ∷ 2 ∷ 5 ∷ 1 ∷ []) 4 (true ∷ true ∷ true ∷ true ∷ []) ≡ None)
 unfolding next_up_to
 ex-picks = (refl, refl, refl)
 
 -- an offer of two blocks at 5 and 2: the first pick and the second when producing, and none; the places without a block are never picked
-ex-offered : (next_of false (5 ∷ 2 ∷ 0 ∷ 0 ∷ []) 2 (false ∷ false ∷ false ∷ false ∷ []) ≡ Block 1)
-    × (next_of false (5 ∷ 2 ∷ 0 ∷ 0 ∷ []) 2 (false ∷ true ∷ false ∷ false ∷ []) ≡ Block 0)
+ex-offered : (next_of false (5 ∷ 2 ∷ 0 ∷ 0 ∷ []) 2 (false ∷ false ∷ false ∷ false ∷ []) ≡ Some 1)
+    × (next_of false (5 ∷ 2 ∷ 0 ∷ 0 ∷ []) 2 (false ∷ true ∷ false ∷ false ∷ []) ≡ Some 0)
     × (next_of false (5 ∷ 2 ∷ 0 ∷ 0 ∷ []) 2 (true ∷ true ∷ false ∷ false ∷ []) ≡ None)
 unfolding next_up_to
 ex-offered = (refl, refl, refl)
@@ -29,7 +28,7 @@ ex-offered = (refl, refl, refl)
 -- ---- what the definition's answer says
 module _ {ahead : ℕ → ℕ → Bool} (lin : Linear ahead) (picked : List Bool) (n : ℕ) where
   -- block n is picked
-  says_same : (r : Pick) → Says ahead n picked r → T (taken picked n) → Says ahead (suc n) picked r
+  says_same : (r : Option ℕ) → Says ahead n picked r → T (taken picked n) → Says ahead (suc n) picked r
   says_same None s t = all
     where
       all : (k : ℕ) → k < suc n → T (taken picked k)
@@ -38,7 +37,7 @@ module _ {ahead : ℕ → ℕ → Bool} (lin : Linear ahead) (picked : List Bool
           go : Dec (k ≡ n) → T (taken picked k)
           go (yes e) = rw e t
           go (no e) = s k (omega (arith, e))
-  says_same (Block k) s t = record { one = omega (arith, s.one); fresh = s.fresh; best = best }
+  says_same (Some k) s t = record { one = omega (arith, s.one); fresh = s.fresh; best = best }
     where
       best : (j : ℕ) → j < suc n → T (not (taken picked j)) → (j ≡ k → ⊥) → T (ahead k j)
       best j h u differ = go (ℕ_discrete j n)
@@ -48,12 +47,12 @@ module _ {ahead : ℕ → ℕ → Bool} (lin : Linear ahead) (picked : List Bool
           go (no e) = s.best j (omega (arith, e)) u differ
 
   -- block n is not
-  says-better : (r : Pick) → Says ahead n picked r → T (not (taken picked n)) → Says ahead (suc n) picked (better ahead r n)
+  says-better : (r : Option ℕ) → Says ahead n picked r → T (not (taken picked n)) → Says ahead (suc n) picked (better ahead r n)
   says-better None s t = record { one = omega arith; fresh = t; best = best }
     where
       best : (j : ℕ) → j < suc n → T (not (taken picked j)) → (j ≡ n → ⊥) → T (ahead n j)
       best j h u differ = absurd (T_not (taken picked j) u (s j (omega (arith, differ))))
-  says-better (Block k) s t = go (ahead n k) (λ a. a) (λ a. a) (lin.either k n (λ e. omega (arith, s.one)))
+  says-better (Some k) s t = go (ahead n k) (λ a. a) (λ a. a) (lin.either k n (λ e. omega (arith, s.one)))
     where
       over : T (ahead n k) → NextIs ahead (suc n) picked n
       over a = record { one = omega arith; fresh = t; best = best }
@@ -75,7 +74,7 @@ module _ {ahead : ℕ → ℕ → Bool} (lin : Linear ahead) (picked : List Bool
               at (yes e) = rw e a
               at (no e) = s.best j (omega (arith, e)) u differ
 
-      go : (b : Bool) → (T b → T (ahead n k)) → (T (ahead n k) → T b) → T (ahead k n) ⊎ T (ahead n k) → Says ahead (suc n) picked (pick b (Block n) (Block k))
+      go : (b : Bool) → (T b → T (ahead n k)) → (T (ahead n k) → T b) → T (ahead k n) ⊎ T (ahead n k) → Says ahead (suc n) picked (pick b (Some n) (Some k))
       go true f g d = over (f tt)
       go false f g (inl a) = under a
       go false f g (inr a) = absurd (g a)
@@ -85,7 +84,7 @@ unfolding next_up_to
 next-says lin picked zero = λ k h. absurd (omega arith)
 next-says {ahead} lin picked (suc n) = let s = next-says lin picked n in go (taken picked n) (says_same lin picked n r s) (says-better lin picked n r s)
   where
-    r : Pick
+    r : Option ℕ
     r = next_up_to ahead picked n
 
     go : (b : Bool) → (T b → Says ahead (suc n) picked r) → (T (not b) → Says ahead (suc n) picked (better ahead r n))
@@ -129,7 +128,7 @@ all-numbers n picked h zero i = absurd (omega (arith, i.0))
 all-numbers n picked h (suc k) i = h k (omega (arith, i.1))
 
 module _ (consuming : Bool) (prices : List ℕ) (n : ℕ) (picked : List Bool) where
-  pub picks_of : {r : Pick} → r ≡ next_of consuming prices n picked → Picks consuming prices n picked r
+  pub picks_of : {r : Option ℕ} → r ≡ next_of consuming prices n picked → Picks consuming prices n picked r
   picks_of {r} e = record {
     is = e;
     block = λ k b. next-best consuming prices n picked k (block r says k b);
@@ -140,50 +139,33 @@ module _ (consuming : Bool) (prices : List ℕ) (n : ℕ) (picked : List Bool) w
       says : Says (ahead_in consuming prices) n picked r
       says = rw e (next-says (ahead-linear consuming prices) picked n)
 
-      block : (r : Pick) → Says (ahead_in consuming prices) n picked r → (k : ℕ) → r ≡ Block k → NextIs (ahead_in consuming prices) n picked k
+      block : (r : Option ℕ) → Says (ahead_in consuming prices) n picked r → (k : ℕ) → r ≡ Some k → NextIs (ahead_in consuming prices) n picked k
       block r s k e = rw e at s
 
-      none : (r : Pick) → Says (ahead_in consuming prices) n picked r → r ≡ None → AllPicked n picked
+      none : (r : Option ℕ) → Says (ahead_in consuming prices) n picked r → r ≡ None → AllPicked n picked
       none r s e = all-numbers n picked (rw e at s)
 
-      all : (r : Pick) → Says (ahead_in consuming prices) n picked r → AllPicked n picked → r ≡ None
+      all : (r : Option ℕ) → Says (ahead_in consuming prices) n picked r → AllPicked n picked → r ≡ None
       all None s h = refl
-      all (Block k) s h = absurd (T_not (taken picked k) s.fresh (all-places _ _ h k s.one))
+      all (Some k) s h = absurd (T_not (taken picked k) s.fresh (all-places _ _ h k s.one))
 
   -- the block answered after m picks has rank m: m of the n go ahead of it
-  pub answer-rank : {m k : ℕ} → Picked (ahead_in consuming prices) n picked m → Picks consuming prices n picked (Block k)
+  pub answer-rank : {m k : ℕ} → Picked (ahead_in consuming prices) n picked m → Picks consuming prices n picked (Some k)
       → rank_in (ahead_in consuming prices) n k ≡ m
   answer-rank s r = pick-rank (ahead-linear consuming prices) s (r.next-is _ refl)
 
-pub lower : {found : Pick} {j k : ℕ} → found ≡ Block j → Below k found → j < k
-lower e below = rw e at below
-
-module _ (consuming : Bool) (prices : List ℕ) {found : Pick} (k : ℕ) where
-  pub better-none : found ≡ None → Block k ≡ better (ahead_in consuming prices) found k
-  better-none e = rw e refl
-
-  module _ {j : ℕ} {b : Bool} (e : found ≡ Block j) (below : Below k found) (is : b ≡ ahead consuming (get_or prices k 0) (get_or prices j 0) false) where
-    same : ahead_in consuming prices k j ≡ b
-    same = rw (le-ltb k j (omega (arith, lower e below))) (sym is)
-
-    pub better-ahead : b ≡ true → Block k ≡ better (ahead_in consuming prices) found k
-    better-ahead t = rw (e, same, t) refl
-
-    pub better-behind : b ≡ false → Block j ≡ better (ahead_in consuming prices) found k
-    better-behind t = rw (e, same, t) refl
-
-module _ (consuming : Bool) (prices : List ℕ) (picked : List Bool) (n : ℕ) {r : Pick} (e : r ≡ next_up_to (ahead_in consuming prices) picked n) where
+module _ (consuming : Bool) (prices : List ℕ) (picked : List Bool) (n : ℕ) {r : Option ℕ} (e : r ≡ next_up_to (ahead_in consuming prices) picked n) where
   pub found_below : Below n r
   found_below = go r (rw e (next-says (ahead-linear consuming prices) picked n))
     where
-      go : (r : Pick) → Says (ahead_in consuming prices) n picked r → Below n r
+      go : (r : Option ℕ) → Says (ahead_in consuming prices) n picked r → Below n r
       go None s = tt
-      go (Block k) s = s.one
+      go (Some k) s = s.one
 
   pub found-same : taken picked n ≡ true → r ≡ next_up_to (ahead_in consuming prices) picked (n + 1)
   unfolding next_up_to
   found-same t = rw (add-one n, t) e
 
-  pub found-better : {s : Pick} → taken picked n ≡ false → s ≡ better (ahead_in consuming prices) r n → s ≡ next_up_to (ahead_in consuming prices) picked (n + 1)
+  pub found-better : {s : Option ℕ} → taken picked n ≡ false → s ≡ better (ahead_in consuming prices) r n → s ≡ next_up_to (ahead_in consuming prices) picked (n + 1)
   unfolding next_up_to
   found-better t b = rw (add-one n, t, ← e) b

@@ -1,28 +1,27 @@
 -- The next block: a definition that computes it, and what its answer says.
 use Rattle.std.specs.Prelude.{◌≡◌, ◌⊎◌, ◌↔◌, Bool, true, false, not, List, ℕ, zero, suc, ◌≤◌, ◌<◌, T, get_or}
 use Rattle.bits.specs.Pick.{pick}
-use Rattle.block_pick.specs.declared.Pick.{Pick}
-use Rattle.block_pick.specs.declared.Pick.TheVariants.{Block, None}
+use Rattle.std.specs.Prelude.{Option, Some, None}
 use Rattle.block_pick.specs.Order.{ahead, ahead_in}
 use Rattle.block_pick.specs.Ranks.{taken, NextIs}
 
 -- of the answer for lower numbers and block k, the one ahead
-abbrev pub better : (ℕ → ℕ → Bool) → Pick → ℕ → Pick
-better ahead None k = Block k
-better ahead (Block j) k = pick (ahead k j) (Block k) (Block j)
+abbrev pub better : (ℕ → ℕ → Bool) → Option ℕ → ℕ → Option ℕ
+better ahead None k = Some k
+better ahead (Some j) k = pick (ahead k j) (Some k) (Some j)
 
 -- the next of the first n blocks
-unfoldable pub next_up_to : (ℕ → ℕ → Bool) → List Bool → ℕ → Pick
+unfoldable pub next_up_to : (ℕ → ℕ → Bool) → List Bool → ℕ → Option ℕ
 next_up_to ahead picked zero = None
 next_up_to ahead picked (suc n) = pick (taken picked n) (next_up_to ahead picked n) (better ahead (next_up_to ahead picked n) n)
 
 -- the next of the n blocks that an offer has
-abbrev pub next_of : Bool → List ℕ → ℕ → List Bool → Pick
+abbrev pub next_of : Bool → List ℕ → ℕ → List Bool → Option ℕ
 next_of consuming prices n picked = next_up_to (ahead_in consuming prices) picked n
 
 -- a block answered is the next one; none says that all are picked
-abbrev pub Says : (ℕ → ℕ → Bool) → ℕ → List Bool → Pick → Type 0
-Says ahead n picked (Block k) = NextIs ahead n picked k
+abbrev pub Says : (ℕ → ℕ → Bool) → ℕ → List Bool → Option ℕ → Type 0
+Says ahead n picked (Some k) = NextIs ahead n picked k
 Says ahead n picked None = (k : ℕ) → k < n → T (taken picked k)
 
 -- ---- the request's words: blocks by their numbers, from 1
@@ -62,15 +61,15 @@ AllPicked n picked = (x : ℕ) → Numbered n x → T (picked_at picked x)
 
 -- the answer for the n blocks of an offer: "each pick is the best-priced block not yet picked .., and finds none exactly when all are picked"; `next-is` says the
 -- first part again by the order of picks
-pub record Picks (consuming : Bool) (prices : List ℕ) (n : ℕ) (picked : List Bool) (r : Pick) : Type 0 where
+pub record Picks (consuming : Bool) (prices : List ℕ) (n : ℕ) (picked : List Bool) (r : Option ℕ) : Type 0 where
   pub is : r ≡ next_of consuming prices n picked
-  pub block : (k : ℕ) → r ≡ Block k → BestPriced consuming prices n picked (number_of k)
+  pub block : (k : ℕ) → r ≡ Some k → BestPriced consuming prices n picked (number_of k)
   pub none : (r ≡ None) ↔ AllPicked n picked
-  pub next-is : (k : ℕ) → r ≡ Block k → NextIs (ahead_in consuming prices) n picked k
+  pub next-is : (k : ℕ) → r ≡ Some k → NextIs (ahead_in consuming prices) n picked k
 
 -- ---- the loop over the blocks
 
 -- an answer for lower numbers
-abbrev pub Below : ℕ → Pick → Type 0
+abbrev pub Below : ℕ → Option ℕ → Type 0
 Below n None = Unit {0}
-Below n (Block k) = k < n
+Below n (Some k) = k < n

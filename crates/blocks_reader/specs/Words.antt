@@ -1,10 +1,8 @@
 -- A block as a word of the message.
 use Rattle.std.specs.Prelude.{ℕ, ◌+◌, ◌*◌, ◌≤◌}
-use Rattle.layouts.specs.declared.Place.{Place}
 use Rattle.kilowatts.specs.Power.{kw}
 use Rattle.records.specs.Views.{price_offset}
-use Rattle.fields.specs.declared.Went.TheVariants.{On}
-use Rattle.blocks_reader.specs.declared.BlockRead.{BlockRead}
+use Rattle.cell_groups.specs.declared.Block.{Block}
 
 -- "each cap 17 and price 15 (±10,000)"; the floor stands between them
 abbrev pub plain_bits : ℕ
@@ -13,8 +11,8 @@ plain_bits = 17 + 15
 abbrev pub floor_bits : ℕ
 floor_bits = 17 + 17 + 15
 
-abbrev pub block_read : ℕ → ℕ → ℕ → Place → BlockRead
-block_read cap floor price p = record { went = On p; block = record { cap = kw cap; floor = kw floor; price = price } }
+abbrev pub block_with : ℕ → ℕ → ℕ → Block
+block_with cap floor price = record { cap = kw cap; floor = kw floor; price = price }
 
 -- each is in its range, and the floor is not above the cap
 pub record BlockFits (cap floor price : ℕ) : Type 0 where

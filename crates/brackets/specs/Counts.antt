@@ -1,16 +1,15 @@
 -- The bracket n of a device in interval t, out of its parts of the tables: on, and each trajectory above 0; overlapping curves count each. Where the power is the online power, n is u.
-use Rattle.std.specs.Prelude.{◌≡◌, refl, Bool, true, false, List, ℕ, zero, suc, ◌+◌, ◌-◌, ◌*◌, ◌≤◌, ◌<◌, ltb, length, get_or}
-use Rattle.std.proofs.Common.{sym, ap, ◌∙◌, arith, zero-mul, mul-zero, one-mul, lt-ltb, le-ltb, eq-eqb, ne_eqb}
-use Rattle.std.proofs.Math.Decide.{dec_le}
+use Rattle.std.specs.Prelude.{◌≡◌, refl, List, ℕ, zero, suc, ◌+◌, ◌*◌, ◌≤◌, ◌<◌, ltb, length}
+use Rattle.std.proofs.Common.{arith, le-ltb}
 use Rattle.numbers.specs.Sum.{sumℕ, sumℕ-mono, all, gate}
-use Rattle.numbers.specs.Base.{range, up_to, bit}
+use Rattle.numbers.specs.Base.{up_to, bit}
 use Rattle.numbers.specs.Every.{bit_le}
 use Rattle.numbers.specs.Ranges.{sum_more, sum-few}
-use Rattle.row_places.specs.Figures.{on_at, online_at, on_before, pmin_at, started_at, stopped_at}
+use Rattle.row_places.specs.Figures.{on_at, online_at, pmin_at, started_at, stopped_at}
 use Rattle.clock.specs.Times.{Clock}
 use Rattle.trajectories.specs.Trajectories.{leaves_at, rise_in, fall_in}
 use Rattle.ramped_powers.specs.declared.Ramping.{Ramping}
-use Rattle.ramped_powers.specs.Changes.{Rampable, leaves-low}
+use Rattle.ramped_powers.specs.Changes.{Rampable}
 
 module _ (r : Ramping) (cells settings : List (List ℕ)) (starts : List ℕ) (t : ℕ) where
   -- what a later start in e gives t (204, 205)
@@ -71,58 +70,10 @@ pub record Countable (r : Ramping) (cells settings : List (List ℕ)) (starts : 
   pub on : (t : ℕ) → t < length cells → on_at settings t ≤ 1
   pub clock : Clock (length cells) starts
 
--- ---- one trajectory: s is 1 where the device starts or stops, x what is left of its power
-
-module _ (s x : ℕ) where
-  not_there : s ≡ 0 → 0 ≡ bit (ltb 0 (s * x))
-  not_there e = rw (e, zero-mul) refl
-
-  nothing_left : x ≡ 0 → 0 ≡ bit (ltb 0 (s * x))
-  nothing_left e = rw (e, mul-zero) refl
-
-  something-left : s ≤ 1 → (s ≡ 0 → ⊥) → (x ≡ 0 → ⊥) → 1 ≡ bit (ltb 0 (s * x))
-  something-left l n m = let e : s ≡ 1 = omega arith in rw (e, one-mul, lt-ltb 0 x (omega arith)) refl
-
 module _ (r : Ramping) (cells settings : List (List ℕ)) (starts : List ℕ) (t e : ℕ) where
-  abbrev started : ℕ
-  started = started_at r.on0 settings e
-
-  abbrev rising : ℕ
-  rising = rise_in (pmin_at cells e) r.starting starts e t
-
-  abbrev stopped : ℕ
-  stopped = stopped_at r.on0 settings e
-
-  abbrev falling : ℕ
-  falling = fall_in (leaves_at r.power0.0 cells e) r.stopping starts e t
-
   -- a start up to t gives nothing
   not-later : e < t + 1 → start_count r cells settings starts t e ≡ 0
   not-later h = rw (le-ltb t e (omega arith)) refl
-
-  -- a later one, by what the code finds
-  module _ (h : t < e) where
-    later : {n : ℕ} → n ≡ bit (ltb 0 (started * rising)) → n ≡ start_count r cells settings starts t e
-    later g = g ∙ sym (rw (lt-ltb t e h) refl)
-
-    pub no-start : started ≡ 0 → 0 ≡ start_count r cells settings starts t e
-    no-start z = later (not_there started rising z)
-
-    pub start-ended : rising ≡ 0 → 0 ≡ start_count r cells settings starts t e
-    start-ended z = later (nothing_left started rising z)
-
-    pub start-above : (started ≡ 0 → ⊥) → (rising ≡ 0 → ⊥) → 1 ≡ start_count r cells settings starts t e
-    start-above n m = later (something-left started rising (bit_le (ltb (on_before r.on0 settings e) (on_at settings e))) n m)
-
-  -- a stop
-  pub no_stop : stopped ≡ 0 → 0 ≡ stop_count r cells settings starts t e
-  no_stop z = not_there stopped falling z
-
-  pub stop-ended : falling ≡ 0 → 0 ≡ stop_count r cells settings starts t e
-  stop-ended z = nothing_left stopped falling z
-
-  pub stop-above : (stopped ≡ 0 → ⊥) → (falling ≡ 0 → ⊥) → 1 ≡ stop_count r cells settings starts t e
-  stop-above n m = something-left stopped falling (bit_le (ltb (on_at settings e) (on_before r.on0 settings e))) n m
 
 -- ---- those counted below e
 
@@ -151,7 +102,3 @@ module _ (r : Ramping) (cells settings : List (List ℕ)) (starts : List ℕ) (t
   pub stops-all : {e n : ℕ} → e ≡ suc t → CountedTo (stop_count r cells settings starts t) e n → n ≡ stops_above r cells settings starts t
   unfolding stops_above
   stops-all g h = rw (← g) h.total
-
-pub leaves-small : {r : Ramping} {cells settings : List (List ℕ)} {starts : List ℕ} → Countable r cells settings starts
-    → (e : ℕ) → e < length cells → leaves_at r.power0.0 cells e ≤ 100000
-leaves-small {r} {cells} h e l = leaves-low r cells e h.rampable l

@@ -1,5 +1,5 @@
 -- The bracket of a device's parts, and their power, are the model's.
-use Rattle.std.specs.Prelude.{◌≡◌, List, [], ℕ, suc, ◌+◌, ◌≤◌, ◌<◌, ltb, get_or, length}
+use Rattle.std.specs.Prelude.{◌≡◌, List, [], ℕ, suc, ◌≤◌, ◌<◌, ltb, get_or, length}
 use Rattle.std.proofs.Math.Path.{refl, ap}
 use Rattle.std.proofs.Common.{arith}
 use Rattle.std.proofs.Math.Decide.{dec_le}
@@ -12,7 +12,7 @@ use Rattle.model.specs.Case.{System, Plan}
 use Rattle.model.specs.Forced as F
 use Rattle.row_places.specs.declared.Device.{Device}
 use Rattle.row_places.specs.declared.Front.{Front}
-use Rattle.row_places.specs.Figures.{device_of, on_at}
+use Rattle.row_places.specs.Figures.{device_of}
 use Rattle.records.specs.Views.{system_in, plan_in, last_minute, Ready}
 use Rattle.records.specs.Viewed as W
 use Rattle.records.specs.Ranged as G

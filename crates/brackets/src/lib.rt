@@ -29,10 +29,8 @@ fn start_count(
         return 0;
     }
     let power = pmin_at(cells, e);
-    let until = e + 1;
-    let from = t + 1;
-    let left = left_after(power.0, r.starting, starts[until] - starts[from]);
-    if left == 0 { 0 } else { 1 }
+    let left = left_after(power.0, r.starting, starts[e + 1] - starts[t + 1]);
+    u32::from(left != 0)
 }
 
 // 1 where a stop in e gives t, from e on, a power above 0.
@@ -52,9 +50,8 @@ fn stop_count(
         return 0;
     }
     let power = leaves_at(r.power0, cells, e);
-    let until = t + 1;
-    let left = left_after(power.0, r.stopping, starts[until] - starts[e]);
-    if left == 0 { 0 } else { 1 }
+    let left = left_after(power.0, r.stopping, starts[t + 1] - starts[e]);
+    u32::from(left != 0)
 }
 
 // The later starts whose trajectory is above 0 in t.
@@ -69,10 +66,8 @@ fn starts_above(
     ensures { (result ≡ starts_above r cells.now settings.now starts.now t) × (result ≤ most_intervals) }
 {
     let mut n = 0;
-    let mut e = t + 1;
-    while e < cells.len() {
+    for e in t + 1..cells.len() {
         n += start_count(r, cells, settings, starts, t, e);
-        e += 1;
     }
     n
 }
@@ -89,23 +84,13 @@ fn stops_above(
     ensures { (result ≡ stops_above r cells.now settings.now starts.now t) × (result ≤ most_intervals) }
 {
     let mut n = 0;
-    let mut e = 0;
-    while e <= t {
+    for e in 0..=t {
         n += stop_count(r, cells, settings, starts, t, e);
-        e += 1;
     }
     n
 }
 
-// Overlapping curves count each.
-fn all_of(on: u32, rising: u32, falling: u32) -> u32
-    requires { (on ≤ 1) × (rising ≤ most_intervals) × (falling ≤ most_intervals) }
-    ensures { result ≡ on + rising + falling }
-{
-    on + rising + falling
-}
-
-// n, counted: on, and each trajectory above 0.
+// n, counted: on, and each trajectory above 0. Overlapping curves count each.
 fn bracket_at(
     r: Ramping,
     cells: &[CellRow],
@@ -119,7 +104,7 @@ fn bracket_at(
     let on = on_at(settings, t);
     let rising = starts_above(r, cells, settings, starts, t);
     let falling = stops_above(r, cells, settings, starts, t);
-    all_of(on, rising, falling)
+    on + rising + falling
 }
 
 // n, by the device's power in t: u where that is its online power, for no trajectory reaches t then.

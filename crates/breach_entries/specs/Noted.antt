@@ -1,8 +1,7 @@
 -- Breaches noted one behind the other in a lent list, entry k at the four bytes from 4·k on, each where the list has room for it.
-use Rattle.std.specs.Prelude.{◌≡◌, refl, Bool, true, false, List, [], ◌∷◌, ◌++◌, ℕ, suc, ◌+◌, ◌-◌, ◌*◌, ◌≤◌, ◌<◌, leb, length, take, drop}
-use Rattle.std.proofs.Common.{sym, ap, ◌∙◌, append_assoc, append-nil, arith, le-leb, length-append, length-drop, take_at, drop_at, drop-drop}
+use Rattle.std.specs.Prelude.{◌≡◌, refl, Bool, true, false, List, [], ◌∷◌, ◌++◌, ℕ, suc, ◌+◌, ◌*◌, ◌≤◌, ◌<◌, leb, length, take, drop}
+use Rattle.std.proofs.Common.{sym, ap, ◌∙◌, append_assoc, arith, le-leb, length-append, length-drop, take_at, drop_at, drop-drop}
 use Rattle.std.proofs.lemmas.Bool.{lt-leb}
-use Rattle.std.proofs.Math.Seq.{take-length, drop-length}
 use Rattle.bits.specs.Pick.{pick}
 use Rattle.numbers.specs.Base.{up_to, gather}
 use Rattle.numbers.specs.Gather.{from, from_all, from_end, gather-next}
@@ -13,15 +12,7 @@ use Rattle.model.specs.Lists.{breach_bytes, list_bytes}
 unfoldable pub entered : ℕ → Breach → List ℕ → List ℕ
 entered k b list = pick (leb (4 * k + 4) (length list)) (take (4 * k) list ++ (breach_bytes b ++ drop 4 (drop (4 * k) list))) list
 
--- it stands there where there is room; nothing is done where there is none
-pub entered-there : (k : ℕ) (b : Breach) (list : List ℕ) {part : List ℕ} → 4 * k + 4 ≤ length list
-    → part ≡ breach_bytes b ++ drop 4 (take (length list - 4 * k) (drop (4 * k) list)) → take (4 * k) list ++ (part ++ drop (length list - 4 * k) (drop (4 * k) list)) ≡ entered k b list
-unfolding entered
-entered-there k b list h e =
-    let n : length list - 4 * k ≡ length (drop (4 * k) list) = sym (length-drop (4 * k) list) in
-    rw (e, n, take-length (drop (4 * k) list), drop-length (drop (4 * k) list), le-leb (4 * k + 4) (length list) h)
-    (ap (λ (x : List ℕ). take (4 * k) list ++ x) (append-nil (breach_bytes b ++ drop 4 (drop (4 * k) list))))
-
+-- nothing is done where there is no room
 pub entered-not : (k : ℕ) (b : Breach) (list : List ℕ) → length list < 4 * k + 4 → list ≡ entered k b list
 unfolding entered
 entered-not k b list h = rw (lt-leb (4 * k + 4) (length list) h) refl

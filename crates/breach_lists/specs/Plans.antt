@@ -1,5 +1,5 @@
 -- Listing the breaches of a plan's bytes against a decoded case.
-use Rattle.std.specs.Prelude.{◌≡◌, refl, List, ℕ, length}
+use Rattle.std.specs.Prelude.{Ok, Err, ◌≡◌, refl, List, ℕ, length}
 use Rattle.std.proofs.Common.{sym, ap, ap₂, ◌∙◌, subst}
 use Rattle.layouts.specs.declared.Fault.{Fault}
 use Rattle.layouts.specs.Layout.{passes, fails}
@@ -10,9 +10,7 @@ use Rattle.model.specs.Case.{Plan}
 use Rattle.model.specs.ByEdition.{Stated}
 use Rattle.model.specs.Judgement.{read_plan}
 use Rattle.model.specs.Lists.{Listings, list_plan}
-use Rattle.message_ends.specs.Ended.{ended}
-use Rattle.message_ends.specs.declared.Ending.{Ending}
-use Rattle.message_ends.specs.declared.Ending.TheVariants.{Passes, Fails}
+use Rattle.message_ends.specs.Ended.{Ending, ended}
 use Rattle.row_places.specs.declared.Front.{Front}
 use Rattle.records.specs.Views.{plan_in}
 use Rattle.plan_header.specs.Plans.{PlanDone}
@@ -44,12 +42,12 @@ module _ {front : Front} {halves : List ℕ} {zones minima devices cells : List 
       → ListsPlan front halves zones minima devices cells ps before after r
   lists-plan {before} f g = record { answer = f; list = g; promise = subst (PlanListed x ps before) (same-listing f g) (plan-listed x (sound-rows d) ps before) }
 
-  pub list-fails : (before : List ℕ) {f : Fault} → e ≡ Fails f → ListsPlan front halves zones minima devices cells ps before before (Refused S.Plan f)
+  pub list-fails : (before : List ℕ) {f : Fault} → e ≡ Err f → ListsPlan front halves zones minima devices cells ps before before (Refused S.Plan f)
   list-fails before {f} t =
       let g : read_plan x ps ≡ fails f = sym (plan-read d ps settings e h) ∙ ap (ended p) t in
       lists-plan (rw g refl) (rw g refl)
 
-  pub list-passes : {before after : List ℕ} {r : Listing} → e ≡ Passes → ListsRows front halves zones minima devices cells settings before after r
+  pub list-passes : {before after : List ℕ} {r : Listing} → e ≡ Ok tt → ListsRows front halves zones minima devices cells settings before after r
       → ListsPlan front halves zones minima devices cells ps before after r
   list-passes t k =
       let g : read_plan x ps ≡ passes p = sym (plan-read d ps settings e h) ∙ ap (ended p) t in

@@ -7,7 +7,6 @@ ghost use Rattle.breach_lists.specs.Lists.{ListsRows};
 ghost use Rattle.breach_lists.specs.Plans.{ListsPlan};
 
 use layouts::Fault;
-use message_ends::Ending;
 use model::{Listing, Subject};
 use row_places::{CellRow, DeviceRow, Front, MinimaRow, SettingRow, ZoneRow};
 
@@ -94,8 +93,8 @@ pub fn breaches_of_plan(
     let n = devices.len();
     let m = halves.len();
     match plan_reader::read_plan(plan, front.edition, n, m, settings) {
-        Ending::Fails(f) => Listing::Refused(Subject::Plan, f),
-        Ending::Passes => list_settings(
+        Err(f) => Listing::Refused(Subject::Plan, f),
+        Ok(()) => list_settings(
             front, halves, zones, minima, devices, cells, settings, starts, powers, list,
         ),
     }

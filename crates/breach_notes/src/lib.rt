@@ -1,7 +1,7 @@
 // Every broken rule of a day noted in a lent list, in the order of the rules.
 #![tactic(auto)]
 
-ghost use Rattle.std.specs.Prelude.{◌≡◌, ◌+◌, ◌*◌, ◌≤◌, ◌<◌, length};
+ghost use Rattle.std.specs.Prelude.{◌+◌, ◌≤◌, ◌<◌, length};
 ghost use Rattle.model.specs.Breaches.{cell_breaches, window_breaches};
 ghost use Rattle.records.specs.Views.{system_in, plan_in, most_windows, most_devices, most_intervals, Ready};
 ghost use Rattle.breach_entries.specs.Noted.{Notes, most_entries};
@@ -24,18 +24,16 @@ fn note_word(word: u32, t: usize, i: usize, k: usize, list: &mut [u8]) -> usize
     ensures { Notes k (word_breaches t i word) list.old list.new result }
 {
     let mut rest = word;
-    let mut rule = 0;
     let mut n = k;
-    while rule < 32 {
+    for rule in 0..32 {
         let b = cell_breach(rule, t, i);
         n = note_if(rest % 2 == 1, b, n, list);
         rest /= 2;
-        rule += 1;
     }
     n
 }
 
-// Rules 1 to 19 and 21 to 26 of device i, whose parts begin at a, in interval t.
+// Rules 1 to 19 and 21 to 26 of device i in interval t.
 fn note_cell(
     front: Front,
     halves: &[u32],
@@ -47,18 +45,18 @@ fn note_cell(
     starts: &[u32],
     powers: &[u32],
     i: usize,
-    a: usize,
     t: usize,
     k: usize,
     list: &mut [u8],
 ) -> usize
     requires ready { Ready front halves.now zones.now minima.now devices.now cells.now settings.now starts.now powers.now × (i < length devices.now) ×
-        (a ≡ i * length halves.now) × (t < length halves.now) }
+        (t < length halves.now) }
     requires i_bound { k + length (cell_breaches (system_in halves.now zones.now minima.now devices.now cells.now) (plan_in (length devices.now) (length halves.now)
         settings.now) t i) ≤ most_entries }
     ensures { Notes k (cell_breaches (system_in halves.now zones.now minima.now devices.now cells.now) (plan_in (length
         devices.now) (length halves.now) settings.now) t i) list.old list.new result }
 {
+    let a = i * halves.len();
     let word = failing_in(
         front, halves, zones, minima, devices, cells, settings, starts, powers, i, a, t,
     );
@@ -86,16 +84,11 @@ fn note_interval_cells(
     ensures { Notes k (interval_cells (system_in halves.now zones.now minima.now devices.now cells.now) (plan_in
         (length devices.now) (length halves.now) settings.now) t) list.old list.new result }
 {
-    let mut i = 0;
-    let mut a = 0;
     let mut n = k;
-    while i < devices.len() {
+    for i in 0..devices.len() {
         n = note_cell(
-            front, halves, zones, minima, devices, cells, settings, starts, powers, i, a, t, n,
-            list,
+            front, halves, zones, minima, devices, cells, settings, starts, powers, i, t, n, list,
         );
-        a += halves.len();
-        i += 1;
     }
     n
 }
@@ -149,13 +142,11 @@ fn note_cells(
     ensures { Notes k (day_breaches (system_in halves.now zones.now minima.now devices.now cells.now) (plan_in (length
         devices.now) (length halves.now) settings.now)) list.old list.new result }
 {
-    let mut t = 0;
     let mut n = k;
-    while t < halves.len() {
+    for t in 0..halves.len() {
         n = note_interval(
             front, halves, zones, minima, devices, cells, settings, starts, powers, t, n, list,
         );
-        t += 1;
     }
     n
 }
@@ -174,19 +165,16 @@ fn note_windows(
     ensures { Notes k (windows_here d settings.now starts.now i) list.old list.new result }
 {
     let all = all_starts(d.on0, settings);
-    let mut w = 0;
     let mut n = k;
-    while w < d.nstarts {
-        let window = d.starts[w];
-        let kept = window_kept(window, all, d.on0, settings, starts);
+    for (w, window) in d.starts[..d.nstarts].iter().enumerate() {
+        let kept = window_kept(*window, all, d.on0, settings, starts);
         let b = window_breach(i, w);
         n = note_if(!kept, b, n, list);
-        w += 1;
     }
     n
 }
 
-// Rule 20 of device i, whose parts begin at a.
+// Rule 20 of device i.
 fn note_device(
     front: Front,
     halves: &[u32],
@@ -198,17 +186,17 @@ fn note_device(
     starts: &[u32],
     powers: &[u32],
     i: usize,
-    a: usize,
     k: usize,
     list: &mut [u8],
 ) -> usize
-    requires ready { Ready front halves.now zones.now minima.now devices.now cells.now settings.now starts.now powers.now × (i < length devices.now) × (a ≡ i * length halves.now) }
+    requires ready { Ready front halves.now zones.now minima.now devices.now cells.now settings.now starts.now powers.now × (i < length devices.now) }
     requires i_bound { k + length (window_breaches (system_in halves.now zones.now minima.now devices.now cells.now) (plan_in (length devices.now) (length halves.now)
         settings.now) i) ≤ most_entries }
     ensures { Notes k (window_breaches (system_in halves.now zones.now minima.now devices.now cells.now) (plan_in
         (length devices.now) (length halves.now) settings.now) i) list.old list.new result }
 {
     let d = device_at(devices, i);
+    let a = i * halves.len();
     let e = a + halves.len();
     note_windows(d, &settings[a..e], starts, i, k, list)
 }
@@ -233,15 +221,11 @@ fn note_devices(
     ensures { Notes k (day_windows (system_in halves.now zones.now minima.now devices.now cells.now) (plan_in (length
         devices.now) (length halves.now) settings.now)) list.old list.new result }
 {
-    let mut i = 0;
-    let mut a = 0;
     let mut n = k;
-    while i < devices.len() {
+    for i in 0..devices.len() {
         n = note_device(
-            front, halves, zones, minima, devices, cells, settings, starts, powers, i, a, n, list,
+            front, halves, zones, minima, devices, cells, settings, starts, powers, i, n, list,
         );
-        a += halves.len();
-        i += 1;
     }
     n
 }

@@ -11,10 +11,10 @@ use Rattle.model.specs.Rules.{cell_breach}
 use Rattle.model.specs.Breaches.{unless}
 use Rattle.cell_bounds.specs.Word.{bits_from, numbers_in}
 use Rattle.breaches.specs.First.{first}
-use Rattle.breaches.specs.declared.Check.{Check}
-use Rattle.breaches.specs.declared.Check.TheVariants.{Held, Broken}
+use Rattle.model.specs.declared.Breach.{Breach}
+use Rattle.std.specs.Prelude.{Option, Some, None}
 
-unfoldable pub first_of : ℕ → ℕ → List ℕ → Check
+unfoldable pub first_of : ℕ → ℕ → List ℕ → Option Breach
 first_of t i ns = first (map (cell_breach t i) ns)
 
 module _ (t i word : ℕ) where
@@ -30,7 +30,7 @@ module _ (t i word : ℕ) where
     one_more : 32 - k ≡ suc (32 - (k + 1))
     one_more = omega arith
 
-    pub bits-found : rest % 2 ≡ 1 → Broken (cell_breach t i k) ≡ first_of t i (numbers_in word)
+    pub bits-found : rest % 2 ≡ 1 → Some (cell_breach t i k) ≡ first_of t i (numbers_in word)
     unfolding first_of first bits_from
     bits-found e = let z : eqb (rest % 2) 0 ≡ false = ne_eqb (rest % 2) 0 (λ x. omega arith) in (rw (one_more, z) refl) ∙ left.same
 
@@ -41,6 +41,6 @@ module _ (t i word : ℕ) where
         let s : suc k ≡ k + 1 = omega arith in
         record { same = rw (one_more, z, s) at left.same }
 
-  pub bits-done : {k rest : ℕ} → 32 ≤ k → BitsLeft k rest → Held ≡ first_of t i (numbers_in word)
+  pub bits-done : {k rest : ℕ} → 32 ≤ k → BitsLeft k rest → None ≡ first_of t i (numbers_in word)
   unfolding first_of first bits_from
   bits-done {k} h left = let z : 32 - k ≡ 0 = omega arith in (rw z at left.same)

@@ -13,8 +13,7 @@ use Rattle.model.specs.Breaches.{cell_breaches, link_breaches, window_breaches, 
 use Rattle.failing_rules.specs.Day.{interval_cells, interval_breaches, day_breaches, day_windows, interval-is, day-is}
 use Rattle.model.specs.declared.Breach.{Breach}
 use Rattle.breaches.specs.First.{first, or_else, first-append, else-stop, else-pass, Left, loop-start, loop-held, loop-broken, loop-done}
-use Rattle.breaches.specs.declared.Check.{Check}
-use Rattle.breaches.specs.declared.Check.TheVariants.{Held, Broken}
+use Rattle.std.specs.Prelude.{Option, Some, None}
 
 -- nothing in all, nothing in a part
 both-none : {A : Type 0} (xs ys : List A) → xs ++ ys ≡ [] → (xs ≡ []) × (ys ≡ [])
@@ -34,10 +33,10 @@ module _ (q : System) (p : Plan) where
   day-first : first (breaches q p) ≡ or_else (first (day_breaches q p)) (first (day_windows q p))
   day-first = rw (day-is q p) (first-append (day_breaches q p) (day_windows q p))
 
-  pub day-stop : {x : Check} {y : Breach} → x ≡ first (day_breaches q p) → x ≡ Broken y → x ≡ first (breaches q p)
+  pub day-stop : {x : Option Breach} {y : Breach} → x ≡ first (day_breaches q p) → x ≡ Some y → x ≡ first (breaches q p)
   day-stop e b = rw day-first (else-stop (first (day_windows q p)) e b)
 
-  pub day-pass : {x y : Check} → x ≡ first (day_breaches q p) → x ≡ Held → y ≡ first (day_windows q p) → y ≡ first (breaches q p)
+  pub day-pass : {x y : Option Breach} → x ≡ first (day_breaches q p) → x ≡ None → y ≡ first (day_windows q p) → y ≡ first (breaches q p)
   day-pass e b f = rw day-first (else-pass e b f)
 
   -- the cells' breaches of an interval, then its link's
@@ -45,7 +44,7 @@ module _ (q : System) (p : Plan) where
     interval-first : first (interval_breaches q p t) ≡ or_else (first (interval_cells q p t)) (first (link_breaches q p t))
     interval-first = rw (interval-is q p t) (first-append (interval_cells q p t) (link_breaches q p t))
 
-    pub interval-found : {x y z : Check} → x ≡ first (interval_cells q p t) → y ≡ first (link_breaches q p t) → z ≡ or_else x y → z ≡ first (interval_breaches q p t)
+    pub interval-found : {x y z : Option Breach} → x ≡ first (interval_cells q p t) → y ≡ first (link_breaches q p t) → z ≡ or_else x y → z ≡ first (interval_breaches q p t)
     interval-found e f g = g ∙ rw (e, f) (sym interval-first)
 
   -- ---- the loops over devices, intervals, and devices again: what is left gives what the whole gives
@@ -69,40 +68,40 @@ module _ (q : System) (p : Plan) where
   windows-start = record { left = loop-start (window_breaches q p) (devices q) }
 
   module _ {n : ℕ} (many : devices q ≡ n) where
-    module _ {t i : ℕ} {x : Check} (l : i < n) (left : CellsLeft t i) (e : x ≡ first (cell_breaches q p t i)) where
-      pub cells-held : x ≡ Held → CellsLeft t (i + 1)
+    module _ {t i : ℕ} {x : Option Breach} (l : i < n) (left : CellsLeft t i) (e : x ≡ first (cell_breaches q p t i)) where
+      pub cells-held : x ≡ None → CellsLeft t (i + 1)
       cells-held b = record { left = loop-held _ (omega arith) left.left e b }
 
-      pub cells-broken : {y : Breach} → x ≡ Broken y → x ≡ first (interval_cells q p t)
+      pub cells-broken : {y : Breach} → x ≡ Some y → x ≡ first (interval_cells q p t)
       unfolding interval_cells
       cells-broken b = loop-broken _ (omega arith) left.left e b
 
-    pub cells-done : {t i : ℕ} → n ≤ i → CellsLeft t i → Held ≡ first (interval_cells q p t)
+    pub cells-done : {t i : ℕ} → n ≤ i → CellsLeft t i → None ≡ first (interval_cells q p t)
     unfolding interval_cells
     cells-done l left = loop-done _ (omega arith) left.left
 
-    module _ {i : ℕ} {x : Check} (l : i < n) (left : WindowsLeft i) (e : x ≡ first (window_breaches q p i)) where
-      pub windows-held : x ≡ Held → WindowsLeft (i + 1)
+    module _ {i : ℕ} {x : Option Breach} (l : i < n) (left : WindowsLeft i) (e : x ≡ first (window_breaches q p i)) where
+      pub windows-held : x ≡ None → WindowsLeft (i + 1)
       windows-held b = record { left = loop-held _ (omega arith) left.left e b }
 
-      pub windows-broken : {y : Breach} → x ≡ Broken y → x ≡ first (day_windows q p)
+      pub windows-broken : {y : Breach} → x ≡ Some y → x ≡ first (day_windows q p)
       unfolding day_windows
       windows-broken b = loop-broken _ (omega arith) left.left e b
 
-    pub windows-done : {i : ℕ} → n ≤ i → WindowsLeft i → Held ≡ first (day_windows q p)
+    pub windows-done : {i : ℕ} → n ≤ i → WindowsLeft i → None ≡ first (day_windows q p)
     unfolding day_windows
     windows-done l left = loop-done _ (omega arith) left.left
 
   module _ {m : ℕ} (many : intervals q ≡ m) where
-    module _ {t : ℕ} {x : Check} (l : t < m) (left : IntervalsLeft t) (e : x ≡ first (interval_breaches q p t)) where
-      pub intervals-held : x ≡ Held → IntervalsLeft (t + 1)
+    module _ {t : ℕ} {x : Option Breach} (l : t < m) (left : IntervalsLeft t) (e : x ≡ first (interval_breaches q p t)) where
+      pub intervals-held : x ≡ None → IntervalsLeft (t + 1)
       intervals-held b = record { left = loop-held _ (omega arith) left.left e b }
 
-      pub intervals-broken : {y : Breach} → x ≡ Broken y → x ≡ first (day_breaches q p)
+      pub intervals-broken : {y : Breach} → x ≡ Some y → x ≡ first (day_breaches q p)
       unfolding day_breaches
       intervals-broken b = loop-broken _ (omega arith) left.left e b
 
-    pub intervals-done : {t : ℕ} → m ≤ t → IntervalsLeft t → Held ≡ first (day_breaches q p)
+    pub intervals-done : {t : ℕ} → m ≤ t → IntervalsLeft t → None ≡ first (day_breaches q p)
     unfolding day_breaches
     intervals-done l left = loop-done _ (omega arith) left.left
 
@@ -162,6 +161,6 @@ module _ (q : System) (p : Plan) where
       interval : (t : ℕ) → t < intervals q → (interval_cells q p t ≡ []) × (link_breaches q p t ≡ [])
       interval t l = both-none (interval_cells q p t) (link_breaches q p t) (sym (interval-is q p t) ∙ gathered_none (interval_breaches q p) (intervals q) parts.0 t l)
 
-  pub first-none : breaches q p ≡ [] → Held ≡ first (breaches q p)
+  pub first-none : breaches q p ≡ [] → None ≡ first (breaches q p)
   unfolding first
   first-none e = rw e refl

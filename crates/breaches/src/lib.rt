@@ -1,11 +1,11 @@
 // The numbered rules of a day: whether a plan breaks none, and the first that it breaks.
 #![tactic(auto)]
 
-ghost use Rattle.std.specs.Prelude.{◌≡◌, true, ◌↔◌, [], ◌*◌, ◌≤◌, ◌<◌, length};
+ghost use Rattle.std.specs.Prelude.{◌≡◌, true, ◌↔◌, [], ◌≤◌, ◌<◌, length};
 ghost use Rattle.model.specs.Breaches.{cell_breaches, window_breaches, breaches};
 ghost use Rattle.records.specs.Views.{system_in, plan_in, most_windows, most_devices, most_intervals, Ready};
 ghost use Rattle.cell_bounds.specs.Word.{numbers_in};
-ghost use Rattle.breaches.specs.First.{first, or_else};
+ghost use Rattle.breaches.specs.First.{first};
 ghost use Rattle.breaches.specs.Bits.{first_of};
 ghost use Rattle.start_windows.specs.Windows.{Timed};
 ghost use Rattle.failing_rules.specs.Parts.{windows_here};
@@ -23,41 +23,22 @@ use reactive_rules::{reactive_bounds_of, reactive_held};
 use row_places::{CellRow, Device, DeviceRow, Front, MinimaRow, SettingRow, ZoneRow};
 use start_windows::{all_starts, window_kept};
 
-// Every rule holds, or the first that is broken.
-#[derive(Clone, Copy)]
-pub enum Check {
-    Held,
-    Broken(Breach),
-}
-
-// What the first checks found, else what those after them did.
-fn or_else(first: Check, after: Check) -> Check
-    ensures { result ≡ or_else first after }
-{
-    let Check::Held = first else {
-        return first;
-    };
-    after
-}
-
 // The first of the rules that a word names, bit n for rule n.
-fn first_in(word: u32, t: usize, i: usize) -> Check
+fn first_in(word: u32, t: usize, i: usize) -> Option<Breach>
     requires { (t < most_intervals) × (i < most_devices) }
     ensures { result ≡ first_of t i (numbers_in word) }
 {
     let mut rest = word;
-    let mut rule = 0;
-    while rule < 32 {
+    for rule in 0..32 {
         if rest % 2 == 1 {
-            return Check::Broken(cell_breach(rule, t, i));
+            return Some(cell_breach(rule, t, i));
         }
         rest /= 2;
-        rule += 1;
     }
-    Check::Held
+    None
 }
 
-// Rules 1 to 19 and 21 to 26 of device i, whose parts begin at a, in interval t.
+// Rules 1 to 19 and 21 to 26 of device i in interval t.
 fn cell_check(
     front: Front,
     halves: &[u32],
@@ -69,14 +50,14 @@ fn cell_check(
     starts: &[u32],
     powers: &[u32],
     i: usize,
-    a: usize,
     t: usize,
-) -> Check
+) -> Option<Breach>
     requires { Ready front halves.now zones.now minima.now devices.now cells.now settings.now starts.now powers.now
-        × (i < length devices.now) × (a ≡ i * length halves.now) × (t < length halves.now) }
+        × (i < length devices.now) × (t < length halves.now) }
     ensures { result ≡ first (cell_breaches (system_in halves.now zones.now minima.now devices.now
         cells.now) (plan_in (length devices.now) (length halves.now) settings.now) t i) }
 {
+    let a = i * halves.len();
     let word = failing_in(
         front, halves, zones, minima, devices, cells, settings, starts, powers, i, a, t,
     );
@@ -95,35 +76,31 @@ fn interval_cells(
     starts: &[u32],
     powers: &[u32],
     t: usize,
-) -> Check
+) -> Option<Breach>
     requires { Ready front halves.now zones.now minima.now devices.now cells.now settings.now starts.now powers.now × (t < length halves.now) }
     ensures { result ≡ first (interval_cells (system_in halves.now zones.now minima.now devices.now
         cells.now) (plan_in (length devices.now) (length halves.now) settings.now) t) }
 {
-    let mut i = 0;
-    let mut a = 0;
-    while i < devices.len() {
+    for i in 0..devices.len() {
         let r = cell_check(
-            front, halves, zones, minima, devices, cells, settings, starts, powers, i, a, t,
+            front, halves, zones, minima, devices, cells, settings, starts, powers, i, t,
         );
-        let Check::Held = r else {
+        let None = r else {
             return r;
         };
-        a += halves.len();
-        i += 1;
     }
-    Check::Held
+    None
 }
 
 // Rule 27 of an interval.
-fn link_check(devices: &[DeviceRow], settings: &[SettingRow], t: usize) -> Check
+fn link_check(devices: &[DeviceRow], settings: &[SettingRow], t: usize) -> Option<Breach>
     requires { LinkRow devices.now settings.now t × (t < most_intervals) }
     ensures { result ≡ first (link_here devices.now settings.now t) }
 {
     if !link_kept(devices, settings, t) {
-        return Check::Broken(link_breach(t));
+        return Some(link_breach(t));
     }
-    Check::Held
+    None
 }
 
 // Rules 1 to 19 and 21 to 26 of the devices in an interval, then rule 27.
@@ -138,7 +115,7 @@ fn interval_rules(
     starts: &[u32],
     powers: &[u32],
     t: usize,
-) -> Check
+) -> Option<Breach>
     requires { Ready front halves.now zones.now minima.now devices.now cells.now settings.now starts.now powers.now × (t < length halves.now) }
     ensures { result ≡ first (interval_breaches (system_in halves.now zones.now minima.now devices.now
         cells.now) (plan_in (length devices.now) (length halves.now) settings.now) t) }
@@ -147,7 +124,7 @@ fn interval_rules(
         front, halves, zones, minima, devices, cells, settings, starts, powers, t,
     );
     let link_first = link_check(devices, settings, t);
-    or_else(cells_first, link_first)
+    cells_first.or(link_first)
 }
 
 // Rules 1 to 19 and 21 to 27 of the day.
@@ -161,42 +138,37 @@ fn day_rules(
     settings: &[SettingRow],
     starts: &[u32],
     powers: &[u32],
-) -> Check
+) -> Option<Breach>
     requires { Ready front halves.now zones.now minima.now devices.now cells.now settings.now starts.now powers.now }
     ensures { result ≡ first (day_breaches (system_in halves.now zones.now minima.now devices.now
         cells.now) (plan_in (length devices.now) (length halves.now) settings.now)) }
 {
-    let mut t = 0;
-    while t < halves.len() {
+    for t in 0..halves.len() {
         let r = interval_rules(
             front, halves, zones, minima, devices, cells, settings, starts, powers, t,
         );
-        let Check::Held = r else {
+        let None = r else {
             return r;
         };
-        t += 1;
     }
-    Check::Held
+    None
 }
 
 // Rule 20 of a device's windows, from its part of the settings.
-fn device_windows(d: Device, settings: &[SettingRow], starts: &[u32], i: usize) -> Check
+fn device_windows(d: Device, settings: &[SettingRow], starts: &[u32], i: usize) -> Option<Breach>
     requires { (d.nstarts ≤ most_windows) × (i < most_devices) × Timed settings.now starts.now }
     ensures { result ≡ first (windows_here d settings.now starts.now i) }
 {
     let all = all_starts(d.on0, settings);
-    let mut w = 0;
-    while w < d.nstarts {
-        let window = d.starts[w];
-        if !window_kept(window, all, d.on0, settings, starts) {
-            return Check::Broken(window_breach(i, w));
+    for (w, window) in d.starts[..d.nstarts].iter().enumerate() {
+        if !window_kept(*window, all, d.on0, settings, starts) {
+            return Some(window_breach(i, w));
         }
-        w += 1;
     }
-    Check::Held
+    None
 }
 
-// Rule 20 of device i, whose parts begin at a.
+// Rule 20 of device i.
 fn window_check(
     front: Front,
     halves: &[u32],
@@ -208,13 +180,13 @@ fn window_check(
     starts: &[u32],
     powers: &[u32],
     i: usize,
-    a: usize,
-) -> Check
-    requires { Ready front halves.now zones.now minima.now devices.now cells.now settings.now starts.now powers.now × (i < length devices.now) × (a ≡ i * length halves.now) }
+) -> Option<Breach>
+    requires { Ready front halves.now zones.now minima.now devices.now cells.now settings.now starts.now powers.now × (i < length devices.now) }
     ensures { result ≡ first (window_breaches (system_in halves.now zones.now minima.now devices.now
         cells.now) (plan_in (length devices.now) (length halves.now) settings.now) i) }
 {
     let d = device_at(devices, i);
+    let a = i * halves.len();
     let e = a + halves.len();
     device_windows(d, &settings[a..e], starts, i)
 }
@@ -230,27 +202,23 @@ fn window_rules(
     settings: &[SettingRow],
     starts: &[u32],
     powers: &[u32],
-) -> Check
+) -> Option<Breach>
     requires { Ready front halves.now zones.now minima.now devices.now cells.now settings.now starts.now powers.now }
     ensures { result ≡ first (day_windows (system_in halves.now zones.now minima.now devices.now
         cells.now) (plan_in (length devices.now) (length halves.now) settings.now)) }
 {
-    let mut i = 0;
-    let mut a = 0;
-    while i < devices.len() {
+    for i in 0..devices.len() {
         let r = window_check(
-            front, halves, zones, minima, devices, cells, settings, starts, powers, i, a,
+            front, halves, zones, minima, devices, cells, settings, starts, powers, i,
         );
-        let Check::Held = r else {
+        let None = r else {
             return r;
         };
-        a += halves.len();
-        i += 1;
     }
-    Check::Held
+    None
 }
 
-// Whether device i, whose parts begin at a, breaks no rule.
+// Whether device i breaks no rule.
 fn device_held(
     front: Front,
     halves: &[u32],
@@ -262,14 +230,14 @@ fn device_held(
     starts: &[u32],
     powers: &[u32],
     i: usize,
-    a: usize,
 ) -> bool
-    requires { Ready front halves.now zones.now minima.now devices.now cells.now settings.now starts.now powers.now × (i < length devices.now) × (a ≡ i * length halves.now) }
+    requires { Ready front halves.now zones.now minima.now devices.now cells.now settings.now starts.now powers.now × (i < length devices.now) }
     ensures { (result ≡ true) ↔ DeviceHolds (system_in halves.now zones.now minima.now devices.now
         cells.now) (plan_in (length devices.now) (length halves.now) settings.now) (length halves.now) i }
 {
     let d = device_at(devices, i);
     let b = bounds_of(d);
+    let a = i * halves.len();
     let e = a + halves.len();
     let own_cells = &cells[a..e];
     let own = &settings[a..e];
@@ -282,7 +250,7 @@ fn device_held(
         return false;
     }
     let r = device_windows(d, own, starts, i);
-    let Check::Held = r else {
+    let None = r else {
         return false;
     };
     true
@@ -304,16 +272,12 @@ fn devices_held(
     ensures { (result ≡ true) ↔ HoldTo (system_in halves.now zones.now minima.now devices.now
         cells.now) (plan_in (length devices.now) (length halves.now) settings.now) (length halves.now) (length devices.now) }
 {
-    let mut i = 0;
-    let mut a = 0;
-    while i < devices.len() {
+    for i in 0..devices.len() {
         if !device_held(
-            front, halves, zones, minima, devices, cells, settings, starts, powers, i, a,
+            front, halves, zones, minima, devices, cells, settings, starts, powers, i,
         ) {
             return false;
         }
-        a += halves.len();
-        i += 1;
     }
     true
 }
@@ -353,7 +317,7 @@ fn exact_breach(
     settings: &[SettingRow],
     starts: &[u32],
     powers: &[u32],
-) -> Check
+) -> Option<Breach>
     requires { Ready front halves.now zones.now minima.now devices.now cells.now settings.now starts.now powers.now }
     ensures { result ≡ first (breaches (system_in halves.now zones.now minima.now devices.now cells.now)
         (plan_in (length devices.now) (length halves.now) settings.now)) }
@@ -361,7 +325,7 @@ fn exact_breach(
     let r = day_rules(
         front, halves, zones, minima, devices, cells, settings, starts, powers,
     );
-    let Check::Held = r else {
+    let None = r else {
         return r;
     };
     window_rules(
@@ -381,7 +345,7 @@ pub fn first_breach(
     settings: &[SettingRow],
     starts: &[u32],
     powers: &[u32],
-) -> Check
+) -> Option<Breach>
     requires { Ready front halves.now zones.now minima.now devices.now cells.now settings.now starts.now powers.now }
     ensures { result ≡ first (breaches (system_in halves.now zones.now minima.now devices.now cells.now)
         (plan_in (length devices.now) (length halves.now) settings.now)) }
@@ -389,7 +353,7 @@ pub fn first_breach(
     if no_breach(
         front, halves, zones, minima, devices, cells, settings, starts, powers,
     ) {
-        return Check::Held;
+        return None;
     }
     exact_breach(
         front, halves, zones, minima, devices, cells, settings, starts, powers,

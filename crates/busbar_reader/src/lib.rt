@@ -5,9 +5,9 @@ ghost use Rattle.std.specs.Prelude.{◌≡◌, ◌≤◌};
 ghost use Rattle.layouts.specs.Layout.{figure};
 ghost use Rattle.layouts.specs.Since.{since};
 ghost use Rattle.model.specs.ByEdition.{bar, link_limit};
-ghost use Rattle.fields.specs.Got.{got, figured};
+ghost use Rattle.fields.specs.Got.{got};
 
-use fields::Figure;
+use fields::Read;
 use layouts::Place;
 
 // The edition that they came with.
@@ -24,24 +24,24 @@ const BAR_BITS: u64 = 1;
 const LAST_BAR: u32 = 1;
 
 // A figure from 0 to most; an edition that lacks it has 0.
-fn read_there(s: &[u8], p: Place, edition: u32, width: u64, most: u32) -> Figure
+fn read_there(s: &[u8], p: Place, edition: u32, width: u64, most: u32) -> Read<u32>
     requires { width ≤ 64 }
-    ensures { figured result ≡ got (since edition 5 0 (figure width 0 most)) s.now p }
+    ensures { result ≡ got (since edition 5 0 (figure width 0 most)) s.now p }
 {
     if edition < SINCE {
-        return Figure::Good(0, p);
+        return Ok((0, p));
     }
     fields::read_figure(s, p, width, 0, most)
 }
 
-pub fn read_limit(s: &[u8], p: Place, edition: u32) -> Figure
-    ensures { figured result ≡ got (since edition 5 0 link_limit) s.now p }
+pub fn read_limit(s: &[u8], p: Place, edition: u32) -> Read<u32>
+    ensures { result ≡ got (since edition 5 0 link_limit) s.now p }
 {
     read_there(s, p, edition, LIMIT_BITS, MOST_LIMIT)
 }
 
-pub fn read_bar(s: &[u8], p: Place, edition: u32) -> Figure
-    ensures { figured result ≡ got (since edition 5 0 bar) s.now p }
+pub fn read_bar(s: &[u8], p: Place, edition: u32) -> Read<u32>
+    ensures { result ≡ got (since edition 5 0 bar) s.now p }
 {
     read_there(s, p, edition, BAR_BITS, LAST_BAR)
 }

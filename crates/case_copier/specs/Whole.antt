@@ -1,7 +1,7 @@
 -- What a case written anew is: its content's bytes in the newest edition, or the buffer as it was and the bytes needed.
-use Rattle.std.specs.Prelude.{◌≡◌, ℕ, ◌+◌, ◌*◌, ◌≤◌, ◌<◌}
+use Rattle.std.specs.Prelude.{◌≡◌, ℕ, ◌≤◌}
 use Rattle.std.proofs.Math.Path.{refl, ap}
-use Rattle.std.proofs.Common.{sym, ◌∙◌, arith, le-leb}
+use Rattle.std.proofs.Common.{◌∙◌, arith, le-leb}
 use mathlib.Core.List.{List, ◌++◌}
 use Rattle.std.proofs.Math.Decide.{dec_le}
 use Rattle.std.proofs.lemmas.Bool.{lt-leb}
@@ -9,11 +9,10 @@ use Rattle.std.proofs.Math.ListN.{length, drop}
 use Rattle.bits.specs.Bits.{reach}
 use Rattle.layouts.specs.Layout.{passes, bytes}
 use Rattle.model.specs.Editions.{Largest, host}
-use Rattle.model.specs.ByEdition as B
 use Rattle.model.specs.ByEdition.{Stated, stated_in}
-use Rattle.writing.specs.Anew.{anew, case_bytes, Writings, writing, put}
+use Rattle.writing.specs.Anew.{anew, case_bytes, writing, put}
 use Rattle.writing.proofs.Same.{kept, newest-fits, alike}
-use Rattle.writing.specs.Splice.{past, spliced}
+use Rattle.writing.specs.Splice.{spliced}
 use Rattle.writing.proofs.Splice.{past_up}
 use Rattle.writing.specs.CaseSplices.{case_splice}
 use Rattle.writing.proofs.CaseSplices.{case-spliced}

@@ -6,14 +6,13 @@ ghost use Rattle.bits.specs.Bits.{reach};
 ghost use Rattle.model.specs.Editions.{interval_bits};
 ghost use Rattle.writing.specs.Splice.{by};
 ghost use Rattle.writing.specs.CaseSplices.{body_splice, content_splice, case_splice};
-ghost use Rattle.bit_copier.specs.Moves.{Set, Moves, start, Renews};
+ghost use Rattle.bit_copier.specs.Moves.{Set, Moves, Renews};
 
 use bit_copier::{
-    Copier, add_field, bytes_in, close, keep_field, keep_run, keep_since, next_field, widen_field,
+    Copier, add_field, keep_field, keep_run, keep_since, next_field, renew, widen_field,
 };
 use device_copier::copy_devices;
 use editions::{NEWEST, device_bits, interval_bits};
-use pen::Pen;
 use zone_copier::copy_zones;
 
 // The widths of a case's fields ahead of its zones; those of devices and intervals are the newest edition's.
@@ -105,19 +104,10 @@ fn copy_content(s: &[u8], buf: &mut [u8], q: Copier, edition: u32) -> Copier
 }
 
 // One pass over a case: kind and edition new, its content from behind the old ones.
-fn copy_case(s: &[u8], buf: &mut [u8], edition: u32) -> Copier
-    requires { 1 ≤ reach s.now }
-    ensures { Moves (case_splice edition) s.now buf.old buf.new (start 8) result }
+fn copy_case(s: &[u8], buf: &mut [u8], q: Copier, edition: u32) -> Copier
+    requires { Set s.now q }
+    ensures { Moves (case_splice edition) s.now buf.old buf.new q result }
 {
-    let pen = Pen {
-        acc: 0,
-        n: 0,
-        at: 0,
-    };
-    let q = Copier {
-        from: AHEAD_BITS,
-        pen,
-    };
     let q = add_field(buf, q, KIND_BITS, CASE_KIND);
     let q = add_field(buf, q, EDITION_BITS, EDITION);
     copy_content(s, buf, q, edition)
@@ -128,15 +118,5 @@ pub fn renew_case(s: &[u8], buf: &mut [u8], edition: u32) -> u64
     requires { 1 ≤ reach s.now }
     ensures { Renews (case_splice edition) 8 s.now buf.old buf.new result }
 {
-    let mut none = [0u8; 1];
-    let counted = copy_case(s, &mut none, edition);
-    let p = counted.pen;
-    let needed = bytes_in(p);
-    if (buf.len() as u64) < needed {
-        return needed;
-    }
-    let copied = copy_case(s, buf, edition);
-    let p = copied.pen;
-    close(buf, p);
-    needed
+    renew(buf, AHEAD_BITS, move |buf, q| copy_case(s, buf, q, edition))
 }

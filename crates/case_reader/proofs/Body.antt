@@ -25,10 +25,11 @@ use Rattle.row_places.specs.declared.Front.{Front}
 use Rattle.numbers.specs.Parts.{part, part-taken}
 use Rattle.row_places.specs.Figures.{device_of, zone_of, limit_of, limit_at, with_limit}
 use Rattle.records.specs.Views.{most_intervals, zone_in, kinds_in, device_in, device_prices_in, system_in, prices_in}
-use Rattle.fields.specs.declared.Went.{Went}
-use Rattle.fields.specs.declared.Went.TheVariants as W
+use Rattle.std.specs.Prelude.{Result, Ok, Err}
 use Rattle.field_rows.specs.Each.{list-natural}
-use Rattle.fields.specs.Got.{Got, good, bad, got, told, Natural, nat-natural, goes_on, goes-off, mapped, told-off, went-good, went-bad}
+use Rattle.fields.specs.Got.{Got, good, bad, got, Natural, nat-natural}
+use Rattle.fields.proofs.Steps.{on, off, Exits, not-met, value, told-exits}
+use Rattle.front_reader.specs.declared.Opening.{Opening}
 use Rattle.numbers.specs.Rows.{rows_same, rows-map}
 use Rattle.zone_reader.proofs.ZoneSteps.{zone-natural}
 use Rattle.device_reader.specs.Devices.{device-natural}
@@ -42,12 +43,12 @@ got-checked {A} l P u s p {a} {q} e = go (u.outcome s p)
   where
     go : Outcome P (λ X bad next. l.read {X = X} s p bad next) → P a
     go (stops f t) = absurd (let k = sym (t (Got A) bad good) ∙ e in let z : ◌≡◌ {A = ℕ} 0 1 = cc in omega arith)
-    go (goes b r h t) = let k : good b r ≡ good a q = sym (t (Got A) bad good) ∙ e in let i : b ≡ a = cc in rw (← i) h
+    go (goes b r h t) = let i : b ≡ a = value (sym (t (Got A) bad good) ∙ e) in rw (← i) h
 
 pub halves-short : (m : ℕ) (halves : List ℕ) (s : List ℕ) (p : Place) {q : Place} → m ≤ most_intervals → m ≤ length halves
-    → got (list m (figure 8 1 180)) s p ≡ good (take m halves) q → Halves m halves
+    → good (take m halves) q ≡ got (list m (figure 8 1 180)) s p → Halves m halves
 halves-short m halves s p few room e =
-    let h = got-checked (list m (figure 8 1 180)) _ (list-checked m (figure 8 1 180) _ (nat-checked _)) s p e in
+    let h = got-checked (list m (figure 8 1 180)) _ (list-checked m (figure 8 1 180) _ (nat-checked _)) s p (sym e) in
     record { few = few; room = room; half = λ t l. rw (get_or-take m halves t 0 l) at (all_get_d 180 (take m halves) (all_map (λ k ok. ok.1) (take m halves) h.1) t) }
 
 -- ---- the case in the first rows
@@ -75,7 +76,7 @@ module _ (f : Front) (c : Counts) (x : Kw) (halves : List ℕ) (zones minima dev
 
   -- a table whose first row holds the limit
   pub case-made : limit_at devices ≡ x.0
-      → case_of f c halves zones minima devices cells ≡ (made_of (front_in f c x) (take m halves) (zones_in c.zones m zones minima) (devices_in c.devices m devices cells)).case
+      → case_of f c halves zones minima devices cells ≡ (made_of (front_in (record { front = f; counts = c; limit = x })) (take m halves) (zones_in c.zones m zones minima) (devices_in c.devices m devices cells)).case
   unfolding system_in prices_in
   case-made k = same
       (ap limit_of (get_or-take c.devices devices 0 [] room.some-devices) ∙ k)
@@ -125,72 +126,62 @@ room-kept r a b e f g = record {
   devices-fit = record { few = r.devices-fit.few; room = omega (arith, r.devices-fit.room); parts = omega (arith, r.devices-fit.parts) };
 }
 
-module _ (s : List ℕ) (p : Place) (f : Front) (c : Counts) (x : Kw) where
+module _ (s : List ℕ) (p : Place) (o : Opening) where
   abbrev durations : Layout (List ℕ)
-  durations = list c.intervals (figure 8 1 180)
+  durations = list o.counts.intervals (figure 8 1 180)
 
   abbrev zoned : Layout (List (C.Zone × C.Kinds))
-  zoned = list c.zones (B.zone f.edition c.intervals)
+  zoned = list o.counts.zones (B.zone o.front.edition o.counts.intervals)
 
   abbrev manned : ℕ → Layout (List (C.Device × C.DevicePrices))
-  manned last = list c.devices (B.device f.edition c.intervals c.zones last)
+  manned last = list o.counts.devices (B.device o.front.edition o.counts.intervals o.counts.zones last)
 
   durations-natural : Natural durations
-  durations-natural = list-natural c.intervals (nat-natural _)
+  durations-natural = list-natural o.counts.intervals (nat-natural _)
 
   zoned-natural : Natural zoned
-  zoned-natural = list-natural c.zones (zone-natural f.edition c.intervals)
+  zoned-natural = list-natural o.counts.zones (zone-natural o.front.edition o.counts.intervals)
 
   manned-natural : (last : ℕ) → Natural (manned last)
-  manned-natural last = list-natural c.devices (device-natural f.edition c.intervals c.zones last)
+  manned-natural last = list-natural o.counts.devices (device-natural o.front.edition o.counts.intervals o.counts.zones last)
 
-  body_is : body_got (front_in f c x) s p ≡ durations.read s p bad (λ hs p. zoned.read s p bad (λ zs p. (manned (last_end hs)).read s p bad (λ ds p. good (made_of (front_in f c x) hs zs ds) p)))
+  body_is : body_got (front_in o) s p ≡ durations.read s p bad (λ hs p. zoned.read s p bad (λ zs p. (manned (last_end hs)).read s p bad (λ ds p. good (made_of (front_in o) hs zs ds) p)))
   unfolding body_got
   body_is = refl
 
   module _ (halves : List ℕ) (zones minima devices cells : List (List ℕ)) where
-    none : {w : Went} {y : Fault} → w ≡ W.Off y → body_got (front_in f c x) s p ≡ bad y → BodyDone s p f c x w halves zones minima devices cells
-    none o g = record {
-      is = told-off (stated f.edition (case_of f c halves zones minima devices cells)) o g;
-      manned = λ q k. absurd (let z : ◌≡◌ {A = ℕ} 0 1 = cc in omega (arith, z));
-    }
+    pub body-none : (r : Result Place Fault) {f : Fault} → Exits r f → bad f ≡ body_got (front_in o) s p → BodyDone s p o r halves zones minima devices cells
+    body-none r x g = record { is = told-exits _ r x g; manned = λ q k. not-met r _ x k }
 
-    module _ {v : Went} (e₁ : told v (take c.intervals halves) ≡ got durations s p) where
-      pub body-no-halves : {y : Fault} → v ≡ W.Off y → BodyDone s p f c x v halves zones minima devices cells
-      body-no-halves o = none o (body_is ∙ goes-off durations-natural s p bad _ (went-bad (take c.intervals halves) e₁ o))
+  pub body-no-halves : {f : Fault} → bad f ≡ got durations s p → bad f ≡ body_got (front_in o) s p
+  body-no-halves h = off durations-natural s p bad _ h refl ∙ sym body_is
 
-      module _ {p₁ : Place} (o₁ : v ≡ W.On p₁) where
-        one : body_got (front_in f c x) s p
-            ≡ zoned.read s p₁ bad (λ zs p. (manned (last_end (take c.intervals halves))).read s p bad (λ ds p. good (made_of (front_in f c x) (take c.intervals halves) zs ds) p))
-        one = body_is ∙ goes_on durations-natural s p bad _ (went-good (take c.intervals halves) e₁ o₁)
+  module _ {hs : List ℕ} {p₁ : Place} (h₁ : good hs p₁ ≡ got durations s p) where
+    pub body-no-zones : {f : Fault} → bad f ≡ got zoned s p₁ → bad f ≡ body_got (front_in o) s p
+    body-no-zones h = on durations-natural s p bad _ h₁ (off zoned-natural s p₁ bad _ h refl) ∙ sym body_is
 
-        module _ {y : Went} (e₂ : told y (zones_in c.zones c.intervals zones minima) ≡ got zoned s p₁) where
-          pub body-no-zones : {z : Fault} → y ≡ W.Off z → BodyDone s p f c x y halves zones minima devices cells
-          body-no-zones o = none o (one ∙ goes-off zoned-natural s p₁ bad _ (went-bad (zones_in c.zones c.intervals zones minima) e₂ o))
+    module _ {zs : List (C.Zone × C.Kinds)} {p₂ : Place} (h₂ : good zs p₂ ≡ got zoned s p₁) {last : ℕ} (l : last ≡ last_end hs) where
+      two : body_got (front_in o) s p ≡ (manned last).read s p₂ bad (λ ds p. good (made_of (front_in o) hs zs ds) p)
+      two = body_is ∙ sym (on durations-natural s p bad _ h₁ (on zoned-natural s p₁ bad _ h₂ refl)) ∙ ap (λ (k : ℕ). (manned k).read s p₂ bad (λ ds p. good (made_of (front_in o) hs zs ds) p)) (sym l)
 
-          module _ {p₂ : Place} (o₂ : y ≡ W.On p₂) {last : ℕ} (l : last ≡ last_end (take c.intervals halves)) where
-            abbrev made : List (C.Device × C.DevicePrices) → Stated
-            made ds = made_of (front_in f c x) (take c.intervals halves) (zones_in c.zones c.intervals zones minima) ds
+      pub body-no-devices : {f : Fault} → bad f ≡ got (manned last) s p₂ → bad f ≡ body_got (front_in o) s p
+      body-no-devices h = off (manned-natural last) s p₂ bad _ h refl ∙ sym two
 
-            two : body_got (front_in f c x) s p ≡ (manned last).read s p₂ bad (λ ds p. good (made ds) p)
-            two = one ∙ goes_on zoned-natural s p₁ bad _ (went-good (zones_in c.zones c.intervals zones minima) e₂ o₂)
-                ∙ ap (λ (k : ℕ). (manned k).read s p₂ bad (λ ds p. good (made ds) p)) (sym l)
-
-            -- the limit is put into the table that the devices were read into
-            pub body-done : (w : Went) {before : List (List ℕ)} → BodyRoom c halves zones minima before cells
-                → DevicesDone f.edition s p₂ c.devices c.intervals c.zones last w before cells
-                → devices ≡ set before 0 (with_limit (get_or before 0 []) x.0) → BodyDone s p f c x w halves zones minima devices cells
-            body-done (W.Off z) room g put = none refl (two ∙ goes-off (manned-natural last) s p₂ bad _ (sym g.is))
-            body-done (W.On q) {before} room g put =
-                let n = c.devices in
-                let m = c.intervals in
-                let some = room.some-devices in
-                let fit = room.devices-fit.room in
-                let stored = g.stored q refl in
-                let after : BodyRoom c halves zones minima devices cells = room-kept room refl refl refl (rw put (length-set before 0 (with_limit (get_or before 0 []) x.0))) refl in
-                record {
-                  is = ap (λ (k : Case). good (stated f.edition k) q) (case-made f c x halves zones minima devices cells after (limit-put x.0 n m before devices cells some fit stored put))
-                      ∙ ap (λ (ds : List (C.Device × C.DevicePrices)). good (made ds) q) (devices-same x.0 n m before devices cells some fit stored put)
-                      ∙ mapped (manned-natural last) made s p₂ (W.On q) (devices_in n m before cells) two g.is;
-                  manned = λ _ _. manned-same x.0 n m before devices cells some fit stored put (g.manned q refl);
-                }
+  -- the limit is put into the table that the devices were read into
+  module _ (halves : List ℕ) (zones minima devices cells : List (List ℕ)) {p₁ p₂ q : Place} (h₁ : good (take o.counts.intervals halves) p₁ ≡ got durations s p)
+      (h₂ : good (zones_in o.counts.zones o.counts.intervals zones minima) p₂ ≡ got zoned s p₁) {last : ℕ} (l : last ≡ last_end (take o.counts.intervals halves)) where
+    pub body-done : {before : List (List ℕ)} → BodyRoom o.counts halves zones minima before cells
+        → DevicesDone o.front.edition s p₂ o.counts.devices o.counts.intervals o.counts.zones last (Ok q) before cells
+        → devices ≡ set before 0 (with_limit (get_or before 0 []) o.limit.0) → BodyDone s p o (Ok q) halves zones minima devices cells
+    body-done {before} room g put =
+        let x = o.limit.0 in
+        let some = room.some-devices in
+        let fit = room.devices-fit.room in
+        let stored = g.stored q refl in
+        let after : BodyRoom o.counts halves zones minima devices cells = room-kept room refl refl refl (rw put (length-set before 0 (with_limit (get_or before 0 []) x))) refl in
+        record {
+          is = ap (λ (k : Case). good (stated o.front.edition k) q) (case-made o.front o.counts o.limit halves zones minima devices cells after (limit-put x o.counts.devices o.counts.intervals before devices cells some fit stored put))
+              ∙ ap (λ (ds : List (C.Device × C.DevicePrices)). good (made_of (front_in o) (take o.counts.intervals halves) (zones_in o.counts.zones o.counts.intervals zones minima) ds) q) (devices-same x o.counts.devices o.counts.intervals before devices cells some fit stored put)
+              ∙ on (manned-natural last) s p₂ bad _ g.is refl ∙ sym (two h₁ h₂ l);
+          manned = λ _ _. manned-same x o.counts.devices o.counts.intervals before devices cells some fit stored put (g.manned q refl);
+        }

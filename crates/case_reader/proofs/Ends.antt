@@ -1,7 +1,7 @@
 -- A case's whole message.
 use mathlib.Core.Path.{◌≡◌, refl, ap, sym, ◌∙◌}
 use mathlib.Core.List.{List, []}
-use Prim.Native.Nat.{ℕ, ◌*◌, ◌<◌}
+use Prim.Native.Nat.{ℕ, ◌*◌, ◌≤◌, ◌<◌}
 use native.Mathlib.Omega.{arith}
 use native.Mathlib.Nat.{mul-le-mul}
 use lib.ListN.{length}
@@ -9,27 +9,27 @@ use lib.Seq.{get_or-take, length-take-le}
 use Rattle.layouts.specs.declared.Fault.{Fault}
 use Rattle.layouts.specs.declared.Place.{Place}
 use Rattle.layouts.specs.Layout.{◌then◌, held, begin, tail_fault}
-use Rattle.layouts.specs.Numbers.{Tells}
+use Rattle.layouts.specs.Numbers.{fails-tells}
+use Rattle.layouts.specs.Layout.{read_whole, fails}
+use Rattle.records.specs.Views.{most_devices, most_intervals}
 use Rattle.layouts.specs.Sure.{Any, sure-checked}
 use Rattle.model.specs.Editions.{Largest}
 use Rattle.model.specs.Messages.{apart}
 use Rattle.model.specs.ByEdition.{Stated, content, content_by, case_layout, stated_in}
 use Rattle.model.specs.AsBefore.{stated}
 use Rattle.ranges.specs.Ranges.{StatedRange, stated-sure, stated-range}
-use Rattle.kilowatts.specs.declared.Kw.{Kw}
 use Rattle.row_places.specs.declared.Counts.{Counts}
-use Rattle.row_places.specs.declared.Front.{Front}
-use Rattle.fields.specs.declared.Went.{Went}
-use Rattle.fields.specs.declared.Went.TheVariants as W
-use Rattle.message_ends.specs.declared.Ending.{Ending}
-use Rattle.message_ends.specs.declared.Ending.TheVariants.{Passes, Fails}
-use Rattle.fields.specs.Got.{bad, got, Natural, Inside, nat-natural, then-natural, held-natural, goes_on, goes-off, told-off, went-good, went-bad}
+use Rattle.std.specs.Prelude.{Result, Ok, Err}
+use Rattle.fields.specs.Got.{Got, good, bad, got, Natural, Inside, nat-natural, then-natural, held-natural}
+use Rattle.fields.proofs.Steps.{on, off, Exits, not-met, value, seen-exits}
+use Rattle.front_reader.specs.declared.Opening.{Opening}
+use Rattle.case_reader.specs.declared.CaseHead.{CaseHead}
 use Rattle.field_rows.specs.Each.{list-natural}
-use Rattle.message_ends.specs.Ended.{ended, ending_of, whole-inside, whole-ended, whole-failed, ended-tells}
+use Rattle.message_ends.specs.Ended.{Ending, ended, ending_of, whole-inside, whole-ended}
 use Rattle.zone_reader.proofs.ZoneSteps.{zone-natural}
 use Rattle.device_reader.specs.Devices.{device-natural}
 use Rattle.front_reader.specs.Fronts.{largest, Within, front, front_in, FrontDone}
-use Rattle.case_reader.specs.Whole.{CaseRoom, case_of, body_got, BodyRoom, BodyDone, FieldsDone, CaseDone}
+use Rattle.case_reader.specs.Whole.{CaseRoom, case_of, body_got, BodyRoom, BodyDone, FieldsDone, CaseDone, CasePassed, CaseRefused}
 use Rattle.front_reader.proofs.FrontSteps.{counts-natural, limit-natural, front-natural}
 
 layout_is : (l : Largest) (s : List ℕ) → got (case_layout l) s begin ≡ (front l).read s begin bad (λ h p. body_got h s p)
@@ -78,79 +78,88 @@ tables-kept r a b e f g = record {
 
 -- ---- every field
 
-module _ (n m : ℕ) (s : List ℕ) (f : Front) (c : Counts) (k : Kw) {x : Went} (e : FrontDone (largest n m) s x f c k) where
-  pub fields-no-front : (halves : List ℕ) (zones minima devices cells : List (List ℕ)) {y : Fault} → x ≡ W.Off y → FieldsDone n m s x f c halves zones minima devices cells
-  fields-no-front halves zones minima devices cells o = record {
-    is = told-off (stated f.edition (case_of f c halves zones minima devices cells)) o
-        (layout_is (largest n m) s ∙ goes-off (front-natural (largest n m)) s begin bad _ (went-bad (front_in f c k) e.is o));
-    within = λ q k. absurd (let z : ◌≡◌ {A = ℕ} 0 1 = cc in omega (arith, z));
-    manned = λ q k. absurd (let z : ◌≡◌ {A = ℕ} 0 1 = cc in omega (arith, z));
-  }
+module _ (n m : ℕ) (s : List ℕ) (halves : List ℕ) (zones minima devices cells : List (List ℕ)) where
+  pub fields-none : (r : Got CaseHead) {f : Fault} → Exits r f → bad f ≡ got (case_layout (largest n m)) s begin → FieldsDone n m s r halves zones minima devices cells
+  fields-none r x g = record { is = seen-exits _ r x g; within = λ h q k. not-met r _ x k; manned = λ h q k. not-met r _ x k }
 
-  pub fields-done : {p : Place} {w : Went} {halves : List ℕ} {zones minima devices cells : List (List ℕ)} → x ≡ W.On p → BodyDone s p f c k w halves zones minima devices cells
-      → FieldsDone n m s w f c halves zones minima devices cells
-  fields-done {p} o b = record {
-    is = b.is ∙ sym (layout_is (largest n m) s ∙ goes_on (front-natural (largest n m)) s begin bad _ (went-good (front_in f c k) e.is o));
-    within = λ q _. e.within p o;
-    manned = b.manned;
-  }
+module _ (n m : ℕ) (s : List ℕ) where
+  pub fields-off : {f : Fault} → bad f ≡ got (front (largest n m)) s begin → bad f ≡ got (case_layout (largest n m)) s begin
+  fields-off h = off (front-natural (largest n m)) s begin bad _ h refl ∙ sym (layout_is (largest n m) s)
+
+  module _ (o : Opening) {p : Place} (e : FrontDone (largest n m) s (good o p)) where
+    pub fields-late : {f : Fault} → bad f ≡ body_got (front_in o) s p → bad f ≡ got (case_layout (largest n m)) s begin
+    fields-late h = on (front-natural (largest n m)) s begin bad _ e.is h ∙ sym (layout_is (largest n m) s)
+
+    pub fields-done : {q : Place} {halves : List ℕ} {zones minima devices cells : List (List ℕ)} → BodyDone s p o (Ok q) halves zones minima devices cells
+        → FieldsDone n m s (good (record { front = o.front; counts = o.counts }) q) halves zones minima devices cells
+    fields-done {q} b = record {
+      is = on (front-natural (largest n m)) s begin bad _ e.is b.is ∙ sym (layout_is (largest n m) s);
+      within = λ h r k. rw (← value k) (e.within o p refl);
+      manned = λ h r k. rw (← value k) (b.manned q refl);
+    }
 
 -- ---- the whole message
 
-module _ (n m : ℕ) (s : List ℕ) (f : Front) (c : Counts) (halves : List ℕ) (zones minima devices cells : List (List ℕ)) {w : Went} (d : FieldsDone n m s w f c halves zones minima devices cells) where
+module _ (n m : ℕ) (s : List ℕ) (halves : List ℕ) (zones minima devices cells : List (List ℕ)) where
+  pub case-refused : (r : Result CaseHead Fault) {f : Fault} → Exits r f → CaseRefused n m s f → CaseDone n m s halves zones minima devices cells r
+  case-refused (Ok h) x g = absurd x.1
+  case-refused (Err e) x g = rw x.1 g
+
+module _ (n m : ℕ) (few-devices : n ≤ most_devices) (few-intervals : m ≤ most_intervals) (s : List ℕ) where
   abbrev l : Largest
   l = largest n m
 
-  abbrev said : Stated
-  said = stated f.edition (case_of f c halves zones minima devices cells)
+  told-number : (x : Fault) → fails x ≡ stated_in l s → CaseRefused n m s x
+  unfolding stated_in
+  told-number x e = record { is = e; refused = fails-tells (case_layout l) Any (sure-checked (case_layout l) (StatedRange l) (stated-sure l few-devices few-intervals)) s x (sym e) }
 
-  pub case-inside : {q : Place} → w ≡ W.On q → Inside s q
-  case-inside o = whole-inside (case-natural l) s said d.is o
+  pub case-off : {x : Fault} → bad x ≡ got (case_layout l) s begin → CaseRefused n m s x
+  unfolding stated_in read_whole
+  case-off {x} h = told-number x (off (case-natural l) s begin fails _ h refl)
+
+module _ (n m : ℕ) (s : List ℕ) (h : CaseHead) (halves : List ℕ) (zones minima devices cells : List (List ℕ)) {q : Place}
+    (d : FieldsDone n m s (good h q) halves zones minima devices cells) where
+  abbrev c : Counts
+  c = h.counts
+
+  abbrev said : Stated
+  said = stated h.front.edition (case_of h.front h.counts halves zones minima devices cells)
+
+  pub case-inside : Inside s q
+  case-inside = whole-inside (case-natural (largest n m)) s {w = Ok q} said d.is refl
 
   module _ (room : CaseRoom n m halves zones minima devices cells) where
-    told-number : {r : Ending} → ended said r ≡ stated_in l s → (x : Fault) → r ≡ Fails x → Tells (case_layout l) s x
+    whole : {r : Ending} → r ≡ ending_of (tail_fault s q.at) q.clash → ended said r ≡ stated_in (largest n m) s
     unfolding stated_in
-    told-number e = ended-tells (case_layout l) Any (sure-checked (case_layout l) (StatedRange l) (stated-sure l room.few-devices room.few-intervals)) s said e
+    whole e = whole-ended (case-natural (largest n m)) s {w = Ok q} said d.is refl e
 
-    pub case-fails : {x : Fault} → w ≡ W.Off x → CaseDone n m s halves zones minima devices cells (Fails x) f c
-    unfolding stated_in
-    case-fails o = record {
-      is = whole-failed (case-natural l) s said d.is o;
-      refused = told-number (whole-failed (case-natural l) s said d.is o);
-      decoded = λ e. absurd (let z : ◌≡◌ {A = ℕ} 0 1 = cc in omega (arith, z));
-      counted = λ e. absurd (let z : ◌≡◌ {A = ℕ} 0 1 = cc in omega (arith, z));
-      range = λ e. absurd (let z : ◌≡◌ {A = ℕ} 0 1 = cc in omega (arith, z));
-      long = λ e. absurd (let z : ◌≡◌ {A = ℕ} 0 1 = cc in omega (arith, z));
-    }
+    pub case-fails : {x : Fault} → Err x ≡ ending_of (tail_fault s q.at) q.clash → CaseRefused n m s x
+    case-fails {x} e = told-number n m room.few-devices room.few-intervals s x (whole e)
 
-    whole : {q : Place} {r : Ending} → w ≡ W.On q → r ≡ ending_of (tail_fault s q.at) q.clash → ended said r ≡ stated_in l s
-    unfolding stated_in
-    whole o h = whole-ended (case-natural l) s said d.is o h
-
-    pub case-ends : {q : Place} {r : Ending} → w ≡ W.On q → r ≡ ending_of (tail_fault s q.at) q.clash → CaseDone n m s halves zones minima devices cells r f c
-    case-ends {q} {r} o h =
-        let b = room_within room (d.within q o) in
-        let u = d.manned q o in
+    pub case-ends : Ok tt ≡ ending_of (tail_fault s q.at) q.clash → CasePassed n m s halves zones minima devices cells h.front h.counts
+    case-ends e =
+        let w = d.within h q refl in
+        let b = room_within room w in
+        let u = d.manned h q refl in
         let long-halves = length-take-le c.intervals halves b.room in
         let long-zones = length-take-le c.zones zones b.zones-fit.room in
         let long-minima = length-take-le (c.zones * c.intervals) minima b.zones-fit.parts in
         let long-devices = length-take-le c.devices devices b.devices-fit.room in
         let long-cells = length-take-le (c.devices * c.intervals) cells b.devices-fit.parts in
-        let ranged : r ≡ Passes → StatedRange l said = λ e. stated-range l room.few-devices room.few-intervals s said (sym (whole o h) ∙ ap (λ (x : Ending). ended said x) e) in
+        let ranged : StatedRange (largest n m) said = stated-range (largest n m) room.few-devices room.few-intervals s said (sym (whole e)) in
         record {
-          is = whole o h;
-          refused = told-number (whole o h);
-          decoded = λ e. record {
-            few-devices = omega (arith, long-devices, (d.within q o).devices, room.few-devices);
+          is = whole e;
+          decoded = record {
+            few-devices = omega (arith, long-devices, w.devices, room.few-devices);
             few-intervals = omega (arith, long-halves, b.zones-fit.few);
             few-zones = omega (arith, long-zones, b.few-zones);
             cells-full = rw (long-cells, long-devices, long-halves) refl;
             minima-full = rw (long-minima, long-zones, long-halves) refl;
-            range = (ranged e).case.range;
-            padded = λ k h. let j : k < c.devices * c.intervals = omega (arith, long-cells) in rw (get_or-take (c.devices * c.intervals) cells k [] j) (u.padded k j);
-            counted = λ i h. let j : i < c.devices = omega (arith, long-devices) in rw (get_or-take c.devices devices i [] j) (u.counted i j);
+            range = ranged.case.range;
+            padded = λ k i. let j : k < c.devices * c.intervals = omega (arith, long-cells) in rw (get_or-take (c.devices * c.intervals) cells k [] j) (u.padded k j);
+            counted = λ i k. let j : i < c.devices = omega (arith, long-devices) in rw (get_or-take c.devices devices i [] j) (u.counted i j);
           };
-          counted = λ e. d.within q o;
+          counted = w;
           range = ranged;
-          long = λ e. record { halves_long = long-halves; zones-long = long-zones; minima-long = long-minima; devices-long = long-devices; cells-long = long-cells };
+          long = record { halves_long = long-halves; zones-long = long-zones; minima-long = long-minima; devices-long = long-devices; cells-long = long-cells };
         }

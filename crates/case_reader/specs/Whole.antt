@@ -1,8 +1,8 @@
 -- A whole case: its front and counts by value, its figures in the first rows of the tables.
-use Rattle.std.specs.Prelude.{◌≡◌, List, map, ℕ, ◌*◌, ◌≤◌, length, take}
+use Rattle.std.specs.Prelude.{Result, Ok, Err, ◌≡◌, List, map, ℕ, ◌*◌, ◌≤◌, length, take}
 use Rattle.layouts.specs.declared.Fault.{Fault}
 use Rattle.layouts.specs.declared.Place.{Place}
-use Rattle.layouts.specs.Layout.{list, figure, begin}
+use Rattle.layouts.specs.Layout.{list, figure, begin, passes, fails}
 use Rattle.layouts.specs.Numbers.{Tells}
 use Rattle.model.specs.Case.{Case, Zone, Kinds, Device, DevicePrices}
 use Rattle.model.specs.Editions.{most_zones}
@@ -11,17 +11,13 @@ use Rattle.model.specs.ByEdition as B
 use Rattle.model.specs.ByEdition.{Stated, case_layout, stated_in}
 use Rattle.model.specs.AsBefore.{stated}
 use Rattle.ranges.specs.Ranges.{StatedRange}
-use Rattle.kilowatts.specs.declared.Kw.{Kw}
 use Rattle.row_places.specs.declared.Counts.{Counts}
 use Rattle.row_places.specs.declared.Front.{Front}
 use Rattle.records.specs.Views.{most_devices, most_intervals, case_in, CaseRows}
-use Rattle.fields.specs.declared.Went.{Went}
-use Rattle.fields.specs.declared.Went.TheVariants.{On}
-use Rattle.message_ends.specs.declared.Ending.{Ending}
-use Rattle.message_ends.specs.declared.Ending.TheVariants.{Passes, Fails}
-use Rattle.fields.specs.Got.{Got, good, bad, got, told}
-use Rattle.message_ends.specs.Ended.{ended}
+use Rattle.fields.specs.Got.{Got, good, bad, got, seen, told}
+use Rattle.front_reader.specs.declared.Opening.{Opening}
 use Rattle.front_reader.specs.Fronts.{largest, Within, Ahead, front_in}
+use Rattle.case_reader.specs.declared.CaseHead.{CaseHead}
 use Rattle.zone_table.specs.Tables.{Fits, Manned}
 
 -- tables with room for so many devices and intervals
@@ -62,15 +58,15 @@ pub record BodyRoom (c : Counts) (halves : List ℕ) (zones minima devices cells
   pub zones-fit : Fits c.zones c.intervals zones minima
   pub devices-fit : Fits c.devices c.intervals devices cells
 
-pub record BodyDone (s : List ℕ) (p : Place) (f : Front) (c : Counts) (x : Kw) (w : Went) (halves : List ℕ) (zones minima devices cells : List (List ℕ)) : Type 0 where
-  pub is : told w (stated f.edition (case_of f c halves zones minima devices cells)) ≡ body_got (front_in f c x) s p
-  pub manned : (q : Place) → w ≡ On q → Manned c.devices c.intervals devices cells
+pub record BodyDone (s : List ℕ) (p : Place) (o : Opening) (r : Result Place Fault) (halves : List ℕ) (zones minima devices cells : List (List ℕ)) : Type 0 where
+  pub is : told r (stated o.front.edition (case_of o.front o.counts halves zones minima devices cells)) ≡ body_got (front_in o) s p
+  pub manned : (q : Place) → r ≡ Ok q → Manned o.counts.devices o.counts.intervals devices cells
 
 -- what reading every field leaves, up to so many devices n and intervals m
-pub record FieldsDone (n m : ℕ) (s : List ℕ) (w : Went) (f : Front) (c : Counts) (halves : List ℕ) (zones minima devices cells : List (List ℕ)) : Type 0 where
-  pub is : told w (stated f.edition (case_of f c halves zones minima devices cells)) ≡ got (case_layout (largest n m)) s begin
-  pub within : (q : Place) → w ≡ On q → Within (largest n m) c
-  pub manned : (q : Place) → w ≡ On q → Manned c.devices c.intervals devices cells
+pub record FieldsDone (n m : ℕ) (s : List ℕ) (r : Got CaseHead) (halves : List ℕ) (zones minima devices cells : List (List ℕ)) : Type 0 where
+  pub is : seen (λ h. stated h.front.edition (case_of h.front h.counts halves zones minima devices cells)) r ≡ got (case_layout (largest n m)) s begin
+  pub within : (h : CaseHead) (q : Place) → r ≡ good h q → Within (largest n m) h.counts
+  pub manned : (h : CaseHead) (q : Place) → r ≡ good h q → Manned h.counts.devices h.counts.intervals devices cells
 
 -- the first rows are as many as the counts say
 pub record Long (c : Counts) (halves : List ℕ) (zones minima devices cells : List (List ℕ)) : Type 0 where
@@ -80,13 +76,20 @@ pub record Long (c : Counts) (halves : List ℕ) (zones minima devices cells : L
   pub devices-long : length (take c.devices devices) ≡ c.devices
   pub cells-long : length (take (c.devices * c.intervals) cells) ≡ c.devices * c.intervals
 
--- what reading a case leaves, up to so many devices n and intervals m: the front and the first rows hold the case that its message states, and where it
--- passes they are a decoded case
-pub record CaseDone (n m : ℕ) (s : List ℕ) (halves : List ℕ) (zones minima devices cells : List (List ℕ)) (ending : Ending) (f : Front) (c : Counts) : Type 0 where
-  pub is : ended (stated f.edition (case_of f c halves zones minima devices cells)) ending ≡ stated_in (largest n m) s
-  pub refused : (x : Fault) → ending ≡ Fails x → Tells (case_layout (largest n m)) s x
-  pub decoded : ending ≡ Passes
-      → CaseRows f (take c.intervals halves) (take c.zones zones) (take (c.zones * c.intervals) minima) (take c.devices devices) (take (c.devices * c.intervals) cells)
-  pub counted : ending ≡ Passes → Within (largest n m) c
-  pub range : ending ≡ Passes → StatedRange (largest n m) (stated f.edition (case_of f c halves zones minima devices cells))
-  pub long : ending ≡ Passes → Long c halves zones minima devices cells
+-- what reading a case leaves where it passes, up to so many devices n and intervals m: the front and the first rows hold the case that its message states, and
+-- they are a decoded case
+pub record CasePassed (n m : ℕ) (s : List ℕ) (halves : List ℕ) (zones minima devices cells : List (List ℕ)) (f : Front) (c : Counts) : Type 0 where
+  pub is : passes (stated f.edition (case_of f c halves zones minima devices cells)) ≡ stated_in (largest n m) s
+  pub decoded : CaseRows f (take c.intervals halves) (take c.zones zones) (take (c.zones * c.intervals) minima) (take c.devices devices) (take (c.devices * c.intervals) cells)
+  pub counted : Within (largest n m) c
+  pub range : StatedRange (largest n m) (stated f.edition (case_of f c halves zones minima devices cells))
+  pub long : Long c halves zones minima devices cells
+
+-- what it leaves where the message is refused: its fault, with what that tells of it
+pub record CaseRefused (n m : ℕ) (s : List ℕ) (x : Fault) : Type 0 where
+  pub is : fails x ≡ stated_in (largest n m) s
+  pub refused : Tells (case_layout (largest n m)) s x
+
+abbrev pub CaseDone : (n m : ℕ) (s : List ℕ) (halves : List ℕ) (zones minima devices cells : List (List ℕ)) (r : Result CaseHead Fault) → Type 0
+CaseDone n m s halves zones minima devices cells (Ok h) = CasePassed n m s halves zones minima devices cells h.front h.counts
+CaseDone n m s halves zones minima devices cells (Err x) = CaseRefused n m s x

@@ -3,11 +3,9 @@
 
 ghost use Rattle.case_reader.specs.Whole.{CaseRoom, BodyRoom, BodyDone, FieldsDone, CaseDone};
 
-use fields::Went;
-use front_reader::FrontRead;
-use kilowatts::Kw;
-use layouts::Place;
-use message_ends::Ending;
+use fields::Read;
+use front_reader::Opening;
+use layouts::{Fault, Place};
 use row_places::{CellRow, Counts, DeviceRow, Front, MinimaRow, ZoneRow};
 
 // "Per interval: d/2, 8 (1..180)"
@@ -17,41 +15,48 @@ const LEAST_HALF: u32 = 1;
 
 const MOST_HALF: u32 = 180;
 
+// What a case says ahead of its tables.
 #[derive(Clone, Copy)]
-pub struct CaseRead {
-    pub ending: Ending,
+pub struct CaseHead {
     pub front: Front,
     pub counts: Counts,
 }
+
+// What stands for it where there is no case.
+pub const NO_CASE: CaseHead = CaseHead {
+    front: Front {
+        edition: 0,
+        mismatch: 0,
+        overrun: 0,
+    },
+    counts: Counts {
+        devices: 0,
+        intervals: 0,
+        zones: 0,
+    },
+};
 
 // The durations, zones and devices behind a front; the link's limit goes into the first device's row.
 fn read_body(
     s: &[u8],
     p: Place,
-    front: Front,
-    counts: Counts,
-    limit: Kw,
+    opening: Opening,
     halves: &mut [u32],
     zones: &mut [ZoneRow],
     minima: &mut [MinimaRow],
     devices: &mut [DeviceRow],
     cells: &mut [CellRow],
-) -> Went
-    requires { BodyRoom counts halves.old zones.old minima.old devices.old cells.old }
-    ensures { BodyDone s.now p front counts limit result halves.new zones.new minima.new devices.new cells.new }
+) -> Result<Place, Fault>
+    requires { BodyRoom opening.counts halves.old zones.old minima.old devices.old cells.old }
+    ensures { BodyDone s.now p opening result halves.new zones.new minima.new devices.new cells.new }
 {
-    let edition = front.edition;
+    let edition = opening.front.edition;
+    let counts = opening.counts;
     let m = counts.intervals;
-    let durations = field_rows::read_list(s, p, m, HALF_BITS, LEAST_HALF, MOST_HALF, halves);
-    let Went::On(at_zones) = durations else {
-        return durations;
-    };
+    let at_zones = field_rows::read_list(s, p, m, HALF_BITS, LEAST_HALF, MOST_HALF, halves)?;
     let last = front_reader::last_end(halves, m);
-    let zoned = zone_table::read_zones(s, at_zones, edition, counts.zones, m, zones, minima);
-    let Went::On(at_devices) = zoned else {
-        return zoned;
-    };
-    let manned = device_table::read_devices(
+    let at_devices = zone_table::read_zones(s, at_zones, edition, counts.zones, m, zones, minima)?;
+    let past = device_table::read_devices(
         s,
         at_devices,
         edition,
@@ -61,9 +66,9 @@ fn read_body(
         last,
         devices,
         cells,
-    );
-    device_store::put_limit(devices, limit);
-    manned
+    )?;
+    device_store::put_limit(devices, opening.limit);
+    Ok(past)
 }
 
 // Every field of a case, in message order.
@@ -76,32 +81,21 @@ fn read_fields(
     minima: &mut [MinimaRow],
     devices: &mut [DeviceRow],
     cells: &mut [CellRow],
-) -> FrontRead
+) -> Read<CaseHead>
     requires { CaseRoom most_devices most_intervals halves.old zones.old minima.old devices.old cells.old }
-    ensures { FieldsDone most_devices most_intervals s.now result.went result.front result.counts
-        halves.new zones.new minima.new devices.new cells.new }
+    ensures { FieldsDone most_devices most_intervals s.now result halves.new zones.new minima.new devices.new cells.new }
 {
-    let ahead = front_reader::read_front(s, most_devices, most_intervals);
-    let went = ahead.went;
-    let Went::On(p) = went else {
-        return ahead;
+    let (opening, at_body) = front_reader::read_front(s, most_devices, most_intervals)?;
+    let past = read_body(s, at_body, opening, halves, zones, minima, devices, cells)?;
+    let head = CaseHead {
+        front: opening.front,
+        counts: opening.counts,
     };
-    let front = ahead.front;
-    let counts = ahead.counts;
-    let limit = ahead.limit;
-    let went = read_body(
-        s, p, front, counts, limit, halves, zones, minima, devices, cells,
-    );
-    FrontRead {
-        went,
-        front,
-        counts,
-        limit,
-    }
+    Ok((head, past))
 }
 
-// A case message, read by a reader that takes counts up to these: how its reading ends, its front and counts, and its figures in the first rows of the
-// tables. After a refusal what the tables hold, the front and the counts are left free; rows behind those of the case are left free too.
+// A case message, read by a reader that takes counts up to these: its front and counts, and its figures in the first rows of the tables, or its fault.
+// After a refusal what the tables hold is left free; rows behind those of the case are left free too.
 pub fn read_case(
     s: &[u8],
     most_devices: u32,
@@ -111,12 +105,11 @@ pub fn read_case(
     minima: &mut [MinimaRow],
     devices: &mut [DeviceRow],
     cells: &mut [CellRow],
-) -> CaseRead
+) -> Result<CaseHead, Fault>
     requires { CaseRoom most_devices most_intervals halves.old zones.old minima.old devices.old cells.old }
-    ensures { CaseDone most_devices most_intervals s.now halves.new zones.new minima.new devices.new cells.new
-        result.ending result.front result.counts }
+    ensures { CaseDone most_devices most_intervals s.now halves.new zones.new minima.new devices.new cells.new result }
 {
-    let all = read_fields(
+    let (head, past) = read_fields(
         s,
         most_devices,
         most_intervals,
@@ -125,23 +118,7 @@ pub fn read_case(
         minima,
         devices,
         cells,
-    );
-    let went = all.went;
-    let front = all.front;
-    let counts = all.counts;
-    match went {
-        Went::Off(x) => CaseRead {
-            ending: Ending::Fails(x),
-            front,
-            counts,
-        },
-        Went::On(q) => {
-            let ending = message_ends::finish(s, q);
-            CaseRead {
-                ending,
-                front,
-                counts,
-            }
-        }
-    }
+    )?;
+    message_ends::finish(s, past)?;
+    Ok(head)
 }

@@ -1,8 +1,8 @@
 // What the rules of one device in one interval read: the bounds of the device, what the clock and the other intervals say.
 #![tactic(auto)]
 
-ghost use Rattle.std.specs.Prelude.{◌≡◌, ◌-◌, ◌^◌, ◌<◌, ◌≤◌};
-ghost use Rattle.cell_bounds.specs.Tests.{limits_of, bounds_of};
+ghost use Rattle.std.specs.Prelude.{◌≡◌, ◌+◌, ◌-◌, ◌^◌, ◌<◌, ◌≤◌};
+ghost use Rattle.cell_bounds.specs.Tests.{limits_of, bounds_of, of_block, sum_of};
 ghost use Rattle.cell_bounds.specs.Word.{bit_unless};
 
 use kilowatts::Kw;
@@ -68,6 +68,15 @@ pub struct Moment {
     pub minutes: u32,
     pub power: Kw,
     pub previous: Kw,
+}
+
+// The sum of the blocks' caps, or of their floors.
+pub fn sum_of(powers: [Kw; 4]) -> Kw
+    requires { (of_block powers 0 ≤ 100000) × (of_block powers 1 ≤ 100000) × (of_block powers 2 ≤ 100000) × (of_block powers 3 ≤ 100000) }
+    ensures { (result.0 ≡ sum_of powers) × (result.0 ≤ 400000) }
+{
+    let [a, b, c, d] = powers;
+    Kw(a.0 + b.0 + c.0 + d.0)
 }
 
 // The bit of a rule, where it is broken.

@@ -1,5 +1,5 @@
 -- How runs of bits stand for parts: since edition 3 what stands behind a cell's count of blocks is the same bits in the newest edition.
-use Rattle.std.specs.Prelude.{◌≡◌, refl, List, ◌++◌, ℕ, zero, suc, ◌+◌, ◌*◌, ◌^◌, ◌≤◌, ◌<◌}
+use Rattle.std.specs.Prelude.{◌≡◌, refl, List, ◌++◌, ℕ, zero, suc, ◌+◌, ◌*◌, ◌≤◌}
 use Rattle.std.proofs.Common.{sym, ◌∙◌, ap, append_assoc, arith}
 use Rattle.bits.specs.Bits.{field_at}
 use Rattle.bits.specs.Pick.{pick}

@@ -9,7 +9,7 @@ ghost use Rattle.writing.specs.CaseSplices.{block_splice, cell_splice};
 ghost use Rattle.bit_copier.specs.Moves.{Set, Moves};
 ghost use Rattle.cell_copier.specs.Runs.{offer_splice};
 
-use bit_copier::{Copier, add_field, keep_field, keep_run, keep_since, next_field};
+use bit_copier::{Copier, add_field, copy_each, keep_field, keep_run, keep_since, next_field};
 
 // The widths of a cell's fields: status, pmin and pmax; the count of blocks, each with cap, floor and price; eight reserve prices, then reactive limits and
 // prices.
@@ -50,20 +50,6 @@ fn copy_block(s: &[u8], buf: &mut [u8], q: Copier, edition: u32) -> Copier
     keep_field(s, buf, q, PRICE_BITS)
 }
 
-// So many blocks.
-fn copy_each_block(s: &[u8], buf: &mut [u8], q: Copier, edition: u32, n: u64) -> Copier
-    requires { Set s.now q }
-    ensures { Moves (times n (block_splice edition ⨾ keep 15)) s.now buf.old buf.new q result }
-{
-    let mut t = q;
-    let mut k = 0;
-    while k < n {
-        t = copy_block(s, buf, t, edition);
-        k += 1;
-    }
-    t
-}
-
 // What a cell has of reactive power, since edition 2: neutral figures are all 0.
 fn copy_reactive(s: &[u8], buf: &mut [u8], q: Copier, edition: u32) -> Copier
     requires { Set s.now q }
@@ -82,7 +68,7 @@ fn copy_offer(s: &[u8], buf: &mut [u8], q: Copier, edition: u32, n: u64) -> Copi
     ensures { Moves (offer_splice edition n) s.now buf.old buf.new q result }
 {
     if edition < FLOOR_EDITION {
-        let q = copy_each_block(s, buf, q, edition, n);
+        let q = copy_each(buf, q, n, move |buf, q| copy_block(s, buf, q, edition));
         let q = keep_run(s, buf, q, RESERVES_BITS);
         return copy_reactive(s, buf, q, edition);
     }
@@ -106,11 +92,10 @@ pub fn copy_cells(s: &[u8], buf: &mut [u8], q: Copier, edition: u32, intervals: 
     requires { Set s.now q }
     ensures { Moves (times intervals (cell_splice edition)) s.now buf.old buf.new q result }
 {
-    let mut t = q;
-    let mut k = 0;
-    while k < intervals {
-        t = copy_cell(s, buf, t, edition);
-        k += 1;
-    }
-    t
+    copy_each(
+        buf,
+        q,
+        intervals,
+        move |buf, q| copy_cell(s, buf, q, edition),
+    )
 }

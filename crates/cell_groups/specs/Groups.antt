@@ -1,5 +1,5 @@
 -- The groups of a cell's fields: limits, blocks, the prices of the eight; and the cell that they make.
-use Rattle.std.specs.Prelude.{◌≡◌, List, [], ◌∷◌, map, ℕ, ◌+◌, ◌*◌, ◌≤◌, ◌<◌, leb, ℤ, length, get_or, take}
+use Rattle.std.specs.Prelude.{◌≡◌, Ok, List, [], ◌∷◌, map, ℕ, ◌+◌, ◌*◌, ◌≤◌, ◌<◌, leb, ℤ, length, get_or, take}
 use Rattle.layouts.specs.declared.Place.{Place}
 use Rattle.layouts.specs.Layout.{Layout, int, ◌then◌, ◌▸◌, such, counted, figure, count_of}
 use Rattle.model.specs.Case as M
@@ -11,12 +11,10 @@ use Rattle.row_places.specs.declared.ReservePrices.{ReservePrices}
 use Rattle.row_places.specs.declared.ReactiveCell.{ReactiveCell}
 use Rattle.row_places.specs.Figures.{eight_prices}
 use Rattle.records.specs.Views.{less, price_offset}
-use Rattle.fields.specs.declared.Went.{Went}
-use Rattle.fields.specs.declared.Went.TheVariants.{On}
-use Rattle.fields.specs.Got.{got, told}
-use Rattle.cell_groups.specs.declared.LimitsRead.{LimitsRead}
+use Rattle.fields.specs.Got.{Got, got, seen}
+use Rattle.cell_groups.specs.declared.Limits.{Limits}
 use Rattle.cell_groups.specs.declared.Block.{Block}
-use Rattle.cell_groups.specs.declared.BlocksRead.{BlocksRead}
+use Rattle.cell_groups.specs.declared.Blocks.{Blocks}
 
 -- ---- the layouts, by edition
 
@@ -47,7 +45,7 @@ reserve_prices = eight (figure 14 0 10000)
 
 -- ---- what the code's records hold of them
 
-abbrev pub limits_in : LimitsRead → ℕ × (ℕ × ℕ)
+abbrev pub limits_in : Limits → ℕ × (ℕ × ℕ)
 limits_in r = (r.status, (r.pmin.0, r.pmax.0))
 
 abbrev pub block_in : Block → M.Block × ℤ
@@ -64,21 +62,24 @@ pub record Absent (bs : List Block) (n : ℕ) : Type 0 where
   pub few : n ≤ 4
   pub rest : (k : ℕ) → n ≤ k → k < 4 → Empty (get_or bs k no_block)
 
-pub record BlocksDone (e : ℕ) (s : List ℕ) (p : Place) (r : BlocksRead) : Type 0 where
-  pub is : told r.went (map block_in (take r.count r.blocks)) ≡ got (blocks e) s p
-  pub long : length r.blocks ≡ 4
-  pub absent : (q : Place) → r.went ≡ On q → Absent r.blocks r.count
+abbrev pub blocks_in : Blocks → List (M.Block × ℤ)
+blocks_in r = map block_in (take r.count r.blocks)
+
+pub record BlocksDone (e : ℕ) (s : List ℕ) (p : Place) (r : Got Blocks) : Type 0 where
+  pub is : seen blocks_in r ≡ got (blocks e) s p
+  pub long : (x : Blocks) (q : Place) → r ≡ Ok (x, q) → length x.blocks ≡ 4
+  pub absent : (x : Blocks) (q : Place) → r ≡ Ok (x, q) → Absent x.blocks x.count
 
 abbrev pub prices_of : List ℕ → ReservePrices
 prices_of v = eight_prices v 0
 
 -- the cell of its groups
-abbrev pub cell_with : LimitsRead → ℕ → List Block → ReservePrices → ReactiveCell → Cell
-cell_with l n bs reserves reactive = record {
+abbrev pub cell_with : Limits → Blocks → ReservePrices → ReactiveCell → Cell
+cell_with l b reserves reactive = let bs = b.blocks in record {
   status = l.status;
   pmin = l.pmin;
   pmax = l.pmax;
-  blocks = n;
+  blocks = b.count;
   caps = (get_or bs 0 no_block).cap ∷ (get_or bs 1 no_block).cap ∷ (get_or bs 2 no_block).cap ∷ (get_or bs 3 no_block).cap ∷ [];
   floors = (get_or bs 0 no_block).floor ∷ (get_or bs 1 no_block).floor ∷ (get_or bs 2 no_block).floor ∷ (get_or bs 3 no_block).floor ∷ [];
   prices = (get_or bs 0 no_block).price ∷ (get_or bs 1 no_block).price ∷ (get_or bs 2 no_block).price ∷ (get_or bs 3 no_block).price ∷ [];

@@ -22,20 +22,19 @@ use Rattle.row_places.specs.declared.ReactiveCell.{ReactiveCell}
 use Rattle.row_places.specs.Figures.{cell_row, kw_at}
 use Rattle.records.specs.Views.{less, price_offset, four_blocks, eight_prices_in, reactive_limits_in, reactive_prices_in, Padded, cell_pair}
 use Rattle.records.specs.Stored.{four, cell-stored, cell-prices-stored, cell-padded}
-use Rattle.fields.specs.declared.Went.{Went}
-use Rattle.fields.specs.declared.Went.TheVariants as W
-use Rattle.fields.specs.Got.{good, bad, got, told, Natural, nat-natural, then-natural, such-natural, held-natural}
-use Rattle.fields.specs.Got.{goes_on, goes-off, mapped, told-off, went-good, went-bad}
+use Rattle.std.specs.Prelude.{Result, Ok, Err}
+use Rattle.fields.specs.Got.{Got, good, bad, got, seen, never, Natural, nat-natural, then-natural, such-natural, held-natural}
+use Rattle.fields.proofs.Steps.{Exits, on, off, exits, told-exits}
 use Rattle.field_rows.specs.Each.{counted-natural}
 use Rattle.field_rows.specs.Going.{Storing, storing-none, storing-more, storing-off, storing-done}
 use Rattle.field_rows.proofs.Steps.{eight-natural}
-use Rattle.cell_groups.specs.declared.LimitsRead.{LimitsRead}
+use Rattle.cell_groups.specs.declared.Limits.{Limits}
 use Rattle.cell_groups.specs.declared.Block.{Block}
-use Rattle.cell_groups.specs.declared.BlocksRead.{BlocksRead}
+use Rattle.cell_groups.specs.declared.Blocks.{Blocks}
 use Rattle.cell_groups.specs.Groups.{limits, blocks, reserve_prices, limits_in, block_in, no_block, Empty, BlocksDone, cell_with}
-use Rattle.cell_reader.specs.Cells.{CellDone, CellsDone}
-use Rattle.cell_groups.proofs.Limits.{limits-natural}
-use Rattle.blocks_reader.proofs.Blocks.{block-natural}
+use Rattle.cell_reader.specs.Cells.{cell_in, CellDone, CellsDone}
+use Rattle.cell_groups.proofs.Steps.{limits-natural}
+use Rattle.blocks_reader.proofs.Blocks.{block-natural, same}
 use Rattle.reactive_cells.specs.Reactive.{reactive_pair}
 use Rattle.reactive_cells.proofs.Reactive.{reactive-natural}
 
@@ -69,22 +68,23 @@ module _ (e : ℕ) (s : List ℕ) (p : Place) where
   unfolding cell B.cell_with held ◌then◌ apart
   cell-is = refl
 
-  cell-1 : {f : Fault} → got limits s p ≡ bad f → got (cell e) s p ≡ bad f
-  cell-1 t = cell-is ∙ goes-off limits-natural s p bad _ t
+  pub cell-1 : {f : Fault} → bad f ≡ got limits s p → bad f ≡ got (cell e) s p
+  cell-1 t = off limits-natural s p bad _ t refl ∙ sym cell-is
 
-  module _ {h : ℕ × (ℕ × ℕ)} {p₁ : Place} (t : got limits s p ≡ good h p₁) where
-    cell-2 : {f : Fault} → got (blocks e) s p₁ ≡ bad f → got (cell e) s p ≡ bad f
-    cell-2 g = cell-is ∙ goes_on limits-natural s p bad _ t ∙ goes-off (blocks-natural e) s p₁ bad _ g
+  module _ {h : ℕ × (ℕ × ℕ)} {p₁ : Place} (t : good h p₁ ≡ got limits s p) where
+    pub cell-2 : {f : Fault} → bad f ≡ got (blocks e) s p₁ → bad f ≡ got (cell e) s p
+    cell-2 g = on limits-natural s p bad _ t (off (blocks-natural e) s p₁ bad _ g refl) ∙ sym cell-is
 
-    module _ {b : List (M.Block × ℤ)} {p₂ : Place} (g : got (blocks e) s p₁ ≡ good b p₂) where
-      prices-next : got (cell e) s p ≡ reserve_prices.read s p₂ bad (λ r p. (reactive e).read s p bad (λ x p. good (grouped h b r x) p))
-      prices-next = cell-is ∙ goes_on limits-natural s p bad _ t ∙ goes_on (blocks-natural e) s p₁ bad _ g
+    module _ {b : List (M.Block × ℤ)} {p₂ : Place} (g : good b p₂ ≡ got (blocks e) s p₁) where
+      pub cell-3 : {f : Fault} → bad f ≡ got reserve_prices s p₂ → bad f ≡ got (cell e) s p
+      cell-3 k = on limits-natural s p bad _ t (on (blocks-natural e) s p₁ bad _ g (off prices-natural s p₂ bad _ k refl)) ∙ sym cell-is
 
-      cell-3 : {f : Fault} → got reserve_prices s p₂ ≡ bad f → got (cell e) s p ≡ bad f
-      cell-3 k = prices-next ∙ goes-off prices-natural s p₂ bad _ k
+      module _ {r : M.Reserves} {p₃ : Place} (k : good r p₃ ≡ got reserve_prices s p₂) where
+        pub cell-4 : {f : Fault} → bad f ≡ got (reactive e) s p₃ → bad f ≡ got (cell e) s p
+        cell-4 m = on limits-natural s p bad _ t (on (blocks-natural e) s p₁ bad _ g (on prices-natural s p₂ bad _ k (off (reactive-natural e) s p₃ bad _ m refl))) ∙ sym cell-is
 
-      cell-4 : {r : M.Reserves} {p₃ : Place} → got reserve_prices s p₂ ≡ good r p₃ → got (cell e) s p ≡ (reactive e).read s p₃ bad (λ x p. good (grouped h b r x) p)
-      cell-4 k = prices-next ∙ goes_on prices-natural s p₂ bad _ k
+        cell-5 : {x : M.ReactiveLimits × M.ReactiveReserves} {z : Place} → good x z ≡ got (reactive e) s p₃ → good (grouped h b r x) z ≡ got (cell e) s p
+        cell-5 m = on limits-natural s p bad _ t (on (blocks-natural e) s p₁ bad _ g (on prices-natural s p₂ bad _ k (on (reactive-natural e) s p₃ bad _ m refl))) ∙ sym cell-is
 
 -- ---- the record of its groups
 
@@ -96,14 +96,20 @@ module _ {A B C D : Type 0} (f : A → B) (g : B → C) (h : A → D) (k : D →
   parts (suc n) (x ∷ l) = ap₂ (λ (y : C) (ys : List C). y ∷ ys) (same x) (parts n l)
 
 module _ {A B C : Type 0} (f : A → C) (h : A → B) (k : B → C) (same : (x : A) → f x ≡ k (h x)) where
-  seen : (n : ℕ) (l : List A) → take n (map f l) ≡ map k (map h (take n l))
-  seen zero l = refl
-  seen (suc n) [] = refl
-  seen (suc n) (x ∷ l) = ap₂ (λ (y : C) (ys : List C). y ∷ ys) (same x) (seen n l)
+  views : (n : ℕ) (l : List A) → take n (map f l) ≡ map k (map h (take n l))
+  views zero l = refl
+  views (suc n) [] = refl
+  views (suc n) (x ∷ l) = ap₂ (λ (y : C) (ys : List C). y ∷ ys) (same x) (views n l)
 
-module _ (l : LimitsRead) (n : ℕ) (bs : List Block) (prices : ReservePrices) (figures : ReactiveCell) (long : length bs ≡ 4) where
+module _ (l : Limits) (b : Blocks) (prices : ReservePrices) (figures : ReactiveCell) (long : length b.blocks ≡ 4) where
+  abbrev n : ℕ
+  n = b.count
+
+  abbrev bs : List Block
+  bs = b.blocks
+
   abbrev c : Cell
-  c = cell_with l n bs prices figures
+  c = cell_with l b prices figures
 
   caps-are : c.caps ≡ map (λ b. b.cap) bs
   caps-are = ap (map (λ (b : Block). b.cap)) (four bs no_block long)
@@ -123,7 +129,7 @@ module _ (l : LimitsRead) (n : ℕ) (bs : List Block) (prices : ReservePrices) (
         record { status = l.status; pmin = l.pmin.0; pmax = l.pmax.0; blocks = x; reactive = reactive_limits_in figures },
         record { blocks = y; reserves = eight_prices_in prices; reactive = reactive_prices_in figures },
       ))
-      (ap (take n) blocks-are ∙ seen (λ b. (block_in b).0) block_in (λ x. x.0) (λ b. refl) n bs)
+      (ap (take n) blocks-are ∙ views (λ b. (block_in b).0) block_in (λ x. x.0) (λ b. refl) n bs)
       (ap (λ (x : List ℕ). map (less price_offset) (take n x)) prices-are ∙ parts (λ b. b.price) (less price_offset) block_in (λ x. x.1) (λ b. refl) n bs)
 
   row-padded : n ≤ 4 → ((k : ℕ) → n ≤ k → k < 4 → Empty (get_or bs k no_block)) → Padded (cell_row c)
@@ -132,37 +138,19 @@ module _ (l : LimitsRead) (n : ℕ) (bs : List Block) (prices : ReservePrices) (
     ap (λ (x : List Kw). kw_at x k) floors-are ∙ ap (λ (x : Kw). x.0) (get_or-map (λ (b : Block). b.floor) bs k no_block) ∙ (rest k m o).1,
   ))
 
--- ---- a cell, by how far its reading came
+-- ---- a cell that was refused, and one that was read
 
-module _ (e : ℕ) (s : List ℕ) (p : Place) (l : LimitsRead) (h : told l.went (limits_in l) ≡ got limits s p) where
-  pub cell-no-limits : {w : Went} (c : Cell) {f : Fault} → l.went ≡ W.Off f → w ≡ l.went → CellDone e s p w c
-  cell-no-limits c t o = record {
-    is = told-off _ (o ∙ t) (cell-1 e s p (went-bad (limits_in l) h t));
-    padded = λ q k. absurd (let z : ◌≡◌ {A = ℕ} 0 1 = cc in omega (arith, z));
-  }
+module _ (e : ℕ) (s : List ℕ) (p : Place) where
+  pub cell-off : {r : Got Cell} {f : Fault} → Exits r f → bad f ≡ got (cell e) s p → CellDone e s p r
+  cell-off {r} h o = let x = exits r h refl in record { is = ap (seen cell_in) x ∙ o; padded = λ c q k. never (sym x ∙ k) }
 
-  module _ {p₁ : Place} (t : l.went ≡ W.On p₁) (b : BlocksRead) (g : BlocksDone e s p₁ b) where
-    pub cell-no-blocks : {w : Went} (c : Cell) {f : Fault} → b.went ≡ W.Off f → w ≡ b.went → CellDone e s p w c
-    cell-no-blocks c k o = record {
-      is = told-off _ (o ∙ k) (cell-2 e s p (went-good (limits_in l) h t) (went-bad _ g.is k));
-      padded = λ q m. absurd (let z : ◌≡◌ {A = ℕ} 0 1 = cc in omega (arith, z));
-    }
-
-    module _ {p₂ : Place} (k : b.went ≡ W.On p₂) {v : Went} (prices : ReservePrices) (o : told v (eight_prices_in prices) ≡ got reserve_prices s p₂) where
-      pub cell-no-prices : {w : Went} (c : Cell) {f : Fault} → v ≡ W.Off f → w ≡ v → CellDone e s p w c
-      cell-no-prices c m i = record {
-        is = told-off _ (i ∙ m) (cell-3 e s p (went-good (limits_in l) h t) (went-good _ g.is k) (went-bad _ o m));
-        padded = λ q n. absurd (let z : ◌≡◌ {A = ℕ} 0 1 = cc in omega (arith, z));
-      }
-
-      pub cell-done : {p₃ : Place} {w : Went} {c : Cell} (x : ReactiveCell) → v ≡ W.On p₃ → told w (reactive_pair x) ≡ got (reactive e) s p₃
-          → c ≡ cell_with l b.count b.blocks prices x → CellDone e s p w c
-      cell-done {p₃} {w} x m i j = rw j (record {
-        is = ap (told w) (row-holds l b.count b.blocks prices x g.long)
-            ∙ mapped (reactive-natural e) (grouped (limits_in l) (map block_in (take b.count b.blocks)) (eight_prices_in prices)) s p₃ w (reactive_pair x)
-            (cell-4 e s p (went-good (limits_in l) h t) (went-good _ g.is k) (went-good _ o m)) i;
-        padded = λ q n. let a = g.absent p₂ k in row-padded l b.count b.blocks prices x g.long a.few a.rest;
-      })
+  pub cell-done : (l : Limits) (b : Blocks) (prices : ReservePrices) (x : ReactiveCell) {p₁ p₂ p₃ z : Place} {c : Cell} → good (limits_in l) p₁ ≡ got limits s p
+      → BlocksDone e s p₁ (good b p₂) → good (eight_prices_in prices) p₃ ≡ got reserve_prices s p₂ → good (reactive_pair x) z ≡ got (reactive e) s p₃
+      → c ≡ cell_with l b prices x → CellDone e s p (good c z)
+  cell-done l b prices x {p₂ = p₂} {z = z} t g k m j = let long = g.long b p₂ refl in let a = g.absent b p₂ refl in rw j (record {
+    is = ap (λ (y : M.Cell × M.CellPrices). good y z) (row-holds l b prices x long) ∙ cell-5 e s p t g.is k m;
+    padded = λ c q n. rw (← same n) (row-padded l b prices x long a.few a.rest);
+  })
 
 -- ---- the cells
 
@@ -172,31 +160,34 @@ pub record Rowing (e : ℕ) (s : List ℕ) (n : ℕ) (start : Place) (i : ℕ) (
   pub storing : Storing (cell e) cell_pair s n start i cells p
   pub padded : (k : ℕ) → k < i → Padded (get_or cells k [])
 
+-- what was refused was not read
+gone : {T P : Type 0} (r : Result T Fault) (f : Fault) {q : T} → Exits r f → r ≡ Ok q → P
+gone (Ok x) f h e = absurd h.1
+gone (Err x) f h e = absurd (let z : ◌≡◌ {A = ℕ} 0 1 = cc in omega (arith, z))
+
 pub rowing-none : {e : ℕ} {s : List ℕ} {start : Place} {cells : List (List ℕ)} → Rowing e s (length cells) start 0 cells start
 rowing-none = record { long = refl; storing = storing-none (omega arith); padded = λ k h. absurd (omega arith) }
 
 module _ {e : ℕ} {s : List ℕ} {n : ℕ} {start : Place} {i : ℕ} {cells : List (List ℕ)} {p : Place} (u : Rowing e s n start i cells p) where
-  pub rowing_more : {w : Went} {c : Cell} {q : Place} {after : List (List ℕ)} → i < length cells → CellDone e s p w c → w ≡ W.On q
-      → after ≡ set cells i (cell_row c) → Rowing e s n start (i + 1) after q
-  rowing_more {c = c} {q = q} h g t a = rw a (record {
+  pub rowing_more : {c : Cell} {q : Place} {after : List (List ℕ)} → i < n → CellDone e s p (good c q) → after ≡ set cells i (cell_row c) → Rowing e s n start (i + 1) after q
+  rowing_more {c = c} {q = q} h g a = rw a (record {
     long = simp length-set u.long;
-    storing = storing-more u.storing (cell-natural e) (omega (arith, u.long)) (went-good (cell_pair (cell_row c)) g.is t);
+    storing = storing-more u.storing (cell-natural e) h g.is;
     padded = λ k l. elim (dec_le (suc k) i) [
       | yes m ↦ rw (get_or-set_other cells i k (cell_row c) [] (λ z. omega (arith, z))) (u.padded k m)
-      | no m ↦ let z : k ≡ i = omega arith in rw (z, get_or-set_same cells i (cell_row c) [] h) (g.padded q t)
+      | no m ↦ let z : k ≡ i = omega arith in rw (z, get_or-set_same cells i (cell_row c) [] (omega (arith, u.long))) (g.padded c q refl)
     ];
   })
 
-  pub rowing-off : {w : Went} (c : Cell) {f : Fault} → i < length cells → CellDone e s p w c → w ≡ W.Off f → CellsDone e s start w cells
-  rowing-off c h g t = record {
-    is = told-off _ t (ap (λ (m : ℕ). got (list m (cell e)) s start) u.long
-        ∙ storing-off u.storing (cell-natural e) (omega (arith, u.long)) (went-bad (cell_pair (cell_row c)) g.is t));
-    padded = λ q k. absurd (let z : ◌≡◌ {A = ℕ} 0 1 = cc in omega (arith, z));
+  pub rowing-off : {r : Result Place Fault} {f : Fault} → Exits r f → i < n → CellDone e s p (bad f) → CellsDone e s start r cells
+  rowing-off {r} {f} h l g = record {
+    is = told-exits _ r h (storing-off u.storing (cell-natural e) l g.is ∙ ap (λ (m : ℕ). got (list m (cell e)) s start) (sym u.long));
+    padded = λ q k. gone r f h k;
   }
 
-  pub rowing-done : length cells ≤ i → CellsDone e s start (W.On p) cells
+  pub rowing-done : n ≤ i → CellsDone e s start (Ok p) cells
   rowing-done h = record {
-    is = sym (ap (λ (m : ℕ). got (list m (cell e)) s start) u.long ∙ storing-done u.storing (omega (arith, u.long))
-        ∙ ap (λ (l : List (List ℕ)). good (map cell_pair l) p) (take_all n cells (omega (arith, u.long))));
-    padded = λ q o k l. u.padded k (omega arith);
+    is = ap (λ (l : List (List ℕ)). good (map cell_pair l) p) (sym (take_all n cells (omega (arith, u.long)))) ∙ storing-done u.storing h
+        ∙ ap (λ (m : ℕ). got (list m (cell e)) s start) (sym u.long);
+    padded = λ q o k l. u.padded k (omega (arith, u.long));
   }

@@ -24,12 +24,6 @@ use row_places::{CellRow, DeviceRow, Front, MinimaRow, SettingRow, ZoneRow};
 use setting_rows::{online_at, reactive_at, setting_at};
 use spans::{Span, whole_span};
 
-fn wide(x: u32) -> u64
-    ensures { result ≡ x }
-{
-    x as u64
-}
-
 // "from 0 to 100,000"
 const MOST_ONLINE: u64 = 100000;
 
@@ -109,7 +103,7 @@ fn beside(settings: &[SettingRow], powers: &[u32], t: usize) -> u64
     let power = Kw(powers[t]);
     let online = online_at(settings, t);
     let a = power.less(online);
-    wide(a.0)
+    u64::from(a.0)
 }
 
 // The span of interval t of a device, out of its parts of the tables.

@@ -9,17 +9,17 @@ ghost use Rattle.records.specs.Views.{most_power, last_minute};
 ghost use Rattle.cell_bounds.specs.Sign.{may_rise, may_fall};
 ghost use Rattle.cell_bounds.specs.Tests.{of_block, sum_of};
 
-use cell_bounds::Bounds;
+use cell_bounds::{Bounds, sum_of};
 use kilowatts::Kw;
 
 // Rule 1.
 pub fn status_kept(status: u32, on: u32) -> bool
     ensures { result ≡ (implies (eqb status 1) (eqb on 1) && implies (eqb status 2) (eqb on 0)) }
 {
-    if status == 1 {
-        on == 1
-    } else {
-        if status == 2 { on == 0 } else { true }
+    match status {
+        1 => on == 1,
+        2 => on == 0,
+        _ => true,
     }
 }
 
@@ -60,12 +60,10 @@ pub fn rise_kept(
 {
     if on == 0 {
         power.0 <= previous.0 + minutes * starting
+    } else if started == 0 {
+        power.0 <= previous.0 + minutes * up
     } else {
-        if started == 0 {
-            power.0 <= previous.0 + minutes * up
-        } else {
-            power.0 <= previous.0 + minutes * starting
-        }
+        power.0 <= previous.0 + minutes * starting
     }
 }
 
@@ -133,18 +131,6 @@ pub fn floor_kept(side: u32, consuming: Kw, producing: Kw, pmin: Kw, on: u32, on
 {
     let low = by_side(side, consuming, producing);
     above_floor(pmin, on, online, low)
-}
-
-// The sum of the blocks' caps, or of their floors.
-fn sum_of(powers: [Kw; 4]) -> Kw
-    requires { (of_block powers 0 ≤ 100000) × (of_block powers 1 ≤ 100000) × (of_block powers 2 ≤ 100000) × (of_block powers 3 ≤ 100000) }
-    ensures { result.0 ≡ sum_of powers }
-{
-    let a = powers[0];
-    let b = powers[1];
-    let c = powers[2];
-    let d = powers[3];
-    Kw(a.0 + b.0 + c.0 + d.0)
 }
 
 // Rule 19's upper bound.

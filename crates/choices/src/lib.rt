@@ -33,15 +33,14 @@ pub struct Chosen {
 fn with_state(b: Chosen, s: State, n: u32, downtime: u32) -> Chosen
     ensures { result ≡ chosen b s n downtime }
 {
-    if downtime <= s.longest {
-        if s.cost < b.least {
-            return Chosen {
-                state: n,
-                least: s.cost,
-            };
+    if downtime <= s.longest && s.cost < b.least {
+        Chosen {
+            state: n,
+            least: s.cost,
         }
+    } else {
+        b
     }
-    b
 }
 
 // The lowest-numbered cheapest state that lasts the downtime, and none unless it costs below 0.
@@ -49,16 +48,13 @@ fn best_state(devices: &[DeviceRow], i: usize, downtime: u32) -> u32
     requires { (i < length devices.now) × ((device_at devices.now i).nstates ≤ most_states) }
     ensures { result ≡ state_of (device_at devices.now i) downtime }
 {
-    let n = states_at(devices, i);
     let mut b = Chosen {
         state: 0,
         least: NO_COST,
     };
-    let mut k = 0;
-    while k < n {
+    for k in 0..states_at(devices, i) {
         let s = device_rows::state_at(devices, i, k);
         b = with_state(b, s, k as u32 + 1, downtime);
-        k += 1;
     }
     b.state
 }
@@ -75,13 +71,6 @@ fn initial_rest(devices: &[DeviceRow], i: usize) -> u32
     }
 }
 
-// The minutes from an interval's end to a later start.
-fn since(start: u32, end: u32) -> u32
-    ensures { result ≡ start - end }
-{
-    if end <= start { start - end } else { 0 }
-}
-
 // "Downtime runs from the end of the last on interval; if none, S, plus minutes already so when initially off."
 fn downtime(
     devices: &[DeviceRow],
@@ -94,13 +83,10 @@ fn downtime(
     ensures { result ≡ off_since (device_at devices.now i) settings.now starts.now t t }
 {
     let start = starts[t];
-    let mut k = t;
-    while 0 < k {
-        let e = k - 1;
+    for e in (0..t).rev() {
         if on_at(settings, e) == 1 {
-            return since(start, starts[k]);
+            return start.saturating_sub(starts[e + 1]);
         }
-        k = e;
     }
     start + initial_rest(devices, i)
 }

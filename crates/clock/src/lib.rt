@@ -11,10 +11,8 @@ pub fn start_times(halves: &[u32], starts: &mut [u32])
 {
     starts[0] = 0;
     let mut at = 0u32;
-    let mut t = 0;
-    while t < halves.len() {
-        at += 2 * halves[t];
-        t += 1;
-        starts[t] = at;
+    for (t, &half) in halves.iter().enumerate() {
+        at += 2 * half;
+        starts[t + 1] = at;
     }
 }

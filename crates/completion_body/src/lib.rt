@@ -53,10 +53,8 @@ fn read_devices(s: &[u8], w: Walk, desk: bool, devices: u32, table: &mut [u64]) 
     ensures { Runs s.now w table.old (times devices (device_widths desk)) result table.new }
 {
     let mut t = w;
-    let mut k = 0;
-    while k < devices {
+    for _k in 0..devices {
         t = read_device(s, t, desk, table);
-        k += 1;
     }
     t
 }
@@ -108,12 +106,9 @@ fn read_intervals(s: &[u8], w: Walk, f: Form, table: &mut [u64]) -> Walk
     requires { (w.count ≤ w.at) × (f.zones ≤ most_zones) }
     ensures { Runs s.now w table.old (times f.intervals (interval_widths f.desk f.edition f.devices f.zones)) result table.new }
 {
-    let intervals = f.intervals;
     let mut t = w;
-    let mut k = 0;
-    while k < intervals {
+    for _k in 0..f.intervals {
         t = read_interval(s, t, f, table);
-        k += 1;
     }
     t
 }

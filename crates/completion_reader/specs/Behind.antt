@@ -11,7 +11,7 @@ use Rattle.layouts.specs.declared.Clash.{Clash}
 use Rattle.layouts.specs.declared.Clash.TheVariants.{Clear, At}
 use Rattle.layouts.specs.Layout.{Whole, passes, fails, settle, tail_fault}
 use Rattle.message_ends.specs.Ended.{ending_of}
-use Rattle.message_ends.specs.declared.Ending.TheVariants.{Passes, Fails}
+use Rattle.std.specs.Prelude.{Ok, Err}
 use Rattle.completion_reading.specs.declared.Reading.{Reading}
 use Rattle.completion_reading.specs.declared.Reading.TheVariants.{Figures, RefusedMessage, Short}
 use Rattle.completion_reading.specs.Figures.{Readings, tabled}
@@ -73,12 +73,12 @@ module _ (s : List ℕ) (at : ℕ) (f : Form) {scratch other : List ℕ} {w : Wa
       go (cut b e a i) = rw (e, a) refl
       go (read vs e n i) = absurd (let z : ◌≡◌ {A = Bool} true false = sym t ∙ i in let y : ◌≡◌ {A = ℕ} 0 1 = cc in omega arith)
 
-  pub behind-fails : (c : Clash) {table : List ℕ} {x : Fault} → w.cut ≡ false → ending_of (tail_fault s w.at) c ≡ Fails x
+  pub behind-fails : (c : Clash) {table : List ℕ} {x : Fault} → w.cut ≡ false → ending_of (tail_fault s w.at) c ≡ Err x
       → record { answer = RefusedMessage x; table = table } ≡ tabled (settled s c (walked s at (widths_of f))) table
   unfolding settle
   behind-fails c {table} {x} t h = go found
     where
-      ends : (vs : List ℕ) (a b : Clash) → ending_of a b ≡ Fails x → left (RefusedMessage x) table ≡ tabled (settle vs a b) table
+      ends : (vs : List ℕ) (a b : Clash) → ending_of a b ≡ Err x → left (RefusedMessage x) table ≡ tabled (settle vs a b) table
       ends vs (At i) b e = let g : F.Tail i ≡ x = cc in rw (sym g) refl
       ends vs Clear (At i) e = let g : F.Contradiction i ≡ x = cc in rw (sym g) refl
       ends vs Clear Clear e = absurd (let z : ◌≡◌ {A = ℕ} 0 1 = cc in omega arith)
@@ -87,12 +87,12 @@ module _ (s : List ℕ) (at : ℕ) (f : Form) {scratch other : List ℕ} {w : Wa
       go (cut b e a i) = absurd (let z : ◌≡◌ {A = Bool} true false = sym i ∙ t in let y : ◌≡◌ {A = ℕ} 0 1 = cc in omega arith)
       go (read vs e n i) = rw e (ends vs (tail_fault s w.at) c h)
 
-  pub behind-passes : (c : Clash) (before : List ℕ) {after : List ℕ} {r : Reading} → w.cut ≡ false → ending_of (tail_fault s w.at) c ≡ Passes → Fills s at f w.count before after r
+  pub behind-passes : (c : Clash) (before : List ℕ) {after : List ℕ} {r : Reading} → w.cut ≡ false → ending_of (tail_fault s w.at) c ≡ Ok tt → Fills s at f w.count before after r
       → record { answer = r; table = after } ≡ tabled (settled s c (walked s at (widths_of f))) before
   unfolding settle
   behind-passes c before {after} {r} t h j = go found
     where
-      ends : (vs : List ℕ) (a b : Clash) → ending_of a b ≡ Passes → settle vs a b ≡ passes vs
+      ends : (vs : List ℕ) (a b : Clash) → ending_of a b ≡ Ok tt → settle vs a b ≡ passes vs
       ends vs (At i) b e = absurd (let z : ◌≡◌ {A = ℕ} 0 1 = cc in omega arith)
       ends vs Clear (At i) e = absurd (let z : ◌≡◌ {A = ℕ} 0 1 = cc in omega arith)
       ends vs Clear Clear e = refl

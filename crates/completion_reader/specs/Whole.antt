@@ -1,7 +1,7 @@
 -- A whole message: its front by the case's figures, and behind it the widths alone.
 use Rattle.std.proofs.Math.Path.{◌≡◌, refl, ap}
 use Rattle.std.proofs.Common.{sym, ◌∙◌, arith}
-use Rattle.std.specs.Prelude.{Bool, ℕ, ◌*◌, ◌≤◌, length}
+use Rattle.std.specs.Prelude.{Ok, Err, Bool, ℕ, ◌*◌, ◌≤◌, length}
 use Rattle.std.proofs.Math.Bool.{true, false}
 use mathlib.Core.List.{List, [], ◌∷◌, ◌++◌}
 use Rattle.numbers.specs.Base.{gather}
@@ -79,16 +79,16 @@ module _ (kind : ℕ) (f : Form) (s : List ℕ) where
     view-off {x} e = go (got (base kind f) s begin) refl (sym header_is ∙ e)
       where
         go : (r : Got (ℕ × (ℕ × (ℕ × (ℕ × ℕ))))) → got (base kind f) s begin ≡ r → on_got r bad (λ v q. good v.1.1.1.1 q) ≡ bad x → got (held to from (base kind f)) s begin ≡ bad x
-        go (bad y) h e = let k : y ≡ x = cc in viewed ∙ ap (λ (r : Got (ℕ × (ℕ × (ℕ × (ℕ × ℕ))))). on_got r bad (λ v q. good (to v) q)) h ∙ ap bad k
-        go (good v q) h e = never (sym e)
+        go (Err y) h e = let k : y ≡ x = cc in viewed ∙ ap (λ (r : Got (ℕ × (ℕ × (ℕ × (ℕ × ℕ))))). on_got r bad (λ v q. good (to v) q)) h ∙ ap bad k
+        go (Ok (v, q)) h e = never (sym e)
 
     view-on : {z : ℕ} {p : Place} → got (header kind f) s begin ≡ good z p → (a : A) × (got (held to from (base kind f)) s begin ≡ good a p)
     view-on {z} {p} e = go (got (base kind f) s begin) refl (sym header_is ∙ e)
       where
         go : (r : Got (ℕ × (ℕ × (ℕ × (ℕ × ℕ))))) → got (base kind f) s begin ≡ r → on_got r bad (λ v q. good v.1.1.1.1 q) ≡ good z p
             → (a : A) × (got (held to from (base kind f)) s begin ≡ good a p)
-        go (bad y) h e = never e
-        go (good v q) h e = let k : q ≡ p = cc in (to v, viewed ∙ ap (λ (r : Got (ℕ × (ℕ × (ℕ × (ℕ × ℕ))))). on_got r bad (λ v q. good (to v) q)) h ∙ ap (good (to v)) k)
+        go (Err y) h e = never e
+        go (Ok (v, q)) h e = let pair : ◌≡◌ {A = ℕ × Place} (v.1.1.1.1, q) (z, p) = cc in let k : q ≡ p = ap (λ (x : ℕ × Place). x.1) pair in (to v, viewed ∙ ap (λ (r : Got (ℕ × (ℕ × (ℕ × (ℕ × ℕ))))). on_got r bad (λ v q. good (to v) q)) h ∙ ap (good (to v)) k)
 
   pub header-inside : {z : ℕ} {p : Place} → got (header kind f) s begin ≡ good z p → p.at ≤ 8 * reach s
   unfolding header counts
@@ -163,5 +163,5 @@ module _ (desk : Bool) (e : ℕ) (n : Counts) (windows : ℕ) (s : List ℕ) whe
   figures-long vs h = go (got (header (kind_by desk) form) s begin) refl
     where
       go : (r : Got ℕ) → got (header (kind_by desk) form) s begin ≡ r → length vs ≡ length (body_widths desk e n windows)
-      go (bad x) k = absurd (let t = message-off e n.devices n.intervals n.zones windows s desk k in let z : ◌≡◌ {A = ℕ} 0 1 = cc in omega arith)
-      go (good z p) k = settled-long p.clash p.at _ vs (sym (message-on e n.devices n.intervals n.zones windows s desk k) ∙ h)
+      go (Err x) k = absurd (let t = message-off e n.devices n.intervals n.zones windows s desk k in let z : ◌≡◌ {A = ℕ} 0 1 = cc in omega arith)
+      go (Ok (z, p)) k = settled-long p.clash p.at _ vs (sym (message-on e n.devices n.intervals n.zones windows s desk k) ∙ h)

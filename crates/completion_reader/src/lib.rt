@@ -5,7 +5,7 @@ ghost use Rattle.std.specs.Prelude.{◌≡◌, ◌*◌, ◌≤◌};
 ghost use Rattle.bits.specs.Bits.{reach};
 ghost use Rattle.layouts.specs.Layout.{begin};
 ghost use Rattle.model.specs.Editions.{most_zones};
-ghost use Rattle.fields.specs.Got.{got, figured};
+ghost use Rattle.fields.specs.Got.{got};
 ghost use Rattle.completion_reading.specs.Figures.{tabled};
 ghost use Rattle.completion_reading.specs.Flat.{walked};
 ghost use Rattle.completion_body.specs.Forms.{counts_in, widths_of};
@@ -17,10 +17,9 @@ use completion_body::{Form, read_body};
 use completion_reading::Reading;
 use completion_size::ZONES_BITS;
 use editions::{device_bits, interval_bits};
-use fields::{Figure, read_count, read_fixed};
+use fields::{BEGIN, Read, read_count, read_fixed};
 use figure_reader::Walk;
-use layouts::{Clash, Fault, Place};
-use message_ends::Ending;
+use layouts::{Fault, Place};
 
 // "kind 4 (3)" and "kind 4 (4)"
 const COMPLETION_KIND: u32 = 3;
@@ -28,44 +27,23 @@ const COMPLETION_KIND: u32 = 3;
 const COPY_KIND: u32 = 4;
 
 // The case's counts, zones included.
-fn read_counts(s: &[u8], p: Place, f: Form) -> Figure
-    ensures { figured result ≡ got (counts f) s.now p }
+fn read_counts(s: &[u8], p: Place, f: Form) -> Read<u32>
+    ensures { result ≡ got (counts f) s.now p }
 {
-    let edition = f.edition;
-    let devices = f.devices;
-    let intervals = f.intervals;
-    let zones = f.zones;
-    let across = device_bits(edition);
-    let count = read_count(s, p, across, devices, devices);
-    let Figure::Good(_, p1) = count else {
-        return count;
-    };
-    let along = interval_bits(edition);
-    let length = read_count(s, p1, along, intervals, intervals);
-    let Figure::Good(_, p2) = length else {
-        return length;
-    };
-    read_count(s, p2, ZONES_BITS, zones, zones)
+    let across = device_bits(f.edition);
+    let (_, at_intervals) = read_count(s, p, across, f.devices, f.devices)?;
+    let along = interval_bits(f.edition);
+    let (_, at_zones) = read_count(s, at_intervals, along, f.intervals, f.intervals)?;
+    read_count(s, at_zones, ZONES_BITS, f.zones, f.zones)
 }
 
 // Kind, edition and the case's counts.
-fn read_front(s: &[u8], kind: u32, f: Form) -> Figure
-    ensures { figured result ≡ got (header kind f) s.now begin }
+fn read_front(s: &[u8], kind: u32, f: Form) -> Read<u32>
+    ensures { result ≡ got (header kind f) s.now begin }
 {
-    let edition = f.edition;
-    let start = Place {
-        at: 0,
-        clash: Clash::Clear,
-    };
-    let first = read_fixed(s, start, kind);
-    let Figure::Good(_, p1) = first else {
-        return first;
-    };
-    let number = read_fixed(s, p1, edition);
-    let Figure::Good(_, p2) = number else {
-        return number;
-    };
-    read_counts(s, p2, f)
+    let (_, at_edition) = read_fixed(s, BEGIN, kind)?;
+    let (_, at_counts) = read_fixed(s, at_edition, f.edition)?;
+    read_counts(s, at_counts, f)
 }
 
 // The figures into the lent table, or 7 where it has fewer numbers.
@@ -106,8 +84,8 @@ fn read_behind(s: &[u8], p: Place, f: Form, table: &mut [u64]) -> Reading
         return Reading::RefusedMessage(Fault::Cut(end));
     }
     match message_ends::finish(s, Place { at: end, clash }) {
-        Ending::Fails(x) => Reading::RefusedMessage(x),
-        Ending::Passes => fill(s, at, f, count, table),
+        Err(x) => Reading::RefusedMessage(x),
+        Ok(()) => fill(s, at, f, count, table),
     }
 }
 
@@ -125,7 +103,7 @@ pub fn read_message(s: &[u8], f: Form, table: &mut [u64]) -> Reading
 {
     let kind = kind_of(f.desk);
     match read_front(s, kind, f) {
-        Figure::Bad(x) => Reading::RefusedMessage(x),
-        Figure::Good(_, p) => read_behind(s, p, f, table),
+        Err(x) => Reading::RefusedMessage(x),
+        Ok((_, p)) => read_behind(s, p, f, table),
     }
 }

@@ -87,5 +87,5 @@ pub fn bytes_needed(edition: u32, devices: u64, intervals: u64, zones: u64, wind
 {
     let front = front_bits(edition) + intervals_bits(edition, devices, intervals, zones);
     let bits = front + windows * OVERRUN_BITS + SURPLUS_BITS;
-    (bits + 7) / 8
+    bits.div_ceil(8)
 }

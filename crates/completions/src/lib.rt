@@ -26,10 +26,8 @@ pub fn count_windows(devices: &[DeviceRow]) -> u64
     ensures { CountedTo devices.now (length devices.now) result }
 {
     let mut n: u64 = 0;
-    let mut i = 0;
-    while i < devices.len() {
+    for i in 0..devices.len() {
         n += energies_at(devices, i) as u64;
-        i += 1;
     }
     n
 }
@@ -89,10 +87,8 @@ pub fn complete(
     let all = complete_overruns(
         front, halves, zones, minima, devices, cells, settings, starts, powers, buf, day,
     );
-    let balance = all.money;
-    let z = balance.balance();
-    let last = all.pen;
-    let end = put_surplus(buf, last, z);
+    let z = all.money.balance();
+    let end = put_surplus(buf, all.pen, z);
     finish(buf, end);
     z
 }

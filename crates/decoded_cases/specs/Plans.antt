@@ -1,14 +1,12 @@
 -- A plan's bytes read into tables to work in, and its forced figures computed there.
-use Rattle.std.specs.Prelude.{◌≡◌, List, ℕ, length}
+use Rattle.std.specs.Prelude.{Ok, ◌≡◌, List, ℕ, length}
 use Rattle.std.proofs.Math.Path.{refl}
 use Rattle.std.proofs.Common.{sym, ◌∙◌, arith}
 use Rattle.layouts.specs.Layout.{read_whole}
 use Rattle.model.specs.Case.{Plan}
 use Rattle.model.specs.ByEdition.{Stated, planned_in, plan_layout}
 use Rattle.model.specs.Judgement.{read_plan}
-use Rattle.message_ends.specs.Ended.{ended}
-use Rattle.message_ends.specs.declared.Ending.{Ending}
-use Rattle.message_ends.specs.declared.Ending.TheVariants.{Passes}
+use Rattle.message_ends.specs.Ended.{Ending, ended}
 use Rattle.row_places.specs.declared.Front.{Front}
 use Rattle.records.specs.Views.{plan_in, Ready}
 use Rattle.records.specs.Viewed.{devices-are, intervals-are}
@@ -42,7 +40,7 @@ module _ {front : Front} {halves : List ℕ} {zones minima devices cells : List 
       layout-same : {i j m n : ℕ} → i ≡ m → j ≡ n → read_whole (plan_layout front.edition i j) ps ≡ read_whole (plan_layout front.edition m n) ps
       layout-same a b = rw (a, b) refl
 
-  pub planned-of : {before : List (List ℕ)} {starts powers : List ℕ} → Work halves devices before starts powers → e ≡ Passes → Planned front halves zones minima devices cells settings starts powers
+  pub planned-of : {before : List (List ℕ)} {starts powers : List ℕ} → Work halves devices before starts powers → e ≡ Ok tt → Planned front halves zones minima devices cells settings starts powers
   planned-of w t = record { decoded = d; plan-rows = h.rows t; starts-full = w.starts-full; powers-full = w.powers-full }
 
 -- the forced figures computed

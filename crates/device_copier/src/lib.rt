@@ -9,7 +9,8 @@ ghost use Rattle.writing.specs.CaseSplices.{start_splice, link_splice, device_sp
 ghost use Rattle.bit_copier.specs.Moves.{Set, Moves};
 
 use bit_copier::{
-    Copier, add_field, keep_counted, keep_field, keep_run, keep_since, next_field, widen_field,
+    Copier, add_field, copy_each, keep_counted, keep_field, keep_run, keep_since, next_field,
+    widen_field,
 };
 use cell_copier::copy_cells;
 use editions::starts_bits;
@@ -61,20 +62,6 @@ fn copy_start(s: &[u8], buf: &mut [u8], q: Copier, edition: u32) -> Copier
     widen_field(s, buf, q, width, STARTS_BITS)
 }
 
-// So many start windows.
-fn copy_each_start(s: &[u8], buf: &mut [u8], q: Copier, edition: u32, n: u64) -> Copier
-    requires { Set s.now q }
-    ensures { Moves (times n (start_splice edition)) s.now buf.old buf.new q result }
-{
-    let mut t = q;
-    let mut k = 0;
-    while k < n {
-        t = copy_start(s, buf, t, edition);
-        k += 1;
-    }
-    t
-}
-
 // "start windows 3 (0..4)", and that many.
 fn copy_starts(s: &[u8], buf: &mut [u8], q: Copier, edition: u32) -> Copier
     requires { Set s.now q }
@@ -82,7 +69,7 @@ fn copy_starts(s: &[u8], buf: &mut [u8], q: Copier, edition: u32) -> Copier
 {
     let n = next_field(s, q, COUNT_BITS);
     let q = keep_field(s, buf, q, COUNT_BITS);
-    copy_each_start(s, buf, q, edition, n)
+    copy_each(buf, q, n, move |buf, q| copy_start(s, buf, q, edition))
 }
 
 // The lines of a link kind: two, one or none.
@@ -140,11 +127,7 @@ pub fn copy_devices(
     requires { Set s.now q }
     ensures { Moves (times devices (device_splice edition intervals)) s.now buf.old buf.new q result }
 {
-    let mut t = q;
-    let mut k = 0;
-    while k < devices {
-        t = copy_device(s, buf, t, edition, intervals);
-        k += 1;
-    }
-    t
+    copy_each(buf, q, devices, move |buf, q| {
+        copy_device(s, buf, q, edition, intervals)
+    })
 }

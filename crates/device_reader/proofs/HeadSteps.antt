@@ -1,5 +1,6 @@
 -- What stands ahead of a device's intervals, from the parts that the code reads: side and zone bits, single figures, three lists, the link and the bar.
 use mathlib.Core.Path.{◌≡◌, refl, ap, sym, ◌∙◌}
+use mathlib.Core.Bool.{false, true}
 use mathlib.Core.List.{List, [], ◌∷◌, map, map-map}
 use Prim.Native.Nat.{ℕ, zero, suc, ◌≤◌}
 use native.Mathlib.Omega.{arith}
@@ -16,21 +17,23 @@ use Rattle.row_places.specs.declared.State.{State}
 use Rattle.row_places.specs.declared.StartWindow.{StartWindow}
 use Rattle.row_places.specs.declared.EnergyWindow.{EnergyWindow}
 use Rattle.row_places.specs.declared.Device.{Device}
-use Rattle.records.specs.Views.{less, cost_offset, start_in, energy_in}
-use Rattle.fields.specs.declared.Went.{Went}
-use Rattle.fields.specs.declared.Went.TheVariants as W
-use Rattle.fields.specs.Got.{good, bad, got, told, Natural, then-natural, mapped, told-off, goes-off}
+use Rattle.records.specs.Views.{less, cost_offset, start_in, energy_in, Counted}
+use Rattle.records.specs.Kept.{DeviceLong}
+use Rattle.row_places.specs.Figures.{DeviceSmall}
+use Rattle.std.specs.Prelude.{Ok}
+use Rattle.fields.specs.Got.{Got, good, bad, got, Natural, then-natural, mapped, goes-off}
+use Rattle.fields.proofs.Steps.{Exits, seen-exits}
 use Rattle.field_rows.specs.Each.{each, each_read, counted-natural}
 use Rattle.item_reader.specs.declared.Item.{Item}
 use Rattle.item_reader.specs.declared.Listed.{Listed}
 use Rattle.item_reader.specs.declared.Listed.TheVariants.{States, Starts, Energies}
-use Rattle.device_figures.specs.declared.SidesRead.{SidesRead}
-use Rattle.device_figures.specs.declared.FiguresRead.{FiguresRead}
-use Rattle.device_figures.specs.declared.LinkedRead.{LinkedRead}
-use Rattle.item_reader.specs.declared.ItemsRead.{ItemsRead}
+use Rattle.device_figures.specs.declared.Sides.{Sides}
+use Rattle.device_figures.specs.declared.Figures.{Figures}
+use Rattle.device_figures.specs.declared.Linked.{Linked}
+use Rattle.item_reader.specs.declared.Items.{Items}
 use Rattle.model.specs.Editions.{most_states}
-use Rattle.item_reader.specs.Items.{item_in, items, items_in, threes, fours, state_from, start_from, energy_from, ItemsDone, EnergiesMade}
-use Rattle.device_figures.specs.Parts.{Figures, sides, figures, figures_in, linked, linked_in}
+use Rattle.item_reader.specs.Items.{item_in, ItemsFit, items, items_in, threes, fours, state_from, start_from, energy_from, EnergiesMade}
+use Rattle.device_figures.specs.Parts.{FigureLists, sides, sides_in, figures, figures_in, linked, linked_in}
 use Rattle.device_figures.specs.Naturals.{sides-natural, figures-natural, linked-natural}
 use Rattle.device_reader.specs.Parts.{MoneyMade, limits_from, device_with, device_from, DeviceMade}
 use Rattle.device_reader.specs.Heads.{Ahead, ahead, ahead_of, HeadDone}
@@ -45,7 +48,7 @@ abbrev lists : ℕ → ℕ → Layout Lists
 lists e last = items States e last ▸ items Starts e last ▸ items Energies e last ▸ linked e
 
 abbrev Parts : Type 0
-Parts = (ℕ × ℕ) × (Figures × Lists)
+Parts = (ℕ × ℕ) × (FigureLists × Lists)
 
 abbrev parts : ℕ → ℕ → ℕ → Layout Parts
 parts e zones last = sides zones ▸ figures ▸ lists e last
@@ -71,7 +74,7 @@ module _ (e last : ℕ) where
 
 -- ---- as what stands ahead
 
-abbrev ahead_with : ℕ × ℕ → Figures → List ℕ → List ℤ → List M.StartWindow → List M.EnergyWindow → M.Link × ℕ → Ahead
+abbrev ahead_with : ℕ × ℕ → FigureLists → List ℕ → List ℤ → List M.StartWindow → List M.EnergyWindow → M.Link × ℕ → Ahead
 ahead_with x f longest costs starts energies link = (
   record {
     side = x.0;
@@ -122,19 +125,19 @@ seen-three : {A B : Type 0} (view : B → A) (f : Item → B) (n : ℕ) (l : Lis
     → map view (take n (threes f l)) ≡ map (λ x. view (f x)) (take n l)
 seen-three view f n l few h = ap (map view) (three-items f n l few) ∙ seen view f n l h
 
-with-same : (x : ℕ × ℕ) (f : Figures) (l : M.Link × ℕ) {a a' : List ℕ} {b b' : List ℤ} {c c' : List M.StartWindow} {d d' : List M.EnergyWindow}
+with-same : (x : ℕ × ℕ) (f : FigureLists) (l : M.Link × ℕ) {a a' : List ℕ} {b b' : List ℤ} {c c' : List M.StartWindow} {d d' : List M.EnergyWindow}
     → a ≡ a' → b ≡ b' → c ≡ c' → d ≡ d' → ahead_with x f a b c d l ≡ ahead_with x f a' b' c' d' l
 with-same x f l h i j k = rw (h, i, j, k) refl
 
 -- what the parts that were read say
-abbrev pub parts_in : SidesRead → FiguresRead → ItemsRead → ItemsRead → ItemsRead → LinkedRead → Parts
-parts_in x f a b c l = ((x.side, x.zonebits), (figures_in f, (items_in States a, (items_in Starts b, (items_in Energies c, linked_in l)))))
+abbrev pub parts_in : Sides → Figures → Items → Items → Items → Linked → Parts
+parts_in x f a b c l = (sides_in x, (figures_in f, (items_in States a, (items_in Starts b, (items_in Energies c, linked_in l)))))
 
-device-seen : (x : SidesRead) (f : FiguresRead) (a b c : ItemsRead) (k : LinkedRead) → a.count ≤ most_states → length a.items ≡ 4 → length b.items ≡ 4 → length c.items ≡ 4
+device-seen : (x : Sides) (f : Figures) (a b c : Items) (k : Linked) → a.count ≤ most_states → length a.items ≡ 4 → length b.items ≡ 4 → length c.items ≡ 4
     → ahead_of (device_from x f a b c k) ≡ ahead_from (parts_in x f a b c k)
 device-seen x f a b c k few h i j =
     let l = take a.count a.items in
-    with-same (x.side, x.zonebits) (figures_in f) (linked_in k)
+    with-same (sides_in x) (figures_in f) (linked_in k)
     (seen-three (λ s. s.longest) state_from a.count a.items few h ∙ sym (map-map (λ (s : ℕ × ℤ). s.0) (item_in States) l))
     (seen-three (λ s. less cost_offset s.cost) state_from a.count a.items few h ∙ sym (map-map (λ (s : ℕ × ℤ). s.1) (item_in States) l))
     (seen start_in start_from b.count b.items i)
@@ -142,11 +145,11 @@ device-seen x f a b c k few h i j =
 
 -- ---- the answers
 
-pub device-made : (x : SidesRead) (f : FiguresRead) (a b c : ItemsRead) (k : LinkedRead) {g h : Grains} {limits : List Kw} {states : List State}
+pub device-made : (x : Sides) (f : Figures) (a b c : Items) (k : Linked) {v w : Grains} {limits : List Kw} {states : List State}
     {starts : List StartWindow} {energies : List EnergyWindow}
-    → MoneyMade (get_or f.costs 1 0) g → MoneyMade (get_or f.costs 2 0) h → limits ≡ limits_from f.limits
+    → MoneyMade (get_or f.costs 1 0) v → MoneyMade (get_or f.costs 2 0) w → limits ≡ limits_from f.limits
     → states ≡ threes state_from a.items → starts ≡ fours start_from b.items → EnergiesMade c.items energies
-    → DeviceMade x f a b c k (device_with x f g h limits a.count states b.count starts c.count energies k)
+    → DeviceMade x f a b c k (device_with x f v w limits a.count states b.count starts c.count energies k)
 device-made x f a b c k m n l s t e = record {
   is = rw (m.is, n.is, l, s, t, e.is) refl;
   startcost = m.small;
@@ -154,29 +157,35 @@ device-made x f a b c k m n l s t e = record {
   small = e.small;
 }
 
+-- what holds of a value that was read
+kept : {A : Type 0} (P : A → Type 0) {a b : A} {p q : Place} → P a → good a p ≡ good b q → P b
+kept {A} P {a} {b} {p} {q} h e =
+    let pair : ◌≡◌ {A = A × Place} (a, p) (b, q) = cc in
+    let same : a ≡ b = ap (λ (z : A × Place). z.0) pair in
+    rw (← same) h
+
 module _ (e zones last : ℕ) (s : List ℕ) (p : Place) where
-  pub head-none : (d : Device) {w v : Went} {f : Fault} → v ≡ W.Off f → w ≡ v → got (parts e zones last) s p ≡ bad f → HeadDone e s p zones last w d
-  head-none d t o h = record {
-    is = told-off (ahead_of d) (o ∙ t) (ahead-is e zones last s p ∙ goes-off (parts-natural e last zones) s p bad _ h);
-    counted = λ q k. absurd (let z : ◌≡◌ {A = ℕ} 0 1 = cc in omega (arith, z));
-    small = λ q k. absurd (let z : ◌≡◌ {A = ℕ} 0 1 = cc in omega (arith, z));
-    long = λ q k. absurd (let z : ◌≡◌ {A = ℕ} 0 1 = cc in omega (arith, z));
+  pub head-none : (r : Got Device) {f : Fault} → Exits r f → bad f ≡ got (parts e zones last) s p → HeadDone e s p zones last r
+  head-none r x h = record {
+    is = seen-exits ahead_of r x (sym (ahead-is e zones last s p ∙ goes-off (parts-natural e last zones) s p bad _ (sym h)));
+    counted = λ d q t. let z : false ≡ true = rw t at x.0 in absurd (cc);
+    small = λ d q t. let z : false ≡ true = rw t at x.0 in absurd (cc);
+    long = λ d q t. let z : false ≡ true = rw t at x.0 in absurd (cc);
   }
 
-  module _ (x : SidesRead) (f : FiguresRead) (a b c : ItemsRead) {q₁ q₂ q₃ : Place}
-      (h : ItemsDone States e last s q₁ a) (i : ItemsDone Starts e last s q₂ b) (j : ItemsDone Energies e last s q₃ c) where
-    pub head_done : (w : Went) (l : LinkedRead) {d : Device} → told w (parts_in x f a b c l) ≡ got (parts e zones last) s p → DeviceMade x f a b c l d → HeadDone e s p zones last w d
-    head_done w l {d} t m = let k = m.is in record {
-      is = ap (λ (d : Device). told w (ahead_of d)) k ∙ ap (λ (v : Ahead). told w v) (device-seen x f a b c l h.few h.long i.long j.long)
-          ∙ mapped (parts-natural e last zones) ahead_from s p w (parts_in x f a b c l) (ahead-is e zones last s p) t;
-      counted = λ q o. rw k (record { few-states = h.few; few-starts = i.few; few-energies = j.few });
-      small = λ q o. record {
+  module _ (x : Sides) (f : Figures) (a b c : Items) (h : ItemsFit States a) (i : ItemsFit Starts b) (j : ItemsFit Energies c) where
+    pub head_done : (l : Linked) {d : Device} {q : Place} → good (parts_in x f a b c l) q ≡ got (parts e zones last) s p → DeviceMade x f a b c l d → HeadDone e s p zones last (good d q)
+    head_done l {d} {q} t m = let k = m.is in record {
+      is = ap (λ (d : Device). good (ahead_of d) q) k ∙ ap (λ (v : Ahead). good v q) (device-seen x f a b c l h.few h.long i.long j.long)
+          ∙ mapped (parts-natural e last zones) ahead_from s p (Ok q) (parts_in x f a b c l) (ahead-is e zones last s p) t;
+      counted = λ d' q'. kept Counted (rw k (record { few-states = h.few; few-starts = i.few; few-energies = j.few }));
+      small = λ d' q'. kept DeviceSmall (record {
         startcost = m.startcost;
         stopcost = m.stopcost;
         nstates = omega (arith, ap (λ (d : Device). d.nstates) k, h.few);
         nstarts = omega (arith, ap (λ (d : Device). d.nstarts) k, i.few);
         nenergies = omega (arith, ap (λ (d : Device). d.nenergies) k, j.few);
         energies = m.small;
-      };
-      long = λ q o. rw k (record { ramps = refl; limits = refl; states = refl; starts = refl; energies = refl });
+      });
+      long = λ d' q'. kept DeviceLong (rw k (record { ramps = refl; limits = refl; states = refl; starts = refl; energies = refl }));
     }

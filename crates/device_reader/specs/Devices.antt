@@ -1,5 +1,5 @@
 -- A device is what stands ahead of its intervals and its cells.
-use Rattle.std.specs.Prelude.{◌≡◌, List, map, ℕ, length}
+use Rattle.std.specs.Prelude.{Result, ◌≡◌, List, map, ℕ, length}
 use Rattle.std.proofs.Math.Path.{refl}
 use Rattle.std.proofs.Common.{ap, sym, ◌∙◌}
 use Rattle.std.proofs.lemmas.Simd.{map-map}
@@ -12,7 +12,6 @@ use Rattle.model.specs.ByEdition as B
 use Rattle.model.specs.ByEdition.{cell}
 use Rattle.row_places.specs.declared.Device.{Device}
 use Rattle.records.specs.Views.{cell_pair, device_in, device_prices_in}
-use Rattle.fields.specs.declared.Went.{Went}
 use Rattle.fields.specs.Got.{good, bad, got, told, Natural, nat-natural, int-natural, then-natural, such-natural, held-natural, goes_on, goes-off, mapped}
 use Rattle.field_rows.specs.Each.{list-natural, counted-natural}
 use Rattle.field_rows.proofs.Steps.{eight-natural}
@@ -100,12 +99,12 @@ module _ (e n zones last : ℕ) where
       then-natural (counted-natural _ (item-natural Energies e last)) (λ g. then-natural (link-natural e) (λ h.
       then-natural (bar-natural e) (λ b. held-natural _ _ (list-natural n (cell-natural e)))))))))))
 
-  pub device-off : (s : List ℕ) (p : Place) {f : Fault} → got (ahead e zones last) s p ≡ bad f → got (B.device e n zones last) s p ≡ bad f
-  device-off s p h = device-is s p ∙ goes-off (ahead-natural e zones last) s p bad _ h
+  pub device-off : (s : List ℕ) (p : Place) {f : Fault} → bad f ≡ got (ahead e zones last) s p → bad f ≡ got (B.device e n zones last) s p
+  device-off s p h = sym (device-is s p ∙ goes-off (ahead-natural e zones last) s p bad _ (sym h))
 
-module _ (e zones last : ℕ) (s : List ℕ) (p : Place) (d : Device) (cells : List (List ℕ)) {q : Place} (w : Went) where
-  pub device-on : got (ahead e zones last) s p ≡ good (ahead_of d) q → told w (map cell_pair cells) ≡ got (list (length cells) (cell e)) s q
+module _ (e zones last : ℕ) (s : List ℕ) (p : Place) (d : Device) (cells : List (List ℕ)) {q : Place} (w : Result Place Fault) where
+  pub device-on : good (ahead_of d) q ≡ got (ahead e zones last) s p → told w (map cell_pair cells) ≡ got (list (length cells) (cell e)) s q
       → told w (device_in d cells, device_prices_in d cells) ≡ got (B.device e (length cells) zones last) s p
   device-on h t = ap (λ (x : M.Device × M.DevicePrices). told w x) (sym (device-of d cells))
       ∙ mapped (list-natural (length cells) (cell-natural e)) (made (ahead_of d)) s q w (map cell_pair cells)
-      (device-is e (length cells) zones last s p ∙ goes_on (ahead-natural e zones last) s p bad _ h) t
+      (device-is e (length cells) zones last s p ∙ goes_on (ahead-natural e zones last) s p bad _ (sym h)) t

@@ -1,5 +1,5 @@
 -- What a case says of a device ahead of its intervals.
-use Rattle.std.specs.Prelude.{◌≡◌, List, map, ℕ, get_or, take, ℤ}
+use Rattle.std.specs.Prelude.{Ok, ◌≡◌, List, map, ℕ, get_or, take, ℤ}
 use Rattle.layouts.specs.declared.Place.{Place}
 use Rattle.layouts.specs.Layout.{Layout, ◌▸◌, counted, count_of}
 use Rattle.model.specs.Case as M
@@ -10,9 +10,7 @@ use Rattle.row_places.specs.declared.Device.{Device}
 use Rattle.row_places.specs.Figures.{DeviceSmall}
 use Rattle.records.specs.Kept.{DeviceLong}
 use Rattle.records.specs.Views.{less, cost_offset, limits_in, start_in, energy_in, link_in, Counted}
-use Rattle.fields.specs.declared.Went.{Went}
-use Rattle.fields.specs.declared.Went.TheVariants.{On}
-use Rattle.fields.specs.Got.{got, told}
+use Rattle.fields.specs.Got.{Got, got, seen}
 use Rattle.item_reader.specs.Items.{state}
 use Rattle.device_figures.specs.Parts.{linked}
 
@@ -58,8 +56,8 @@ ahead_of d = (
 )
 
 -- what reading it leaves: the record says what the message says, and its row holds all of it (`records` `device-kept`)
-pub record HeadDone (e : ℕ) (s : List ℕ) (p : Place) (zones last : ℕ) (w : Went) (d : Device) : Type 0 where
-  pub is : told w (ahead_of d) ≡ got (ahead e zones last) s p
-  pub counted : (q : Place) → w ≡ On q → Counted d
-  pub small : (q : Place) → w ≡ On q → DeviceSmall d
-  pub long : (q : Place) → w ≡ On q → DeviceLong d
+pub record HeadDone (e : ℕ) (s : List ℕ) (p : Place) (zones last : ℕ) (r : Got Device) : Type 0 where
+  pub is : seen ahead_of r ≡ got (ahead e zones last) s p
+  pub counted : (d : Device) (q : Place) → r ≡ Ok (d, q) → Counted d
+  pub small : (d : Device) (q : Place) → r ≡ Ok (d, q) → DeviceSmall d
+  pub long : (d : Device) (q : Place) → r ≡ Ok (d, q) → DeviceLong d

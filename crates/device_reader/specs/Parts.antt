@@ -9,11 +9,10 @@ use Rattle.row_places.specs.declared.StartWindow.{StartWindow}
 use Rattle.row_places.specs.declared.EnergyWindow.{EnergyWindow}
 use Rattle.row_places.specs.declared.Device.{Device}
 use Rattle.row_places.specs.Figures.{EnergiesSmall}
-use Rattle.device_figures.specs.declared.SidesRead.{SidesRead}
-use Rattle.device_figures.specs.declared.FiguresRead.{FiguresRead}
-use Rattle.device_figures.specs.declared.LinkedRead.{LinkedRead}
-use Rattle.device_figures.specs.Parts.{firsts}
-use Rattle.item_reader.specs.declared.ItemsRead.{ItemsRead}
+use Rattle.device_figures.specs.declared.Sides.{Sides}
+use Rattle.device_figures.specs.declared.Figures.{Figures}
+use Rattle.device_figures.specs.declared.Linked.{Linked}
+use Rattle.item_reader.specs.declared.Items.{Items}
 use Rattle.item_reader.specs.Items.{threes, fours, state_from, start_from, energy_from}
 
 -- a cost comes from 32 bits
@@ -25,7 +24,7 @@ abbrev pub limits_from : List ℕ → List Kw
 limits_from l = kw (get_or l 0 0) ∷ kw (get_or l 1 0) ∷ kw (get_or l 2 0) ∷ kw (get_or l 3 0) ∷ kw (get_or l 4 0) ∷ kw (get_or l 5 0) ∷ kw (get_or l 6 0) ∷ kw (get_or l 7 0) ∷ []
 
 -- the record of these figures, lists, link and bar; what is made anew is given
-abbrev pub device_with : SidesRead → FiguresRead → (startcost stopcost : Grains) → List Kw → ℕ → List State → ℕ → List StartWindow → ℕ → List EnergyWindow → LinkedRead → Device
+abbrev pub device_with : Sides → Figures → (startcost stopcost : Grains) → List Kw → ℕ → List State → ℕ → List StartWindow → ℕ → List EnergyWindow → Linked → Device
 device_with x f startcost stopcost limits nstates states nstarts starts nenergies energies l = record {
   side = x.side;
   zonebits = x.zonebits;
@@ -34,7 +33,7 @@ device_with x f startcost stopcost limits nstates states nstarts starts nenergie
   minutes0 = get_or f.initial 2 0;
   minup = get_or f.initial 3 0;
   mindown = get_or f.initial 4 0;
-  ramps = firsts 4 f.ramps;
+  ramps = get_or f.ramps 0 0 ∷ get_or f.ramps 1 0 ∷ get_or f.ramps 2 0 ∷ get_or f.ramps 3 0 ∷ [];
   oncost = get_or f.costs 0 0;
   startcost = startcost;
   stopcost = stopcost;
@@ -49,12 +48,12 @@ device_with x f startcost stopcost limits nstates states nstarts starts nenergie
   bar = l.bar;
 }
 
-abbrev pub device_from : SidesRead → FiguresRead → ItemsRead → ItemsRead → ItemsRead → LinkedRead → Device
+abbrev pub device_from : Sides → Figures → Items → Items → Items → Linked → Device
 device_from x f a b c l =
     device_with x f (grains (get_or f.costs 1 0)) (grains (get_or f.costs 2 0)) (limits_from f.limits)
     a.count (threes state_from a.items) b.count (fours start_from b.items) c.count (fours energy_from c.items) l
 
-pub record DeviceMade (x : SidesRead) (f : FiguresRead) (a b c : ItemsRead) (l : LinkedRead) (d : Device) : Type 0 where
+pub record DeviceMade (x : Sides) (f : Figures) (a b c : Items) (l : Linked) (d : Device) : Type 0 where
   pub is : d ≡ device_from x f a b c l
   pub startcost : d.startcost.0 < 2 ^ 32
   pub stopcost : d.stopcost.0 < 2 ^ 32

@@ -78,12 +78,10 @@ pub fn held_all(
     requires { AllFit d power0.0 halves.now cells.now settings.now starts.now powers.now }
     ensures { (result ≡ true) ↔ HeldTo d power0.0 halves.now cells.now settings.now starts.now powers.now (length halves.now) }
 {
-    let mut t = 0;
-    while t < halves.len() {
+    for t in 0..halves.len() {
         if !held_at(d, power0, halves, cells, settings, starts, powers, t) {
             return false;
         }
-        t += 1;
     }
     true
 }

@@ -14,34 +14,32 @@ use Rattle.row_places.specs.Figures.{device_of, device_row}
 use Rattle.records.specs.Kept.{device-kept}
 use Rattle.numbers.specs.Parts.{patched-before, patched-row}
 use Rattle.records.specs.Views.{device_in, device_prices_in}
-use Rattle.fields.specs.declared.Went.{Went}
-use Rattle.fields.specs.declared.Went.TheVariants as W
-use Rattle.fields.specs.Got.{told, told-off, went-good, went-bad}
+use Rattle.std.specs.Prelude.{Result, Ok, Err}
+use Rattle.std.proofs.Math.Path.{refl}
+use Rattle.layouts.specs.Layout.{list}
+use Rattle.fields.specs.Got.{Got, good, bad, got}
+use Rattle.fields.proofs.Steps.{Exits, not-met, value, seen-exits, told-exits}
 use Rattle.cell_reader.specs.Cells.{CellsDone}
-use Rattle.device_reader.specs.Heads.{HeadDone, ahead_of}
+use Rattle.device_reader.specs.Heads.{HeadDone}
 use Rattle.device_reader.specs.Devices.{device-natural, device-off, device-on}
 use Rattle.zone_table.specs.Tables.{Fits, device_pair, DeviceDone, devices_in, Stored, Manned, DevicesDone}
 use Rattle.zone_table.proofs.PartSteps.{Parting, parting-none, parting-more, parting-off, parting-done, inside, inside-heads, own-long}
 
 -- ---- a device
 
-module _ (e : ℕ) (s : List ℕ) (p : Place) (zones last : ℕ) (d : Device) {x : Went} (h : HeadDone e s p zones last x d) where
-  pub device-no-head : (cells : List (List ℕ)) {f : Fault} → x ≡ W.Off f → DeviceDone e s p zones last x d cells
-  device-no-head cells o = record {
-    is = told-off (device_pair (device_row d) cells) o (device-off e (length cells) zones last s p (went-bad (ahead_of d) h.is o));
-    small = λ q k. absurd (let z : ◌≡◌ {A = ℕ} 0 1 = cc in omega (arith, z));
-    counted = λ q k. absurd (let z : ◌≡◌ {A = ℕ} 0 1 = cc in omega (arith, z));
-    padded = λ q k. absurd (let z : ◌≡◌ {A = ℕ} 0 1 = cc in omega (arith, z));
-  }
+module _ (e : ℕ) (s : List ℕ) (p : Place) (zones last : ℕ) (cells : List (List ℕ)) where
+  pub device-none : (r : Got Device) {f : Fault} → Exits r f → bad f ≡ got (B.device e (length cells) zones last) s p → DeviceDone e s p zones last r cells
+  device-none r x g = record { is = seen-exits _ r x g; small = λ d q k. not-met r _ x k; counted = λ d q k. not-met r _ x k; padded = λ d q k. not-met r _ x k }
 
-  pub device-done : (cells : List (List ℕ)) (w : Went) {q : Place} → x ≡ W.On q → CellsDone e s q w cells → DeviceDone e s p zones last w d cells
-  device-done cells w {q} o g =
-      let kept : device_of (device_row d) ≡ d = device-kept d (h.long q o) in
+module _ (e : ℕ) (s : List ℕ) (p : Place) (zones last : ℕ) (d : Device) {q : Place} (h : HeadDone e s p zones last (good d q)) where
+  pub device-done : (cells : List (List ℕ)) {z : Place} → CellsDone e s q (Ok z) cells → DeviceDone e s p zones last (good d z) cells
+  device-done cells {z} g =
+      let kept : device_of (device_row d) ≡ d = device-kept d (h.long d q refl) in
       record {
-        is = ap (λ (y : Device). told w (device_in y cells, device_prices_in y cells)) kept ∙ device-on e zones last s p d cells w (went-good (ahead_of d) h.is o) g.is;
-        small = λ r k. h.small q o;
-        counted = λ r k. rw kept (h.counted q o);
-        padded = g.padded;
+        is = ap (λ (y : Device). good (device_in y cells, device_prices_in y cells) z) kept ∙ device-on e zones last s p d cells (Ok z) h.is g.is;
+        small = λ x r k. rw (← value k) (h.small d q refl);
+        counted = λ x r k. rw (← value k, kept) (h.counted d q refl);
+        padded = λ x r k. g.padded z refl;
       }
 
 -- ---- the loop
@@ -52,6 +50,10 @@ pub record Manning (e : ℕ) (s : List ℕ) (n m zones last : ℕ) (start : Plac
   pub stored : (j : ℕ) → j < i → Stored (get_or devices j [])
   pub manned : Manned i m devices cells
 
+pub devices-none : (e : ℕ) (s : List ℕ) (start : Place) (n m zones last : ℕ) (r : Result Place Fault) (devices cells : List (List ℕ)) {f : Fault} → Exits r f
+    → bad f ≡ got (list n (B.device e m zones last)) s start → DevicesDone e s start n m zones last r devices cells
+devices-none e s start n m zones last r devices cells x g = record { is = told-exits _ r x g; stored = λ q k. not-met r _ x k; manned = λ q k. not-met r _ x k }
+
 module _ {e : ℕ} {s : List ℕ} {n m zones last : ℕ} {start : Place} where
   pub manning-none : (devices cells : List (List ℕ)) → Manning e s n m zones last start devices cells 0 0 devices cells start
   manning-none devices cells = record {
@@ -61,17 +63,17 @@ module _ {e : ℕ} {s : List ℕ} {n m zones last : ℕ} {start : Place} where
   }
 
   module _ {devices₀ cells₀ : List (List ℕ)} {i a : ℕ} {devices cells : List (List ℕ)} {p : Place} (u : Manning e s n m zones last start devices₀ cells₀ i a devices cells p) where
-    module _ (fits : Fits n m devices₀ cells₀) (h : i < n) (d : Device) (own : List (List ℕ)) (k : length own ≡ length (take (a + m - a) (drop a cells))) (w : Went)
-        (g : DeviceDone e s p zones last w d own) where
-      pub manning-more : {next : List (List ℕ)} {q : Place} → w ≡ W.On q → next ≡ set devices i (device_row d)
+    module _ (fits : Fits n m devices₀ cells₀) (h : i < n) (d : Device) (own : List (List ℕ)) (k : length own ≡ length (take (a + m - a) (drop a cells))) {q : Place}
+        (g : DeviceDone e s p zones last (good d q) own) where
+      pub manning-more : {next : List (List ℕ)} → next ≡ set devices i (device_row d)
           → Manning e s n m zones last start devices₀ cells₀ (i + 1) (a + m) next (take a cells ++ (own ++ drop (a + m - a) (drop a cells))) q
-      manning-more {next} {q} o f =
+      manning-more {next} f =
           let long : length own ≡ m = own-long u.parting fits h own k in
           let wide : length own ≡ a + m - a = long ∙ omega arith in
           let fit : a + (a + m - a) ≤ length cells = omega (arith, inside u.parting fits h) in
           let at : a ≡ i * m = u.parting.at in
           record {
-            parting = parting-more u.parting fits h (device-natural e m zones last) (device_row d) own k w g.is o f;
+            parting = parting-more u.parting fits h (device-natural e m zones last) (device_row d) own k g.is f;
             stored = λ j l. rw f (elim (dec_le (suc j) i) [
               | yes y ↦ rw (get_or-set_other devices i j (device_row d) [] (λ e. omega (arith, e))) (u.stored j y)
               | no y ↦
@@ -81,26 +83,23 @@ module _ {e : ℕ} {s : List ℕ} {n m zones last : ℕ} {start : Place} where
             manned = record {
               counted = λ j l. rw f (elim (dec_le (suc j) i) [
                 | yes y ↦ rw (get_or-set_other devices i j (device_row d) [] (λ e. omega (arith, e))) (u.manned.counted j y)
-                | no y ↦ let z : j ≡ i = omega arith in rw (z, get_or-set_same devices i (device_row d) [] (inside-heads u.parting fits h)) (g.counted q o)
+                | no y ↦ let z : j ≡ i = omega arith in rw (z, get_or-set_same devices i (device_row d) [] (inside-heads u.parting fits h)) (g.counted d q refl)
               ]);
               padded = λ j l. elim (dec_le (suc j) a) [
                 | yes y ↦ rw (patched-before [] cells own a (a + m - a) wide fit j y) (u.manned.padded j (omega (arith, at)))
                 | no y ↦
                     let t : j - a < m = omega (arith, at) in
                     let z : j ≡ a + (j - a) = omega arith in
-                    rw (z, patched-row [] cells own a (a + m - a) wide fit (j - a) (omega arith)) (g.padded q o (j - a) (omega arith))
+                    rw (z, patched-row [] cells own a (a + m - a) wide fit (j - a) (omega arith)) (g.padded d q refl (j - a) (omega arith))
               ];
             };
           }
 
-      pub manning-off : (ds cs : List (List ℕ)) {f : Fault} → w ≡ W.Off f → DevicesDone e s start n m zones last w ds cs
-      manning-off ds cs o = record {
-        is = parting-off u.parting fits h (device-natural e m zones last) (device_row d) own k w g.is (devices_in n m ds cs) o;
-        stored = λ q k. absurd (let z : ◌≡◌ {A = ℕ} 0 1 = cc in omega (arith, z));
-        manned = λ q k. absurd (let z : ◌≡◌ {A = ℕ} 0 1 = cc in omega (arith, z));
-      }
+    pub manning-off : (fits : Fits n m devices₀ cells₀) → i < n → (own : List (List ℕ)) → length own ≡ length (take (a + m - a) (drop a cells)) → {f : Fault} → bad f ≡ got (B.device e (length own) zones last) s p
+        → bad f ≡ got (list n (B.device e m zones last)) s start
+    manning-off fits h own k x = parting-off u.parting fits h (device-natural e m zones last) own k x
 
-    pub manning-done : n ≤ i → DevicesDone e s start n m zones last (W.On p) devices cells
+    pub manning-done : n ≤ i → DevicesDone e s start n m zones last (Ok p) devices cells
     manning-done h =
         let z : i ≡ n = omega (arith, u.parting.reading.within) in
         record { is = parting-done u.parting h; stored = λ q o i l. u.stored i (omega arith); manned = λ q o. rw z at u.manned }

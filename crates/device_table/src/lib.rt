@@ -6,10 +6,9 @@ ghost use Rattle.model.specs.Editions.{most_zones};
 ghost use Rattle.records.specs.Views.{most_intervals};
 ghost use Rattle.zone_table.specs.Tables.{Fits, DeviceDone, DevicesDone};
 
-use device_reader::HeadRead;
-use fields::Went;
-use layouts::Place;
-use row_places::{CellRow, DeviceRow};
+use fields::Read;
+use layouts::{Fault, Place};
+use row_places::{CellRow, Device, DeviceRow};
 
 // A device: what stands ahead of its intervals, then its cells into its part of the table.
 fn read_device(
@@ -19,18 +18,13 @@ fn read_device(
     zones: u32,
     last: u32,
     cells: &mut [CellRow],
-) -> HeadRead
+) -> Read<Device>
     requires { (zones ≤ most_zones) × (length cells.old ≤ most_intervals) }
-    ensures { DeviceDone edition s.now p zones last result.went result.device cells.new }
+    ensures { DeviceDone edition s.now p zones last result cells.new }
 {
-    let head = device_reader::read_head(s, p, edition, zones, last);
-    let went = head.went;
-    let Went::On(at_cells) = went else {
-        return head;
-    };
-    let device = head.device;
-    let went = cell_reader::read_cells(s, at_cells, edition, cells);
-    HeadRead { went, device }
+    let (device, at_cells) = device_reader::read_head(s, p, edition, zones, last)?;
+    let past = cell_reader::read_cells(s, at_cells, edition, cells)?;
+    Ok((device, past))
 }
 
 // n devices, each with its cells for m intervals; zones is the count of zones, last the last E.
@@ -44,25 +38,18 @@ pub fn read_devices(
     last: u32,
     devices: &mut [DeviceRow],
     cells: &mut [CellRow],
-) -> Went
+) -> Result<Place, Fault>
     requires { (zones ≤ most_zones) × Fits n m devices.old cells.old }
     ensures { DevicesDone edition s.now p n m zones last result devices.new cells.new }
 {
     let mut q = p;
-    let mut i: usize = 0;
     let mut a: usize = 0;
-    while i < n {
+    for i in 0..n {
         let e = a + m;
-        let one = read_device(s, q, edition, zones, last, &mut cells[a..e]);
-        let went = one.went;
-        let device = one.device;
-        let Went::On(next) = went else {
-            return went;
-        };
+        let (device, next) = read_device(s, q, edition, zones, last, &mut cells[a..e])?;
         device_store::put_device(devices, i, device);
         q = next;
-        i += 1;
         a = e;
     }
-    Went::On(q)
+    Ok(q)
 }

@@ -12,13 +12,8 @@ pub fn floors_of(all: [Offer; 256], n: usize) -> [u64; 64]
     ensures { Floors (take n all) result }
 {
     let mut floors = [0u64; 64];
-    let mut k = 0;
-    while k < n {
-        let o = all[k];
-        let s = (o.set - 1) as usize;
-        let sum = floors[s] + o.floor;
-        floors[s] = sum;
-        k += 1;
+    for o in &all[..n] {
+        floors[(o.set - 1) as usize] += o.floor;
     }
     floors
 }
@@ -28,10 +23,7 @@ pub fn write_powers(figures: [u64; 64], sets: &[u64], powers: &mut [u64])
     requires { Named sets.now powers.old }
     ensures { powers.new ≡ map (λ s. get_or figures (s - 1) 0) sets.now }
 {
-    let mut j = 0;
-    while j < sets.len() {
-        let s = (sets[j] - 1) as usize;
-        powers[j] = figures[s];
-        j += 1;
+    for (j, s) in sets.iter().enumerate() {
+        powers[j] = figures[(*s - 1) as usize];
     }
 }

@@ -5,11 +5,9 @@ use Rattle.layouts.specs.declared.Fault.{Fault}
 use Rattle.layouts.specs.Layout.{passes, fails}
 use Rattle.model.specs.Editions.{Largest, most_devices, most_intervals}
 use Rattle.model.specs.ByEdition.{Stated, stated_in}
-use Rattle.message_ends.specs.declared.Ending.{Ending}
-use Rattle.message_ends.specs.declared.Ending.TheVariants.{Passes, Fails}
 use Rattle.row_places.specs.declared.Front.{Front}
 use Rattle.row_places.specs.declared.Counts.{Counts}
-use Rattle.case_reader.specs.Whole.{CaseDone}
+use Rattle.case_reader.specs.Whole.{CasePassed, CaseRefused}
 use Rattle.decoded_cases.specs.Decoded.{stated_first}
 use Rattle.decoded_cases.specs.Cases.{passed, failed}
 use Rattle.offers.specs.declared.Offer.{Offer}
@@ -52,23 +50,22 @@ on : (l : Largest) (cs : List ℕ) (interval : ℕ) (sets before : List ℕ) (os
 unfolding dispatch
 on l cs interval sets before os target y e = rw e refl
 
-module _ (l : Largest) (most : l.devices ≤ most_devices) (long : l.intervals ≤ most_intervals)
-    (cs halves : List ℕ) (zones minima devices cells : List (List ℕ)) (e : Ending) (front : Front) (n : Counts)
-    (h : CaseDone l.devices l.intervals cs halves zones minima devices cells e front n) where
-  abbrev held : Stated
-  held = stated_first front n halves zones minima devices cells
-
-  pub case-fails : (interval : ℕ) (sets before : List ℕ) (all : List Offer) (count target : ℕ) {f : Fault} → e ≡ Fails f
+module _ (l : Largest) (most : l.devices ≤ most_devices) (long : l.intervals ≤ most_intervals) (cs : List ℕ) where
+  pub case-fails : (interval : ℕ) (sets before : List ℕ) (all : List Offer) (count target : ℕ) {f : Fault} → CaseRefused l.devices l.intervals cs f
       → Holds l cs interval sets before before all count target (record { answer = Refused f; offers = all })
   case-fails interval sets before all count target {f} t = holds l most long (λ os c g.
       ap (untouched (Refused f) before) (ap (λ (x : List Offer). x ++ drop (min count room) os) g ∙ take-append-drop (min count room) os)
-      ∙ off l cs interval sets before os target f (failed l most long cs halves zones minima devices cells e front n h t))
+      ∙ off l cs interval sets before os target f (failed l most long cs t))
 
-  pub case-passes : (interval : ℕ) (sets before after : List ℕ) (all : List Offer) (count target : ℕ) (r : Held) → e ≡ Passes
-      → ((os : List Offer) → length os ≡ count → take (min count room) all ≡ take (min count room) os → outcome_of after count os r ≡ dispatch_in held.case interval sets before os target)
-      → Holds l cs interval sets before after all count target r
-  case-passes interval sets before after all count target r t k = holds l most long (λ os c g.
-      k os c g ∙ on l cs interval sets before os target held (passed l most long cs halves zones minima devices cells e front n h t))
+  module _ (halves : List ℕ) (zones minima devices cells : List (List ℕ)) (front : Front) (n : Counts) (h : CasePassed l.devices l.intervals cs halves zones minima devices cells front n) where
+    abbrev held : Stated
+    held = stated_first front n halves zones minima devices cells
+
+    pub case-passes : (interval : ℕ) (sets before after : List ℕ) (all : List Offer) (count target : ℕ) (r : Held)
+        → ((os : List Offer) → length os ≡ count → take (min count room) all ≡ take (min count room) os → outcome_of after count os r ≡ dispatch_in held.case interval sets before os target)
+        → Holds l cs interval sets before after all count target r
+    case-passes interval sets before after all count target r k = holds l most long (λ os c g.
+        k os c g ∙ on l cs interval sets before os target held (passed l most long cs halves zones minima devices cells front n h))
 
 -- what two readers read alike, both dispatch alike
 dispatch-alike : (l l' : Largest) (cs : List ℕ) (interval : ℕ) (sets before : List ℕ) (os : List Offer) (target : ℕ) → stated_in l cs ≡ stated_in l' cs

@@ -8,7 +8,6 @@ use case_inspection::{CELLS, DEVICES, INTERVALS, MINIMA, SMALL_CELLS, SMALL_MINI
 use case_sizes::{SMALL_DEVICES, SMALL_INTERVALS, Size};
 use dispatches::Held;
 use dispatching::Dispatch;
-use message_ends::Ending;
 use offers::Offer;
 
 // In tables for a small case.
@@ -42,22 +41,19 @@ fn dispatch_small(
         &mut devices,
         &mut cells,
     );
-    let ending = read.ending;
-    let front = read.front;
-    let counts = read.counts;
-    let n = counts.devices;
-    let m = counts.intervals;
-    let z = counts.zones;
-    match ending {
-        Ending::Fails(f) => Held {
+    match read {
+        Err(f) => Held {
             answer: Dispatch::Refused(f),
             offers: all,
         },
-        Ending::Passes => {
+        Ok(head) => {
+            let n = head.counts.devices;
+            let m = head.counts.intervals;
+            let z = head.counts.zones;
             let k = n * m;
             let j = z * m;
             dispatches::dispatch_case(
-                front,
+                head.front,
                 &halves[..m],
                 &zones[..z],
                 &minima[..j],
@@ -105,22 +101,19 @@ fn dispatch_large(
         &mut devices,
         &mut cells,
     );
-    let ending = read.ending;
-    let front = read.front;
-    let counts = read.counts;
-    let n = counts.devices;
-    let m = counts.intervals;
-    let z = counts.zones;
-    match ending {
-        Ending::Fails(f) => Held {
+    match read {
+        Err(f) => Held {
             answer: Dispatch::Refused(f),
             offers: all,
         },
-        Ending::Passes => {
+        Ok(head) => {
+            let n = head.counts.devices;
+            let m = head.counts.intervals;
+            let z = head.counts.zones;
             let k = n * m;
             let j = z * m;
             dispatches::dispatch_case(
-                front,
+                head.front,
                 &halves[..m],
                 &zones[..z],
                 &minima[..j],

@@ -17,12 +17,10 @@ pub fn powers_by(
     requires { Startable all n lo hi target }
     ensures { Dispatches all n lo hi target result }
 {
-    let heights = dispatch_arrays::floors_of(all, n);
-    let total = place_totals::total_of(lo);
     let start = Rise {
-        heights: heights,
+        heights: dispatch_arrays::floors_of(all, n),
         powers: lo,
-        total: total,
+        total: place_totals::total_of(lo),
     };
     raising::raised(all, n, lo, hi, start, target)
 }

@@ -24,8 +24,7 @@ pub struct Finished {
 pub fn offers_of(done: Finished) -> [Offer; 256]
     ensures { result ≡ done.offers }
 {
-    let offers = done.offers;
-    offers
+    done.offers
 }
 
 // The word.

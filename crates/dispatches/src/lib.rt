@@ -38,6 +38,7 @@ fn dispatch_sets(
         front, halves, zones, minima, devices, cells, t, sets, all, count,
     );
     let own = lent.own;
+    // Taken out first: no proof is generated where a field that is an array is made part of a literal straight.
     let list = lent.all;
     if own {
         let met = settled_powers::settle_powers(

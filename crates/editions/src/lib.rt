@@ -19,12 +19,6 @@ pub struct Largest {
     pub intervals: u32,
 }
 
-fn least(a: u32, b: u32) -> u32
-    ensures { result ≡ min a b }
-{
-    if a <= b { a } else { b }
-}
-
 // What edition 4 widened: the figure since then, or the one before.
 fn widened(edition: u32, after: u32, before: u32) -> u32
     ensures { result ≡ E.widened edition after before }
@@ -62,13 +56,13 @@ fn interval_limit(edition: u32) -> u32
 pub fn devices_in(edition: u32, most: u32) -> u32
     ensures { result ≡ min most (E.device_limit edition) }
 {
-    least(most, device_limit(edition))
+    most.min(device_limit(edition))
 }
 
 pub fn intervals_in(edition: u32, most: u32) -> u32
     ensures { result ≡ min most (E.interval_limit edition) }
 {
-    least(most, interval_limit(edition))
+    most.min(interval_limit(edition))
 }
 
 // "most starts": its width and its limit.

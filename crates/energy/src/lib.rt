@@ -14,19 +14,6 @@ pub struct KwMin(pub u64);
 #[derive(Clone, Copy)]
 pub struct Watts(pub u64);
 
-fn wide(x: u32) -> u64
-    ensures { result ≡ x }
-{
-    x as u64
-}
-
-// The first less the second, 0 where the second is above.
-fn above(a: u64, b: u64) -> u64
-    ensures { result ≡ a - b }
-{
-    if b <= a { a - b } else { 0 }
-}
-
 impl KwMin {
     pub fn plus(self, other: KwMin) -> KwMin
         requires { self.0 + other.0 < 2 ^ 64 }
@@ -39,7 +26,7 @@ impl KwMin {
     pub fn less(self, other: KwMin) -> KwMin
         ensures { result.0 ≡ self.0 - other.0 }
     {
-        KwMin(above(self.0, other.0))
+        KwMin(self.0.saturating_sub(other.0))
     }
 
     // At a price in grains per kW·min.
@@ -47,7 +34,7 @@ impl KwMin {
         requires { (self.0 < 2 ^ 44) × (price < 2 ^ 20) }
         ensures { result.0 ≡ self.0 * price }
     {
-        Grains(self.0 * wide(price))
+        Grains(self.0 * u64::from(price))
     }
 }
 
@@ -63,7 +50,7 @@ impl Watts {
     pub fn less(self, other: Watts) -> Watts
         ensures { result.0 ≡ self.0 - other.0 }
     {
-        Watts(above(self.0, other.0))
+        Watts(self.0.saturating_sub(other.0))
     }
 
     // Over some minutes, at a price in grains per W·min.
@@ -71,6 +58,6 @@ impl Watts {
         requires { (self.0 < 2 ^ 36) × (price < 2 ^ 14) × (minutes < 2 ^ 14) }
         ensures { result.0 ≡ minutes * (price * self.0) }
     {
-        Grains(wide(minutes) * (wide(price) * self.0))
+        Grains(u64::from(minutes) * (u64::from(price) * self.0))
     }
 }

@@ -1,7 +1,7 @@
 -- A row's widths, and eight fields and n times a layout as lists.
 use mathlib.Core.Path.{◌≡◌, refl, sym, ◌∙◌}
 use mathlib.Core.Bool.{Bool, true, false, ◌&&◌}
-use mathlib.Core.List.{List}
+use mathlib.Core.List.{List, []}
 use Prim.Native.Nat.{ℕ, zero, suc, ◌*◌, ◌≤◌, ◌<◌}
 use native.Mathlib.Omega.{arith}
 use native.Mathlib.Decide.{dec_le}
@@ -15,7 +15,7 @@ use Rattle.model.specs.Case.{Reserves}
 use Rattle.layouts.specs.Layout.{Layout, list, repeated, held, ◌then◌}
 use Rattle.model.specs.Messages.{eight}
 use Rattle.ranges.specs.Kept.{reserves_of}
-use Rattle.fields.specs.declared.Went.{Went}
+use Rattle.std.specs.Prelude.{Result, Ok, Err}
 use Rattle.fields.specs.Got.{Got, good, bad, got, told, mapped, Natural, then-natural, held-natural}
 use Rattle.field_rows.specs.Each.{list-natural, narrow, each, list-each}
 
@@ -43,8 +43,11 @@ pub eight-natural : {l : Layout ℕ} → Natural l → Natural (eight l)
 unfolding eight
 eight-natural u = held-natural _ _ (then-natural u (λ a. then-natural u (λ a. then-natural u (λ a. then-natural u (λ a. then-natural u (λ a. then-natural u (λ a. then-natural u (λ a. u))))))))
 
-pub eight-told : {l : Layout ℕ} → Natural l → (s : List ℕ) (p : Place) (w : Went) (v : List ℕ) → length v ≡ 8 → told w (take 8 v) ≡ got (list 8 l) s p → told w (reserves_of v) ≡ got (eight l) s p
-eight-told {l} u s p w v h e = mapped (list-natural 8 u) reserves_of s p w v (eight-list l s p bad good) (rw (take_all 8 v (omega arith)) at e)
+pub eight-good : {l : Layout ℕ} → Natural l → (s : List ℕ) (p : Place) {q : Place} (v : List ℕ) → length v ≡ 8 → good (take 8 v) q ≡ got (list 8 l) s p → good (reserves_of v) q ≡ got (eight l) s p
+eight-good {l} u s p {q} v h e = mapped (list-natural 8 u) reserves_of s p (Ok q) v (eight-list l s p bad good) (rw (take_all 8 v (omega arith)) at e)
+
+pub eight-bad : {l : Layout ℕ} → Natural l → (s : List ℕ) (p : Place) {f : Fault} → bad f ≡ got (list 8 l) s p → bad f ≡ got (eight l) s p
+eight-bad {l} u s p {f} e = mapped (list-natural 8 u) reserves_of s p (Err f) [] (eight-list l s p bad good) e
 
 -- what is told of n times a layout is told of its list
 pub as-list : {A : Type 0} (l : Layout A) (n : ℕ) (s : List ℕ) (p : Place) {g : Got (List A)} → g ≡ got (each n (λ _. l)) s p → g ≡ got (list n l) s p

@@ -59,10 +59,8 @@ pub fn read_fields(s: &[u8], w: Walk, width: u64, fields: u64, table: &mut [u64]
     ensures { Runs s.now w table.old (times fields (width ∷ [])) result table.new }
 {
     let mut t = w;
-    let mut k = 0;
-    while k < fields {
+    for _k in 0..fields {
         t = read_field(s, t, width, table);
-        k += 1;
     }
     t
 }

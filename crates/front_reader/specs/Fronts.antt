@@ -6,13 +6,11 @@ use Rattle.layouts.specs.Since.{since}
 use Rattle.model.specs.Editions.{Largest, most_zones}
 use Rattle.model.specs.Messages as M
 use Rattle.model.specs.ByEdition.{case_kind, edition_field, counts, link_limit}
-use Rattle.kilowatts.specs.declared.Kw.{Kw}
 use Rattle.row_places.specs.declared.Counts.{Counts}
-use Rattle.row_places.specs.declared.Front.{Front}
 use Rattle.records.specs.Views.{most_intervals}
-use Rattle.fields.specs.declared.Went.{Went}
-use Rattle.fields.specs.declared.Went.TheVariants.{On}
-use Rattle.fields.specs.Got.{got, told}
+use Rattle.fields.specs.Got.{Got, good, got, seen}
+use Rattle.front_reader.specs.declared.Figures.{Figures}
+use Rattle.front_reader.specs.declared.Opening.{Opening}
 
 -- the largest counts that the caller takes
 abbrev pub largest : ℕ → ℕ → Largest
@@ -31,17 +29,16 @@ pub record Within (l : Largest) (c : Counts) : Type 0 where
   pub intervals : c.intervals ≤ l.intervals
   pub zones : c.zones ≤ most_zones
 
-pub record CountsDone (e : ℕ) (l : Largest) (s : List ℕ) (p : Place) (w : Went) (c : Counts) : Type 0 where
-  pub is : told w (counts_in c) ≡ got (counts e l) s p
-  pub within : (q : Place) → w ≡ On q → Within l c
+pub record CountsDone (e : ℕ) (l : Largest) (s : List ℕ) (p : Place) (r : Got Counts) : Type 0 where
+  pub is : seen counts_in r ≡ got (counts e l) s p
+  pub within : (c : Counts) (q : Place) → r ≡ good c q → Within l c
 
 -- "mismatch price, overrun price 14 each (1..10,000 per kW·min)"
 abbrev pub prices : Layout (ℕ × ℕ)
 prices = figure 14 1 10000 ▸ figure 14 1 10000
 
-pub record PricesDone (e : ℕ) (s : List ℕ) (p : Place) (w : Went) (f : Front) : Type 0 where
-  pub is : told w (f.mismatch, f.overrun) ≡ got prices s p
-  pub edition-is : f.edition ≡ e
+abbrev pub pair_of : List ℕ → ℕ × ℕ
+pair_of v = (get_or v 0 0, get_or v 1 0)
 
 -- "a link limit (17 bits, after the overrun price)", since edition 5
 abbrev pub limit : ℕ → Layout ℕ
@@ -50,9 +47,8 @@ limit e = since e 5 0 link_limit
 abbrev pub figures : ℕ → Layout (ℕ × (ℕ × ℕ))
 figures e = figure 14 1 10000 ▸ figure 14 1 10000 ▸ limit e
 
-pub record FiguresDone (e : ℕ) (s : List ℕ) (p : Place) (w : Went) (f : Front) (x : Kw) : Type 0 where
-  pub is : told w (f.mismatch, (f.overrun, x.0)) ≡ got (figures e) s p
-  pub edition-is : f.edition ≡ e
+abbrev pub figures_in : Figures → ℕ × (ℕ × ℕ)
+figures_in f = (f.mismatch, (f.overrun, f.limit.0))
 
 -- all that stands ahead of the durations
 abbrev pub Ahead : Type 0
@@ -61,12 +57,12 @@ Ahead = ℕ × (M.Counts × (ℕ × (ℕ × ℕ)))
 abbrev pub front : Largest → Layout Ahead
 front l = edition then (λ e. counts e l ▸ figures e)
 
-abbrev pub front_in : Front → Counts → Kw → Ahead
-front_in f c x = (f.edition, (counts_in c, (f.mismatch, (f.overrun, x.0))))
+abbrev pub front_in : Opening → Ahead
+front_in o = (o.front.edition, (counts_in o.counts, (o.front.mismatch, (o.front.overrun, o.limit.0))))
 
-pub record FrontDone (l : Largest) (s : List ℕ) (w : Went) (f : Front) (c : Counts) (x : Kw) : Type 0 where
-  pub is : told w (front_in f c x) ≡ got (front l) s begin
-  pub within : (q : Place) → w ≡ On q → Within l c
+pub record FrontDone (l : Largest) (s : List ℕ) (r : Got Opening) : Type 0 where
+  pub is : seen front_in r ≡ got (front l) s begin
+  pub within : (o : Opening) (q : Place) → r ≡ good o q → Within l o.counts
 
 -- m durations' halves: "d/2, 8 (1..180)"
 pub record Halves (m : ℕ) (halves : List ℕ) : Type 0 where

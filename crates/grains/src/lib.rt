@@ -13,24 +13,11 @@ pub struct Grains(pub u64);
 #[derive(Clone, Copy)]
 pub struct Rate(pub u64);
 
-fn wide(x: u32) -> u64
-    ensures { (result ≡ x) × (result < 2 ^ 32) }
-{
-    x as u64
-}
-
-// The first less the second, 0 where the second is above.
-fn above(a: u64, b: u64) -> u64
-    ensures { result ≡ a - b }
-{
-    if b <= a { a - b } else { 0 }
-}
-
 // A product of two figures of 32 bits.
 pub fn product(a: u32, b: u32) -> u64
     ensures { result ≡ a * b }
 {
-    wide(a) * wide(b)
+    u64::from(a) * u64::from(b)
 }
 
 impl Rate {
@@ -46,7 +33,7 @@ impl Rate {
         requires { (self.0 < 2 ^ 44) × (minutes < 2 ^ 20) }
         ensures { result.0 ≡ minutes * self.0 }
     {
-        Grains(wide(minutes) * self.0)
+        Grains(u64::from(minutes) * self.0)
     }
 }
 
@@ -62,7 +49,7 @@ impl Grains {
     pub fn less(self, other: Grains) -> Grains
         ensures { result.0 ≡ self.0 - other.0 }
     {
-        Grains(above(self.0, other.0))
+        Grains(self.0.saturating_sub(other.0))
     }
 }
 
@@ -86,9 +73,10 @@ impl Ledger {
         requires { self.credit.0 + money.0 < 2 ^ 64 }
         ensures { Ledgered result (self.credit.0 + money.0) self.debit.0 }
     {
-        let credit = self.credit.plus(money);
-        let debit = self.debit;
-        Ledger { credit, debit }
+        Ledger {
+            credit: self.credit.plus(money),
+            ..self
+        }
     }
 
     // One more expense.
@@ -96,9 +84,10 @@ impl Ledger {
         requires { self.debit.0 + money.0 < 2 ^ 64 }
         ensures { Ledgered result self.credit.0 (self.debit.0 + money.0) }
     {
-        let debit = self.debit.plus(money);
-        let credit = self.credit;
-        Ledger { credit, debit }
+        Ledger {
+            debit: self.debit.plus(money),
+            ..self
+        }
     }
 
     // What is earned less what is spent.
@@ -115,7 +104,8 @@ impl Ledger {
 pub fn empty_ledger() -> Ledger
     ensures { Ledgered result 0 0 }
 {
-    let credit = Grains(0);
-    let debit = Grains(0);
-    Ledger { credit, debit }
+    Ledger {
+        credit: Grains(0),
+        debit: Grains(0),
+    }
 }

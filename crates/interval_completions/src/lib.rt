@@ -58,24 +58,18 @@ fn complete_devices(
     let m = halves.len();
     let mut money = p.money;
     let mut pen = p.pen;
-    let mut i = 0;
-    let mut a = 0;
-    while i < devices.len() {
-        let e = a + m;
+    for i in 0..devices.len() {
+        let a = i * m;
         let k = a + t;
-        let kw = powers[k];
-        let power = Kw(kw);
+        let power = Kw(powers[k]);
         let cell = cell_at(cells, k);
-        let x = choose(devices, i, cell, &settings[a..e], starts, power, t);
+        let x = choose(devices, i, cell, &settings[a..a + m], starts, power, t);
         // read again: its prices are loaded where they are used
         let cell = cell_at(cells, k);
         let setting = setting_at(settings, k);
         money = cell_money(money, x, devices, i, cell, setting, power, minutes);
         money = reactive_reserves_money(money, cells, settings, k, minutes);
-        let blocks = x.blocks;
-        pen = put_choice(buf, pen, x.started, x.stopped, x.state, blocks);
-        a = e;
-        i += 1;
+        pen = put_choice(buf, pen, x.started, x.stopped, x.state, x.blocks);
     }
     Progress { money, pen }
 }
@@ -105,19 +99,15 @@ fn complete_zones(
     let m = halves.len();
     let mut money = p.money;
     let mut pen = p.pen;
-    let mut z = 0;
-    let mut k = t;
-    while z < zones.len() {
+    for z in 0..zones.len() {
         let zone = zone_at(zones, z);
-        let least = minima_at(minima, k);
+        let least = minima_at(minima, z * m + t);
         let two = reactive_shortfalls(least, devices, settings, m, t, z);
         let six = shortfalls(zone, least, devices, settings, powers, m, t, z);
         money = zone_money(money, six, zone, minutes);
         money = reactive_zone_money(money, two.qru, two.qrd, zone, minutes);
         pen = put_shortfalls(buf, pen, six);
         pen = put_reactive_shortfalls(buf, pen, front.edition, two.qru, two.qrd);
-        k += m;
-        z += 1;
     }
     Progress { money, pen }
 }
@@ -193,12 +183,10 @@ pub fn complete_intervals(
         (length halves.now) buf.old buf.new p result }
 {
     let mut q = p;
-    let mut t = 0;
-    while t < halves.len() {
+    for t in 0..halves.len() {
         q = complete_interval(
             front, halves, zones, minima, devices, cells, settings, starts, powers, t, buf, q,
         );
-        t += 1;
     }
     q
 }

@@ -1,5 +1,5 @@
 -- A device's lists: what each of them lists, and how the code keeps one of it, as four numbers in the message's order.
-use Rattle.std.specs.Prelude.{◌≡◌, List, [], ◌∷◌, map, ℕ, ◌^◌, ◌≤◌, ◌<◌, length, get_or, take, ℤ}
+use Rattle.std.specs.Prelude.{Ok, ◌≡◌, List, [], ◌∷◌, map, ℕ, ◌^◌, ◌≤◌, ◌<◌, length, get_or, take, ℤ}
 use Rattle.layouts.specs.declared.Place.{Place}
 use Rattle.layouts.specs.Layout.{Layout, int, ◌▸◌, counted, count_of}
 use Rattle.model.specs.Case as M
@@ -11,10 +11,9 @@ use Rattle.row_places.specs.declared.StartWindow.{StartWindow}
 use Rattle.row_places.specs.declared.EnergyWindow.{EnergyWindow}
 use Rattle.row_places.specs.Figures.{window_of, EnergiesSmall}
 use Rattle.records.specs.Views.{less, cost_offset}
-use Rattle.fields.specs.declared.Went.{Went}
-use Rattle.fields.specs.Got.{got, told}
+use Rattle.fields.specs.Got.{Got, got, seen}
 use Rattle.item_reader.specs.declared.Item.{Item}
-use Rattle.item_reader.specs.declared.ItemsRead.{ItemsRead}
+use Rattle.item_reader.specs.declared.Items.{Items}
 use Rattle.item_reader.specs.declared.Listed.{Listed}
 use Rattle.item_reader.specs.declared.Listed.TheVariants.{States, Starts, Energies}
 
@@ -53,24 +52,22 @@ item_in States x = state_item x
 item_in Starts x = start_item x
 item_in Energies x = energy_item x
 
--- no item, and how far reading went
-pub record ItemsNone (w : Went) (r : ItemsRead) : Type 0 where
-  pub same : r.went ≡ w
-  pub none : r.count ≡ 0
-  pub long : length r.items ≡ most_windows
-
 -- what was read of a list
-abbrev pub items_in : (k : Listed) → ItemsRead → List (Content k)
-items_in k r = map (item_in k) (take r.count r.items)
+abbrev pub items_in : (k : Listed) → Items → List (Content k)
+items_in k x = map (item_in k) (take x.count x.items)
 
 -- a count and that many
 abbrev pub items : (k : Listed) → ℕ → ℕ → Layout (List (Content k))
 items k e last = counted (count_of 3 0 (most_items k)) (item k e last)
 
-pub record ItemsDone (k : Listed) (e last : ℕ) (s : List ℕ) (p : Place) (r : ItemsRead) : Type 0 where
-  pub is : told r.went (items_in k r) ≡ got (items k e last) s p
-  pub few : r.count ≤ most_items k
-  pub long : length r.items ≡ most_windows
+-- no more than may be listed, in a table with room for every list
+pub record ItemsFit (k : Listed) (x : Items) : Type 0 where
+  pub few : x.count ≤ most_items k
+  pub long : length x.items ≡ most_windows
+
+pub record ItemsDone (k : Listed) (e last : ℕ) (s : List ℕ) (p : Place) (r : Got Items) : Type 0 where
+  pub is : seen (items_in k) r ≡ got (items k e last) s p
+  pub fit : (x : Items) (q : Place) → r ≡ Ok (x, q) → ItemsFit k x
 
 -- ---- as the records that a device holds
 

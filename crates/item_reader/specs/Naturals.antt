@@ -1,7 +1,5 @@
 -- Any reader goes on from what is listed as from any other part.
 use Rattle.std.specs.Prelude.{ℕ}
-use Rattle.layouts.specs.Layout.{◌▸◌, figure, any}
-use Rattle.model.specs.Editions.{starts_bits, most_starts}
 use Rattle.model.specs.Messages.{window_ends, energy_window}
 use Rattle.model.specs.ByEdition.{start_window, start_window_by}
 use Rattle.fields.specs.Got.{Natural, nat-natural, int-natural, then-natural, such-natural, held-natural}
@@ -13,23 +11,13 @@ pub ends-natural : (last : ℕ) → Natural (window_ends last)
 unfolding window_ends
 ends-natural last = then-natural (nat-natural _) (λ a. such-natural _ (nat-natural _))
 
-pub start-fields : (e last : ℕ) → Natural (window_ends last ▸ figure (starts_bits e) 0 (most_starts e))
-start-fields e last = then-natural (ends-natural last) (λ a. nat-natural _)
-
 start-natural : (e last : ℕ) → Natural (start_window e last)
 unfolding start_window_by
-start-natural e last = held-natural _ _ (start-fields e last)
-
--- behind the kind, and all
-pub limit-fields : (last : ℕ) → Natural (window_ends last ▸ figure 32 0 4000000000)
-limit-fields last = then-natural (ends-natural last) (λ a. nat-natural _)
-
-pub energy-fields : (last : ℕ) → Natural (any 1 ▸ window_ends last ▸ figure 32 0 4000000000)
-energy-fields last = then-natural (nat-natural _) (λ k. limit-fields last)
+start-natural e last = held-natural _ _ (then-natural (ends-natural last) (λ a. nat-natural _))
 
 energy-natural : (last : ℕ) → Natural (energy_window last)
 unfolding energy_window
-energy-natural last = held-natural _ _ (energy-fields last)
+energy-natural last = held-natural _ _ (then-natural (nat-natural _) (λ k. then-natural (ends-natural last) (λ a. nat-natural _)))
 
 pub item-natural : (k : Listed) (e last : ℕ) → Natural (item k e last)
 item-natural States e last = then-natural (nat-natural _) (λ a. int-natural _ _)

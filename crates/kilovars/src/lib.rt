@@ -34,25 +34,6 @@ pub struct KvarPrice(pub u32);
 #[derive(Clone, Copy)]
 pub struct VarPrice(pub u32);
 
-fn wide(x: u32) -> u64
-    ensures { result ≡ x }
-{
-    x as u64
-}
-
-fn apart_in_32(a: u32, b: u32) -> u32
-    ensures { result ≡ (a - b) + (b - a) }
-{
-    if b <= a { a - b } else { b - a }
-}
-
-// The first less the second, 0 where the second is above.
-fn above(a: u64, b: u64) -> u64
-    ensures { result ≡ a - b }
-{
-    if b <= a { a - b } else { 0 }
-}
-
 impl Kvar {
     pub fn plus(self, other: Kvar) -> Kvar
         requires { self.0 + other.0 < 2 ^ 32 }
@@ -65,7 +46,7 @@ impl Kvar {
     pub fn apart(self, other: Kvar) -> Kvar
         ensures { result.0 ≡ (self.0 - other.0) + (other.0 - self.0) }
     {
-        Kvar(apart_in_32(self.0, other.0))
+        Kvar(self.0.abs_diff(other.0))
     }
 
     // What it is worth each minute, at a price.
@@ -88,7 +69,7 @@ impl Var {
     pub fn less(self, other: Var) -> Var
         ensures { result.0 ≡ self.0 - other.0 }
     {
-        Var(above(self.0, other.0))
+        Var(self.0.saturating_sub(other.0))
     }
 
     // Over some minutes, at a price.
@@ -96,6 +77,6 @@ impl Var {
         requires { (self.0 < 2 ^ 36) × (price.0 < 2 ^ 14) × (minutes < 2 ^ 14) }
         ensures { result.0 ≡ minutes * (price.0 * self.0) }
     {
-        Grains(wide(minutes) * (wide(price.0) * self.0))
+        Grains(u64::from(minutes) * (u64::from(price.0) * self.0))
     }
 }

@@ -25,30 +25,6 @@ pub const MOST_KW: u64 = 100000;
 // No power, as it is kept.
 pub const NO_KW: SignedKw = SignedKw(MOST_KW as u32);
 
-fn lesser(a: u32, b: u32) -> u32
-    ensures { result ≡ min a b }
-{
-    if a <= b { a } else { b }
-}
-
-fn larger(a: u32, b: u32) -> u32
-    ensures { result ≡ max a b }
-{
-    if a <= b { b } else { a }
-}
-
-fn apart_in_32(a: u32, b: u32) -> u32
-    ensures { result ≡ (a - b) + (b - a) }
-{
-    if b <= a { a - b } else { b - a }
-}
-
-fn above_in_32(a: u32, b: u32) -> u32
-    ensures { result ≡ a - b }
-{
-    if b <= a { a - b } else { 0 }
-}
-
 impl Kw {
     pub fn plus(self, other: Kw) -> Kw
         requires { self.0 + other.0 < 2 ^ 32 }
@@ -61,26 +37,26 @@ impl Kw {
     pub fn less(self, other: Kw) -> Kw
         ensures { result.0 ≡ self.0 - other.0 }
     {
-        Kw(above_in_32(self.0, other.0))
+        Kw(self.0.saturating_sub(other.0))
     }
 
     // How far it is from another.
     pub fn apart(self, other: Kw) -> Kw
         ensures { result.0 ≡ (self.0 - other.0) + (other.0 - self.0) }
     {
-        Kw(apart_in_32(self.0, other.0))
+        Kw(self.0.abs_diff(other.0))
     }
 
     pub fn least(self, other: Kw) -> Kw
         ensures { result.0 ≡ min self.0 other.0 }
     {
-        Kw(lesser(self.0, other.0))
+        Kw(self.0.min(other.0))
     }
 
     pub fn most(self, other: Kw) -> Kw
         ensures { result.0 ≡ max self.0 other.0 }
     {
-        Kw(larger(self.0, other.0))
+        Kw(self.0.max(other.0))
     }
 
     pub fn at_most(self, other: Kw) -> bool

@@ -28,10 +28,7 @@ fn matched(found: [Offer; 256], n: usize, all: [Offer; 256], count: usize) -> Le
     if n == count {
         let ours = sorted(found, count);
         let own = same_offers(lent, ours, count);
-        return Lent {
-            own: own,
-            all: lent,
-        };
+        return Lent { own, all: lent };
     }
     Lent {
         own: false,
@@ -58,7 +55,5 @@ pub fn sorted_offers(
         cells.now) t sets.now all count result.own result.all }
 {
     let listed = own_offers::own_offers(front, halves, zones, minima, devices, cells, t, sets);
-    let n = listed.n;
-    let found = listed.all;
-    matched(found, n, all, count)
+    matched(listed.all, listed.n, all, count)
 }

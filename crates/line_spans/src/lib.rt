@@ -25,21 +25,15 @@ const TWO_LINES: u32 = 1;
 
 const EQUALITY: u32 = 2;
 
-fn wide(x: u32) -> u64
-    ensures { (result ≡ x) × (result < 2 ^ 32) }
-{
-    x as u64
-}
-
 // A bound by a slope that is kept from 0.
 fn sloped(s: Span, slope: u32, x: u64, y: u64) -> Span
     requires { (x < 2 ^ 60) × (y < 2 ^ 60) }
     ensures { result ≡ narrow s (sloped_by slope x y) }
 {
     if SLOPE_OFFSET <= slope {
-        at_least(s, wide(slope - SLOPE_OFFSET), x, y)
+        at_least(s, u64::from(slope - SLOPE_OFFSET), x, y)
     } else {
-        at_most(s, wide(SLOPE_OFFSET - slope), x, y)
+        at_most(s, u64::from(SLOPE_OFFSET - slope), x, y)
     }
 }
 

@@ -32,12 +32,10 @@ pub fn link_held(halves: &[u32], devices: &[DeviceRow], settings: &[SettingRow])
     requires { LinkRows (length halves.now) devices.now settings.now }
     ensures { (result ≡ true) ↔ KeptTo devices.now settings.now (length halves.now) }
 {
-    let mut t = 0;
-    while t < halves.len() {
+    for t in 0..halves.len() {
         if !link_kept(devices, settings, t) {
             return false;
         }
-        t += 1;
     }
     true
 }

@@ -5,7 +5,7 @@ ghost use Rattle.std.specs.Prelude.{◌≡◌};
 ghost use Rattle.item_reader.specs.Items.{threes, state_from, start_from, fours, EnergyMade, EnergiesMade};
 
 use energy::KwMin;
-use item_reader::{Item, ItemsRead};
+use item_reader::{Item, Items};
 use row_places::{EnergyWindow, StartWindow, State};
 
 fn state_of(x: Item) -> State
@@ -17,14 +17,11 @@ fn state_of(x: Item) -> State
     }
 }
 
-pub fn states_of(list: ItemsRead) -> [State; 3]
+pub fn states_of(list: Items) -> [State; 3]
     ensures { result ≡ threes state_from list.items }
 {
-    let l = list.items;
-    let a = state_of(l[0]);
-    let b = state_of(l[1]);
-    let c = state_of(l[2]);
-    [a, b, c]
+    let [a, b, c, _] = list.items;
+    [state_of(a), state_of(b), state_of(c)]
 }
 
 fn start_of(x: Item) -> StartWindow
@@ -37,15 +34,11 @@ fn start_of(x: Item) -> StartWindow
     }
 }
 
-pub fn starts_of(list: ItemsRead) -> [StartWindow; 4]
+pub fn starts_of(list: Items) -> [StartWindow; 4]
     ensures { result ≡ fours start_from list.items }
 {
-    let l = list.items;
-    let a = start_of(l[0]);
-    let b = start_of(l[1]);
-    let c = start_of(l[2]);
-    let d = start_of(l[3]);
-    [a, b, c, d]
+    let [a, b, c, d] = list.items;
+    [start_of(a), start_of(b), start_of(c), start_of(d)]
 }
 
 fn energy_of(x: Item) -> EnergyWindow
@@ -59,13 +52,9 @@ fn energy_of(x: Item) -> EnergyWindow
     }
 }
 
-pub fn energies_of(list: ItemsRead) -> [EnergyWindow; 4]
+pub fn energies_of(list: Items) -> [EnergyWindow; 4]
     ensures { EnergiesMade list.items result }
 {
-    let l = list.items;
-    let a = energy_of(l[0]);
-    let b = energy_of(l[1]);
-    let c = energy_of(l[2]);
-    let d = energy_of(l[3]);
-    [a, b, c, d]
+    let [a, b, c, d] = list.items;
+    [energy_of(a), energy_of(b), energy_of(c), energy_of(d)]
 }

@@ -1,6 +1,6 @@
 -- What is copied of an accepted plan's completion: the market's copy, or the buffer as it was and the bytes needed.
-use Rattle.std.specs.Prelude.{◌≡◌, refl, Bool, true, false, ℕ, ◌+◌, ◌*◌, ◌≤◌, ◌<◌}
-use Rattle.std.proofs.Common.{sym, ◌∙◌, arith}
+use Rattle.std.specs.Prelude.{◌≡◌, ℕ, ◌*◌, ◌≤◌}
+use Rattle.std.proofs.Common.{◌∙◌, arith}
 use Rattle.std.proofs.Math.Path.{ap}
 use mathlib.Core.List.{List, [], ◌++◌}
 use Rattle.std.proofs.Math.Decide.{dec_le}
@@ -8,8 +8,6 @@ use borrow.Author.Tests.{le-leb, lt-leb}
 use Rattle.std.proofs.Math.ListN.{length, drop}
 use Rattle.bits.specs.Bits.{reach}
 use Rattle.layouts.specs.Layout.{passes, bytes}
-use Rattle.model.specs.declared.Subject.TheVariants as S
-use Rattle.layouts.specs.declared.Fault.TheVariants.{TooShort}
 use Rattle.model.specs.Case.{System, Plan}
 use Rattle.model.specs.Breaches.{breaches}
 use Rattle.model.proofs.Named.{none-every}

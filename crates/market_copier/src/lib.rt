@@ -6,14 +6,13 @@ ghost use Rattle.bits.specs.Pick.{pick};
 ghost use Rattle.layouts.specs.Since.{has};
 ghost use Rattle.writing.specs.Splice.{none, keep, times};
 ghost use Rattle.market.specs.CopySplice.{change_splice, short_splice, bars_splice, interval_splice, front_splice, copy_splice};
-ghost use Rattle.bit_copier.specs.Moves.{Set, Moves, start, Renews};
+ghost use Rattle.bit_copier.specs.Moves.{Set, Moves, Renews};
 ghost use Rattle.market_copier.specs.Counts.{counts_in};
 ghost use Rattle.market_copier.specs.Skips.{Skipped};
 
-use bit_copier::{Copier, add_field, bytes_in, close, keep_field, keep_run};
+use bit_copier::{Copier, add_field, copy_each, keep_field, keep_run, renew};
 use bits::reached;
 use editions::{device_bits, interval_bits};
-use pen::Pen;
 
 // The widths of a completion's fields: kind, edition and zones (those of the other counts go by the edition); of a device in an interval whether it is
 // started, whether it is stopped, its startup state and the powers of its four blocks; of a zone its six shortfalls and two reactive ones; a bar's mismatch;
@@ -57,10 +56,9 @@ fn skip_bits(s: &[u8], q: Copier, width: u64) -> Copier
     if 8 * reached(s) - from < width {
         return q;
     }
-    let pen = q.pen;
     Copier {
         from: from + width,
-        pen,
+        ..q
     }
 }
 
@@ -86,19 +84,6 @@ fn copy_change(s: &[u8], buf: &mut [u8], q: Copier) -> Copier
     skip_bits(s, q, BLOCKS_BITS)
 }
 
-fn copy_changes(s: &[u8], buf: &mut [u8], q: Copier, devices: u64) -> Copier
-    requires { Set s.now q }
-    ensures { Moves (times devices change_splice) s.now buf.old buf.new q result }
-{
-    let mut t = q;
-    let mut k = 0;
-    while k < devices {
-        t = copy_change(s, buf, t);
-        k += 1;
-    }
-    t
-}
-
 // A zone's shortfalls.
 fn copy_short(s: &[u8], buf: &mut [u8], q: Copier, edition: u32) -> Copier
     requires { Set s.now q }
@@ -113,19 +98,6 @@ fn copy_short(s: &[u8], buf: &mut [u8], q: Copier, edition: u32) -> Copier
         REACTIVE_EDITION,
         REACTIVE_SHORTFALLS_BITS,
     )
-}
-
-fn copy_shorts(s: &[u8], buf: &mut [u8], q: Copier, edition: u32, zones: u64) -> Copier
-    requires { Set s.now q }
-    ensures { Moves (times zones (short_splice edition)) s.now buf.old buf.new q result }
-{
-    let mut t = q;
-    let mut k = 0;
-    while k < zones {
-        t = copy_short(s, buf, t, edition);
-        k += 1;
-    }
-    t
 }
 
 // The mismatches of the bars, real or reactive.
@@ -148,6 +120,7 @@ fn copy_reactive_bars(s: &[u8], buf: &mut [u8], q: Copier, edition: u32) -> Copi
     copy_bars(s, buf, q, edition)
 }
 
+// One interval: its devices, its zones, its bars.
 fn copy_interval(
     s: &[u8],
     buf: &mut [u8],
@@ -159,31 +132,10 @@ fn copy_interval(
     requires { Set s.now q }
     ensures { Moves (interval_splice edition devices zones) s.now buf.old buf.new q result }
 {
-    let q = copy_changes(s, buf, q, devices);
-    let q = copy_shorts(s, buf, q, edition, zones);
+    let q = copy_each(buf, q, devices, move |buf, q| copy_change(s, buf, q));
+    let q = copy_each(buf, q, zones, move |buf, q| copy_short(s, buf, q, edition));
     let q = copy_bars(s, buf, q, edition);
     copy_reactive_bars(s, buf, q, edition)
-}
-
-fn copy_intervals(
-    s: &[u8],
-    buf: &mut [u8],
-    q: Copier,
-    edition: u32,
-    devices: u64,
-    zones: u64,
-    intervals: u64,
-) -> Copier
-    requires { Set s.now q }
-    ensures { Moves (times intervals (interval_splice edition devices zones)) s.now buf.old buf.new q result }
-{
-    let mut t = q;
-    let mut k = 0;
-    while k < intervals {
-        t = copy_interval(s, buf, t, edition, devices, zones);
-        k += 1;
-    }
-    t
 }
 
 // The front, with the market's kind.
@@ -205,23 +157,20 @@ fn copy_front(s: &[u8], buf: &mut [u8], q: Copier, edition: u32) -> Copier
 fn copy_completion(
     s: &[u8],
     buf: &mut [u8],
+    q: Copier,
     edition: u32,
     devices: u64,
     intervals: u64,
     zones: u64,
     windows: u64,
 ) -> Copier
-    requires { windows ≤ 2 ^ 32 }
-    ensures { Moves (copy_splice edition (counts_in devices intervals zones) windows) s.now buf.old buf.new (start 0) result }
+    requires { Set s.now q × (windows ≤ 2 ^ 32) }
+    ensures { Moves (copy_splice edition (counts_in devices intervals zones) windows) s.now buf.old buf.new q result }
 {
-    let pen = Pen {
-        acc: 0,
-        n: 0,
-        at: 0,
-    };
-    let q = Copier { from: 0, pen };
     let q = copy_front(s, buf, q, edition);
-    let q = copy_intervals(s, buf, q, edition, devices, zones, intervals);
+    let q = copy_each(buf, q, intervals, move |buf, q| {
+        copy_interval(s, buf, q, edition, devices, zones)
+    });
     let q = keep_run(s, buf, q, windows * OVERRUN_BITS);
     skip_bits(s, q, SURPLUS_BITS)
 }
@@ -239,15 +188,7 @@ pub fn copy_for_market(
     requires { windows ≤ 2 ^ 32 }
     ensures { Renews (copy_splice edition (counts_in devices intervals zones) windows) 0 s.now buf.old buf.new result }
 {
-    let mut none = [0u8; 1];
-    let counted = copy_completion(s, &mut none, edition, devices, intervals, zones, windows);
-    let p = counted.pen;
-    let needed = bytes_in(p);
-    if (buf.len() as u64) < needed {
-        return needed;
-    }
-    let copied = copy_completion(s, buf, edition, devices, intervals, zones, windows);
-    let p = copied.pen;
-    close(buf, p);
-    needed
+    renew(buf, 0, move |buf, q| {
+        copy_completion(s, buf, q, edition, devices, intervals, zones, windows)
+    })
 }

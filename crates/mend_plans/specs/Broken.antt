@@ -14,8 +14,7 @@ use Rattle.model.specs.Judgement.{our_surplus}
 use Rattle.records.specs.Views.{system_in, plan_in, setting_in}
 use Rattle.records.specs.Viewed as W
 use Rattle.breaches.specs.First.{first, none_first}
-use Rattle.breaches.specs.declared.Check.{Check}
-use Rattle.breaches.specs.declared.Check.TheVariants as K
+use Rattle.std.specs.Prelude.{Option, Some, None}
 use Rattle.mending.specs.declared.Mending.{Mending}
 use Rattle.mending.specs.declared.Mending.TheVariants.{Accepted}
 use Rattle.mending.specs.Mending.{most_online}
@@ -28,7 +27,7 @@ pub record Begins (b : Breach) (bs : List Breach) : Type 0 where
   pub rest : List Breach
   pub is : bs ≡ b ∷ rest
 
-begins : (bs : List Breach) (b : Breach) → first bs ≡ K.Broken b → Begins b bs
+begins : (bs : List Breach) (b : Breach) → first bs ≡ Some b → Begins b bs
 unfolding first
 begins [] b e = absurd (let z : ◌≡◌ {A = ℕ} 0 1 = cc in omega (arith, z))
 begins (x ∷ bs) b e = let g : x ≡ b = cc in record { rest = bs; is = ap (λ (y : Breach). y ∷ bs) g }
@@ -57,11 +56,11 @@ module _ (halves : List ℕ) (zones minima devices cells settings : List (List �
     stated = record { edition = e; case = record { system = q; prices = x } }
 
     -- where a rule is broken
-    pub mends-broken : {k : Check} {b : Breach} {r : Mending} → k ≡ first (breaches q p) → k ≡ K.Broken b → r ≡ told (mended_from most_online q p b) → r ≡ mending_of stated p
+    pub mends-broken : {k : Option Breach} {b : Breach} {r : Mending} → k ≡ first (breaches q p) → k ≡ Some b → r ≡ told (mended_from most_online q p b) → r ≡ mending_of stated p
     mends-broken {k} {b} f g h =
         let s = begins (breaches q p) b (sym f ∙ g) in
         h ∙ sym (from-shape stated p shaped-rows b s.rest s.is)
 
     -- and where none is
-    pub mends-accepted : {k : Check} {r : Mending} → k ≡ first (breaches q p) → k ≡ K.Held → r ≡ Accepted (our_surplus stated.case p) → r ≡ mending_of stated p
+    pub mends-accepted : {k : Option Breach} {r : Mending} → k ≡ first (breaches q p) → k ≡ None → r ≡ Accepted (our_surplus stated.case p) → r ≡ mending_of stated p
     mends-accepted f g h = h ∙ sym (from-none stated p (none_first (breaches q p) f g))

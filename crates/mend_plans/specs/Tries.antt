@@ -19,7 +19,7 @@ use Rattle.records.specs.Views.{system_in, plan_in}
 use Rattle.numbers.specs.Sum.{All}
 use Rattle.records.specs.Viewed as W
 use Rattle.breaches.specs.First.{first}
-use Rattle.breaches.specs.declared.Check.TheVariants as K
+use Rattle.std.specs.Prelude.{Option, Some, None}
 use Rattle.mending_theorems.specs.Where.{Where, in_cell, in-link, in_window}
 use Rattle.mending_theorems.proofs.Where.{listed-where}
 use Rattle.mending.specs.declared.Mending.{Mending}
@@ -27,8 +27,6 @@ use Rattle.mending.specs.declared.Mending.TheVariants.{Mended, Nothing}
 use Rattle.mending.specs.Mending.{Change, mends, change, those, keep_if, nearest, most_online}
 use Rattle.mending.specs.Mendings.{told}
 use Rattle.mending_theorems.specs.Answer.{attempts, tries_at, mended_from}
-use Rattle.mend_tries.specs.declared.Tried.{Tried}
-use Rattle.mend_tries.specs.declared.Tried.TheVariants.{Found, Missed}
 use Rattle.mend_tries.specs.Tries.{tried_as, Tries, Judgeable}
 use Rattle.nearer_tries.specs.Nearer.{answer_as, nearer_as}
 
@@ -47,7 +45,7 @@ those-append {A} f (x ∷ l) m = go (f x) (those-append f l m)
 
 -- the better of two, the first where they change the plan alike
 module _ (f : Change → ℕ) (s t i : ℕ) where
-  abbrev best : Tried → Tried → Mending
+  abbrev best : Option ℕ → Option ℕ → Mending
   best a b = told (nearest f (tried_as s i a ++ tried_as t i b))
 
   abbrev at : ℕ → ℕ → Change
@@ -59,20 +57,20 @@ module _ (f : Change → ℕ) (s t i : ℕ) where
       let g : i + 1 ≡ suc i = omega arith in
       rw (e, g) refl
 
-  pub best-second : (b : Tried) → answer_as t i b ≡ best Missed b
+  pub best-second : (b : Option ℕ) → answer_as t i b ≡ best None b
   unfolding nearest
-  best-second (Found v) = named t v
-  best-second Missed = refl
+  best-second (Some v) = named t v
+  best-second None = refl
 
-  pub best-first : (v : ℕ) → answer_as s i (Found v) ≡ best (Found v) Missed
+  pub best-first : (v : ℕ) → answer_as s i (Some v) ≡ best (Some v) None
   unfolding nearest
   best-first v = named s v
 
-  pub best-earlier : (v w : ℕ) → f (at s v) ≤ f (at t w) → answer_as s i (Found v) ≡ best (Found v) (Found w)
+  pub best-earlier : (v w : ℕ) → f (at s v) ≤ f (at t w) → answer_as s i (Some v) ≡ best (Some v) (Some w)
   unfolding nearest
   best-earlier v w h = rw (le-leb (f (at s v)) (f (at t w)) h) (named s v)
 
-  pub best-later : (v w : ℕ) → f (at t w) < f (at s v) → answer_as t i (Found w) ≡ best (Found v) (Found w)
+  pub best-later : (v w : ℕ) → f (at t w) < f (at s v) → answer_as t i (Some w) ≡ best (Some v) (Some w)
   unfolding nearest
   best-later v w h = rw (lt-leb (f (at s v)) (f (at t w)) h) (named t w)
 
@@ -96,17 +94,17 @@ module _ (q : System) (p : Plan) (i : ℕ) where
       rw (e, g) (those-append (mends q p) (attempts most_online q p s i) (attempts most_online q p (suc s) i ++ [])
       ∙ ap (λ (l : List Change). found s ++ those (mends q p) l) (append-none (attempts most_online q p (suc s) i)))
 
-  lone-done : (r : Tried) → tried_as 0 i r ≡ found 0 → answer_as 0 i r ≡ cell_answer q p 0 i
+  lone-done : (r : Option ℕ) → tried_as 0 i r ≡ found 0 → answer_as 0 i r ≡ cell_answer q p 0 i
   unfolding cell_answer
   lone-done r e = best-second (change q p) 0 0 i r ∙ ap (λ (l : List Change). told (nearest (change q p) l)) (e ∙ sym lone)
 
   module _ (s : ℕ) where
     -- the changes of the two
-    as-best : (a b : Tried) → nearer_as (suc s) i (F.setting q p s i).online (F.setting q p (suc s) i).online a b ≡ told (nearest (change q p) (tried_as s i a ++ tried_as (suc s) i b))
+    as-best : (a b : Option ℕ) → nearer_as (suc s) i (F.setting q p s i).online (F.setting q p (suc s) i).online a b ≡ told (nearest (change q p) (tried_as s i a ++ tried_as (suc s) i b))
     unfolding change
-    as-best Missed b = best-second (change q p) s (suc s) i b
-    as-best (Found v) Missed = let e : suc s - 1 ≡ s = omega arith in rw e (best-first (change q p) s (suc s) i v)
-    as-best (Found v) (Found w) = let e : suc s - 1 ≡ s = omega arith in rw e (go (dec_le (change q p (record { interval = s; device = i; power = v }))
+    as-best None b = best-second (change q p) s (suc s) i b
+    as-best (Some v) None = let e : suc s - 1 ≡ s = omega arith in rw e (best-first (change q p) s (suc s) i v)
+    as-best (Some v) (Some w) = let e : suc s - 1 ≡ s = omega arith in rw e (go (dec_le (change q p (record { interval = s; device = i; power = v }))
         (change q p (record { interval = suc s; device = i; power = w }))))
       where
         x : ℕ
@@ -115,11 +113,11 @@ module _ (q : System) (p : Plan) (i : ℕ) where
         y : ℕ
         y = change q p (record { interval = suc s; device = i; power = w })
 
-        go : Dec (x ≤ y) → pick (leb x y) (answer_as s i (Found v)) (answer_as (suc s) i (Found w)) ≡ told (nearest (change q p) (tried_as s i (Found v) ++ tried_as (suc s) i (Found w)))
+        go : Dec (x ≤ y) → pick (leb x y) (answer_as s i (Some v)) (answer_as (suc s) i (Some w)) ≡ told (nearest (change q p) (tried_as s i (Some v) ++ tried_as (suc s) i (Some w)))
         go (yes h) = rw (le-leb x y h) (best-earlier (change q p) s (suc s) i v w h)
         go (no h) = rw (lt-leb x y (omega arith)) (best-later (change q p) s (suc s) i v w (omega arith))
 
-    pair-done : (a b : Tried) → tried_as s i a ≡ found s → tried_as (suc s) i b ≡ found (suc s)
+    pair-done : (a b : Option ℕ) → tried_as s i a ≡ found s → tried_as (suc s) i b ≡ found (suc s)
         → nearer_as (suc s) i (F.setting q p s i).online (F.setting q p (suc s) i).online a b ≡ cell_answer q p (suc s) i
     unfolding cell_answer
     pair-done a b e f = as-best a b ∙ ap (λ (l : List Change). told (nearest (change q p) l)) (ap₂ (λ (x y : List Change). x ++ y) e f ∙ sym (pair s))
@@ -133,7 +131,7 @@ nothing-told : (q : System) (p : Plan) → Nothing ≡ told (nearest (change q p
 unfolding those nearest
 nothing-told q p = refl
 
-head-where : (P : Breach → Type 0) (bs : List Breach) (b : Breach) → first bs ≡ K.Broken b → All P bs → P b
+head-where : (P : Breach → Type 0) (bs : List Breach) (b : Breach) → first bs ≡ Some b → All P bs → P b
 unfolding first
 head-where P [] b e h = absurd (let z : ◌≡◌ {A = ℕ} 0 1 = cc in omega (arith, z))
 head-where P (x ∷ bs) b e h = let g : x ≡ b = cc in subst P g h.0
@@ -146,17 +144,17 @@ module _ (front : Front) (halves : List ℕ) (zones minima devices cells setting
   abbrev p : Plan
   p = plan_in (length devices) (length halves) settings
 
-  pub lone-try : (i : ℕ) {after : List (List ℕ)} {r : Tried} → Tries front halves zones minima devices cells settings i 0 after r → answer_as 0 i r ≡ cell_answer q p 0 i
+  pub lone-try : (i : ℕ) {after : List (List ℕ)} {r : Option ℕ} → Tries front halves zones minima devices cells settings i 0 after r → answer_as 0 i r ≡ cell_answer q p 0 i
   lone-try i {r = r} x = lone-done q p i r x.answer
 
-  pub both-tries : (i s : ℕ) {before now : ℕ} {mid after : List (List ℕ)} {a b : Tried} → before ≡ (F.setting q p s i).online → now ≡ (F.setting q p (suc s) i).online
+  pub both-tries : (i s : ℕ) {before now : ℕ} {mid after : List (List ℕ)} {a b : Option ℕ} → before ≡ (F.setting q p s i).online → now ≡ (F.setting q p (suc s) i).online
       → Tries front halves zones minima devices cells settings i s mid a → Tries front halves zones minima devices cells mid i (suc s) after b
       → nearer_as (suc s) i before now a b ≡ cell_answer q p (suc s) i
   both-tries i s {before} {now} {mid} {after} {a} {b} e f x y =
       rw (e, f) (pair-done q p i s a b x.answer (subst (λ (o : Plan). tried_as (suc s) i b ≡ those (mends q o) (attempts most_online q o (suc s) i)) x.same.plan y.answer))
 
   -- where the first breach stands: in the case, where it has an interval and a device
-  pub placed : (b : Breach) → first (breaches q p) ≡ K.Broken b → 0 < b.interval → 0 < b.device → (b.interval - 1 < length halves) × (b.device - 1 < length devices)
+  pub placed : (b : Breach) → first (breaches q p) ≡ Some b → 0 < b.interval → 0 < b.device → (b.interval - 1 < length halves) × (b.device - 1 < length devices)
   placed b e h k = go (head-where (Where q p) (breaches q p) b e (listed-where q p))
     where
       go : Where q p b → (b.interval - 1 < length halves) × (b.device - 1 < length devices)
@@ -183,7 +181,7 @@ module _ (front : Front) (halves : List ℕ) (zones minima devices cells setting
       let v : b.device ≡ suc i = omega (arith, f) in
       g ∙ sym (rw (u, v) refl)
 
-  pub both-done : (i t : ℕ) {before now : ℕ} {mid after : List (List ℕ)} {a b : Tried} {r : Mending} → before ≡ (F.setting q p t i).online → now ≡ (F.setting q p (t + 1) i).online
+  pub both-done : (i t : ℕ) {before now : ℕ} {mid after : List (List ℕ)} {a b : Option ℕ} {r : Mending} → before ≡ (F.setting q p t i).online → now ≡ (F.setting q p (t + 1) i).online
       → Tries front halves zones minima devices cells settings i t mid a → Tries front halves zones minima devices cells mid i (t + 1) after b
       → r ≡ nearer_as (t + 1) i before now a b → r ≡ cell_answer q p (t + 1) i
   both-done i t {before} {now} {mid} {after} {a} {b} e f x y g =

@@ -5,7 +5,7 @@ ghost use Rattle.std.specs.Prelude.{◌≡◌, ◌+◌, ◌*◌, ◌<◌, length
 ghost use Rattle.model.specs.Breaches.{breaches};
 ghost use Rattle.records.specs.Views.{system_in, plan_in};
 ghost use Rattle.breaches.specs.First.{first};
-ghost use Rattle.breaches.specs.declared.Check.TheVariants.{Broken};
+ghost use Rattle.std.specs.Prelude.{Some};
 ghost use Rattle.mending.specs.Mending.{most_online};
 ghost use Rattle.mending.specs.Mendings.{told};
 ghost use Rattle.mending_theorems.specs.Answer.{mended_from};
@@ -131,14 +131,11 @@ pub fn mend_broken(
     b: Breach,
 ) -> Mending
     requires { Judgeable front halves.now zones.now minima.now devices.now cells.now settings.old starts.old powers.old
-        × (first (breaches (system_in halves.now zones.now minima.now devices.now cells.now) (plan_in (length devices.now) (length halves.now) settings.old)) ≡ Broken b) }
+        × (first (breaches (system_in halves.now zones.now minima.now devices.now cells.now) (plan_in (length devices.now) (length halves.now) settings.old)) ≡ Some b) }
     ensures { result ≡ told (mended_from most_online (system_in halves.now zones.now minima.now devices.now cells.now)
         (plan_in (length devices.now) (length halves.now) settings.old) b) }
 {
-    if b.interval == 0 {
-        return Mending::Nothing;
-    }
-    if b.device == 0 {
+    if b.interval == 0 || b.device == 0 {
         return Mending::Nothing;
     }
     let t = (b.interval - 1) as usize;

@@ -18,16 +18,13 @@ use Rattle.records.specs.Views.{system_in, plan_in, setting_in, CaseRows, PlanRo
 use Rattle.records.specs.Viewed as W
 use Rattle.powers.specs.Fleet.{CaseOf, Forced}
 use Rattle.breaches.specs.First.{first}
-use Rattle.breaches.specs.declared.Check.{Check}
-use Rattle.breaches.specs.declared.Check.TheVariants as K
+use Rattle.std.specs.Prelude.{Option, Some, None}
 use Rattle.spans.specs.declared.Span.{Span}
 use Rattle.spans.specs.Spans.{In, clamped, clamped-in, span-in}
 use Rattle.mending.specs.Mending.{Change, is_empty, mends, those, most_online}
 use Rattle.mending_theorems.specs.Bounds.{bounds}
 use Rattle.mending_theorems.specs.Answer.{span_at, attempt, attempts}
 use Rattle.online_rows.specs.Plans.{with_online_row, plan-put, rows-put-range, plan-back}
-use Rattle.mend_tries.specs.declared.Tried.{Tried}
-use Rattle.mend_tries.specs.declared.Tried.TheVariants.{Found, Missed}
 
 -- a decoded case and plan, and room for the forced figures
 pub record Judgeable (front : Front) (halves : List ℕ) (zones minima devices cells settings : List (List ℕ)) (starts powers : List ℕ) : Type 0 where
@@ -37,20 +34,20 @@ pub record Judgeable (front : Front) (halves : List ℕ) (zones minima devices c
   pub powers-full : length powers ≡ length devices * length halves
 
 -- the first breach, or none
-held-empty : (bs : List Breach) {k : Check} → k ≡ first bs → k ≡ K.Held → true ≡ is_empty bs
+held-empty : (bs : List Breach) {k : Option Breach} → k ≡ first bs → k ≡ None → true ≡ is_empty bs
 unfolding first
 held-empty [] e h = refl
 held-empty (b ∷ bs) e h = absurd (let z : ◌≡◌ {A = ℕ} 0 1 = cc in omega (arith, z))
 
-broken-not : (bs : List Breach) {k : Check} {b : Breach} → k ≡ first bs → k ≡ K.Broken b → false ≡ is_empty bs
+broken-not : (bs : List Breach) {k : Option Breach} {b : Breach} → k ≡ first bs → k ≡ Some b → false ≡ is_empty bs
 unfolding first
 broken-not [] e h = absurd (let z : ◌≡◌ {A = ℕ} 0 1 = cc in omega (arith, z))
 broken-not (b ∷ bs) e h = refl
 
 -- what a try answers, as the changes that it found
-abbrev pub tried_as : ℕ → ℕ → Tried → List Change
-tried_as t i (Found v) = record { interval = t; device = i; power = v } ∷ []
-tried_as t i Missed = []
+abbrev pub tried_as : ℕ → ℕ → Option ℕ → List Change
+tried_as t i (Some v) = record { interval = t; device = i; power = v } ∷ []
+tried_as t i None = []
 
 module _ (front : Front) (halves : List ℕ) (zones minima devices cells settings : List (List ℕ)) where
   abbrev pub q : System
@@ -71,10 +68,10 @@ module _ (front : Front) (halves : List ℕ) (zones minima devices cells setting
       → Judgeable front halves zones minima devices cells settings times forced
   again j f = let r = f.rows zones minima in record { case_rows = j.case_rows; plan-rows = j.plan-rows; starts-full = omega (arith, r.starts-full); powers-full = r.powers-full }
 
-  pub answers-held : {k : Check} → k ≡ first (breaches q p) → k ≡ K.Held → true ≡ is_empty (breaches q p)
+  pub answers-held : {k : Option Breach} → k ≡ first (breaches q p) → k ≡ None → true ≡ is_empty (breaches q p)
   answers-held e h = held-empty (breaches q p) e h
 
-  pub answers-broken : {k : Check} {b : Breach} → k ≡ first (breaches q p) → k ≡ K.Broken b → false ≡ is_empty (breaches q p)
+  pub answers-broken : {k : Option Breach} {b : Breach} → k ≡ first (breaches q p) → k ≡ Some b → false ≡ is_empty (breaches q p)
   answers-broken e h = broken-not (breaches q p) e h
 
   -- the plan in the rows is the same
@@ -131,7 +128,7 @@ module _ (front : Front) (halves : List ℕ) (zones minima devices cells setting
 
   -- ---- a try of an interval and device
 
-  pub record Tries (i t : ℕ) (after : List (List ℕ)) (r : Tried) : Type 0 where
+  pub record Tries (i t : ℕ) (after : List (List ℕ)) (r : Option ℕ) : Type 0 where
     pub same : Same after
     pub answer : tried_as t i r ≡ those (mends q p) (attempts most_online q p t i)
 
@@ -144,7 +141,7 @@ module _ (front : Front) (halves : List ℕ) (zones minima devices cells setting
     left-some f g = leb-false s.until s.from (sym f ∙ g)
 
     -- no power is left
-    pub tries-none : {after : List (List ℕ)} → Same after → s.until ≤ s.from → Tries i t after Missed
+    pub tries-none : {after : List (List ℕ)} → Same after → s.until ≤ s.from → Tries i t after None
     unfolding attempts those
     tries-none a h = record { same = a; answer = sym (rw (← e, le-ltb s.from s.until h) refl) }
 
@@ -165,10 +162,10 @@ module _ (front : Front) (halves : List ℕ) (zones minima devices cells setting
           let j : In (span_at most_online q p t i) v = rw (← e, k) (clamped-in s old s.from g) in
           (span-in most_online v (bounds q p t i) j).0
 
-      pub tries-found : {after : List (List ℕ)} → Tests i t v after true → Tries i t after (Found v)
+      pub tries-found : {after : List (List ℕ)} → Tests i t v after true → Tries i t after (Some v)
       unfolding those
       tries-found x = record { same = x.same; answer = sym (rw (some_left h, tried-is, ← x.answer) refl) }
 
-      pub tries-missed : {after : List (List ℕ)} → Tests i t v after false → Tries i t after Missed
+      pub tries-missed : {after : List (List ℕ)} → Tests i t v after false → Tries i t after None
       unfolding those
       tries-missed x = record { same = x.same; answer = sym (rw (some_left h, tried-is, ← x.answer) refl) }

@@ -8,7 +8,7 @@ ghost use Rattle.mending.specs.Mending.{is_empty, most_online};
 ghost use Rattle.mending_theorems.specs.Answer.{span_at};
 ghost use Rattle.mend_tries.specs.Tries.{Judgeable, Tests, Tries};
 
-use breaches::{Check, first_breach};
+use breaches::first_breach;
 use cell_spans::span_at;
 use kilowatts::Kw;
 use online_rows::put_online;
@@ -16,19 +16,6 @@ use powers::force;
 use row_places::{CellRow, DeviceRow, Front, MinimaRow, SettingRow, ZoneRow};
 use setting_rows::online_at;
 use spans::{Span, clamp, is_empty};
-
-// The online power that mends the plan, or none in this interval and device.
-#[derive(Clone, Copy)]
-pub enum Tried {
-    Found(u32),
-    Missed,
-}
-
-fn wide(x: u32) -> u64
-    ensures { result ≡ x }
-{
-    x as u64
-}
 
 // Whether a plan breaks no rule.
 fn unbroken(
@@ -51,8 +38,8 @@ fn unbroken(
         front, halves, zones, minima, devices, cells, settings, starts, powers,
     );
     match first {
-        Check::Broken(b) => false,
-        Check::Held => true,
+        Some(b) => false,
+        None => true,
     }
 }
 
@@ -126,7 +113,7 @@ pub fn try_at(
     i: usize,
     a: usize,
     t: usize,
-) -> Tried
+) -> Option<u32>
     requires { Judgeable front halves.now zones.now minima.now devices.now cells.now settings.old starts.old powers.old
         × (i < length devices.now) × (a ≡ i * length halves.now) × (t < length halves.now) }
     ensures { Tries front halves.now zones.now minima.now devices.now cells.now settings.old i t
@@ -137,10 +124,10 @@ pub fn try_at(
         front, halves, zones, minima, devices, cells, settings, starts, powers, i, a, t,
     );
     if is_empty(span) {
-        return Tried::Missed;
+        return None;
     }
     let old = online_at(settings, k);
-    let new = clamp(span, wide(old.0)) as u32;
+    let new = clamp(span, u64::from(old.0)) as u32;
     if try_power(
         front,
         halves,
@@ -156,7 +143,7 @@ pub fn try_at(
         k,
         Kw(new),
     ) {
-        return Tried::Found(new);
+        return Some(new);
     }
-    Tried::Missed
+    None
 }

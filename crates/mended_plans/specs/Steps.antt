@@ -1,5 +1,5 @@
 -- The steps of mending a plan's bytes against a decoded case: refused in reading; no rule broken; a rule broken.
-use Rattle.std.specs.Prelude.{◌≡◌, refl, List, ℕ, ◌*◌, ◌≤◌, length, ℤ}
+use Rattle.std.specs.Prelude.{Ok, Err, ◌≡◌, refl, List, ℕ, ◌*◌, ◌≤◌, length, ℤ}
 use Rattle.std.proofs.Common.{sym, ap, ◌∙◌, subst, arith, mul-le-mul}
 use Rattle.numbers.specs.Ranges.{sum-few}
 use Rattle.layouts.specs.declared.Fault.{Fault}
@@ -11,9 +11,7 @@ use Rattle.model.specs.Breaches.{breaches}
 use Rattle.model.specs.ByEdition.{Stated}
 use Rattle.model.specs.Editions.{most_zones, most_windows}
 use Rattle.model.specs.Judgement.{read_plan, our_surplus}
-use Rattle.message_ends.specs.Ended.{ended}
-use Rattle.message_ends.specs.declared.Ending.{Ending}
-use Rattle.message_ends.specs.declared.Ending.TheVariants.{Passes, Fails}
+use Rattle.message_ends.specs.Ended.{Ending, ended}
 use Rattle.row_places.specs.declared.Front.{Front}
 use Rattle.row_places.specs.Figures.{energies_at}
 use Rattle.records.specs.Views.{system_in, plan_in, most_devices}
@@ -23,8 +21,7 @@ use Rattle.completion_size.specs.Size.{interval_width, counts-few, interval-few}
 use Rattle.completions.specs.Windows.{Few, FewWindows, few-windows, windows_up_to}
 use Rattle.completions.specs.Whole.{needed_for}
 use Rattle.breaches.specs.First.{first}
-use Rattle.breaches.specs.declared.Check.{Check}
-use Rattle.breaches.specs.declared.Check.TheVariants as K
+use Rattle.std.specs.Prelude.{Option, Some, None}
 use Rattle.decoded_cases.specs.Decoded.{Decoded, Planned, stated_rows}
 use Rattle.decoded_cases.specs.Plans.{plan-read}
 use Rattle.market_copies.specs.Steps.{most_bytes}
@@ -66,10 +63,10 @@ module _ (front : Front) (halves : List ℕ) (zones minima devices cells setting
   judgeable d f = let r = f.rows zones minima in
       record { case_rows = d.decoded.rows; plan-rows = d.plan-rows; starts-full = omega (arith, r.starts-full); powers-full = r.powers-full }
 
-  pub mends-accepted : {k : Check} {z : ℤ} → k ≡ first (breaches q p) → k ≡ K.Held → z ≡ our_surplus x.case p → Accepted z ≡ mending_of x p
+  pub mends-accepted : {k : Option Breach} {z : ℤ} → k ≡ first (breaches q p) → k ≡ None → z ≡ our_surplus x.case p → Accepted z ≡ mending_of x p
   mends-accepted e f g = B.mends-accepted halves zones minima devices cells settings front.edition x.case.prices e f (ap Accepted g)
 
-  pub mends-broken : {k : Check} {b : Breach} {r : Mending} → k ≡ first (breaches q p) → k ≡ K.Broken b → r ≡ told (mended_from most_online q p b) → r ≡ mending_of x p
+  pub mends-broken : {k : Option Breach} {b : Breach} {r : Mending} → k ≡ first (breaches q p) → k ≡ Some b → r ≡ told (mended_from most_online q p b) → r ≡ mending_of x p
   mends-broken e f g = B.mends-broken halves zones minima devices cells settings front.edition x.case.prices e f g
 
 -- ---- a plan's bytes
@@ -90,12 +87,12 @@ module _ {front : Front} {halves : List ℕ} {zones minima devices cells : List 
   mends-plan : {r : Mending} → r ≡ mend_plan stated (read_plan stated ps) → MendsPlan front halves zones minima devices cells ps r
   mends-plan g = record { answer = g; promise = subst (PlanPromise stated ps) (sym g) (plan-promise stated ps) }
 
-  pub plan-fails : {f : Fault} → e ≡ Fails f → MendsPlan front halves zones minima devices cells ps (Refused S.Plan f)
+  pub plan-fails : {f : Fault} → e ≡ Err f → MendsPlan front halves zones minima devices cells ps (Refused S.Plan f)
   plan-fails {f} t =
       let g : read_plan stated ps ≡ fails f = sym (plan-read d ps settings e h) ∙ ap (ended planned) t in
       mends-plan (rw g refl)
 
-  pub plan-passes : {r : Mending} → e ≡ Passes → r ≡ mending_of stated planned → MendsPlan front halves zones minima devices cells ps r
+  pub plan-passes : {r : Mending} → e ≡ Ok tt → r ≡ mending_of stated planned → MendsPlan front halves zones minima devices cells ps r
   plan-passes t k =
       let g : read_plan stated ps ≡ passes planned = sym (plan-read d ps settings e h) ∙ ap (ended planned) t in
       mends-plan (rw g k)

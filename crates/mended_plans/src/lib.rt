@@ -8,9 +8,7 @@ ghost use Rattle.market_copies.specs.Steps.{most_bytes};
 ghost use Rattle.mending.specs.Mendings.{mending_of};
 ghost use Rattle.mended_plans.specs.Steps.{MendsPlan};
 
-use breaches::Check;
 use mending::Mending;
-use message_ends::Ending;
 use model::Subject;
 use row_places::{CellRow, DeviceRow, Front, MinimaRow, SettingRow, ZoneRow};
 
@@ -36,10 +34,10 @@ fn mend_settings(
         front, halves, zones, minima, devices, cells, settings, starts, powers,
     );
     match first {
-        Check::Broken(b) => mend_plans::mend_broken(
+        Some(b) => mend_plans::mend_broken(
             front, halves, zones, minima, devices, cells, settings, starts, powers, b,
         ),
-        Check::Held => {
+        None => {
             let z = completions::complete(
                 front, halves, zones, minima, devices, cells, settings, starts, powers, whole,
             );
@@ -69,8 +67,8 @@ pub fn mend_plan(
     let n = devices.len();
     let m = halves.len();
     match plan_reader::read_plan(plan, front.edition, n, m, settings) {
-        Ending::Fails(f) => Mending::Refused(Subject::Plan, f),
-        Ending::Passes => mend_settings(
+        Err(f) => Mending::Refused(Subject::Plan, f),
+        Ok(()) => mend_settings(
             front, halves, zones, minima, devices, cells, settings, starts, powers, whole,
         ),
     }

@@ -13,7 +13,7 @@ use Rattle.layouts.specs.declared.Fault.TheVariants as E
 use Rattle.layouts.specs.declared.Clash.{Clash}
 use Rattle.layouts.specs.declared.Clash.TheVariants.{Clear, At}
 use Rattle.layouts.specs.Layout.{or_else, first_one, tail_fault}
-use Rattle.message_ends.specs.declared.Ending.TheVariants.{Passes, Fails}
+use Rattle.std.specs.Prelude.{Ok, Err}
 use Rattle.message_ends.specs.Ended.{ending_of}
 
 -- the first bit that is 1, one turn of the search
@@ -58,11 +58,11 @@ module _ (s : List ℕ) (at : ℕ) {fill : Clash} (e : fill ≡ first_one s at (
 
 -- the end, by the tail and the first contradiction
 module _ (t c : Clash) {x : Clash} (e : x ≡ t) where
-  pub ends-tail : {b : ℕ} → x ≡ At b → Fails (E.Tail b) ≡ ending_of t c
+  pub ends-tail : {b : ℕ} → x ≡ At b → Err (E.Tail b) ≡ ending_of t c
   ends-tail h = ap (λ (y : Clash). ending_of y c) (sym h ∙ e)
 
-  pub ends-clash : {b : ℕ} → x ≡ Clear → c ≡ At b → Fails (E.Contradiction b) ≡ ending_of t c
+  pub ends-clash : {b : ℕ} → x ≡ Clear → c ≡ At b → Err (E.Contradiction b) ≡ ending_of t c
   ends-clash h k = ap (λ (y : Clash). ending_of Clear y) (sym k) ∙ ap (λ (y : Clash). ending_of y c) (sym h ∙ e)
 
-  pub ends-well : x ≡ Clear → c ≡ Clear → Passes ≡ ending_of t c
+  pub ends-well : x ≡ Clear → c ≡ Clear → Ok tt ≡ ending_of t c
   ends-well h k = ap (λ (y : Clash). ending_of Clear y) (sym k) ∙ ap (λ (y : Clash). ending_of y c) (sym h ∙ e)

@@ -8,24 +8,15 @@ ghost use Rattle.message_ends.specs.Ended.{ending_of};
 
 use layouts::{Clash, Fault, Place};
 
-// Whether a message passes reading.
-#[derive(Clone, Copy)]
-pub enum Ending {
-    Passes,
-    Fails(Fault),
-}
-
 // The first bit that is 1 from bit at on, up to bit end.
 fn first_one(s: &[u8], at: u64, end: u64) -> Clash
     requires { end ≤ 8 * length s.now }
     ensures { result ≡ first_one s.now at (end - at) }
 {
-    let mut i = at;
-    while i < end {
+    for i in at..end {
         if bits::bits_at(s, i, 1) != 0 {
             return Clash::At(i);
         }
-        i += 1;
     }
     Clash::Clear
 }
@@ -48,17 +39,15 @@ fn tail(s: &[u8], at: u64) -> Clash
 }
 
 // The end of a message whose fields were in range: 6, then 5.
-pub fn finish(s: &[u8], p: Place) -> Ending
+pub fn finish(s: &[u8], p: Place) -> Result<(), Fault>
     requires { p.at ≤ 8 * reach s.now }
     ensures { result ≡ ending_of (tail_fault s.now p.at) p.clash }
 {
-    let at = p.at;
-    let clash = p.clash;
-    match tail(s, at) {
-        Clash::At(b) => Ending::Fails(Fault::Tail(b)),
-        Clash::Clear => match clash {
-            Clash::At(b) => Ending::Fails(Fault::Contradiction(b)),
-            Clash::Clear => Ending::Passes,
+    match tail(s, p.at) {
+        Clash::At(b) => Err(Fault::Tail(b)),
+        Clash::Clear => match p.clash {
+            Clash::At(b) => Err(Fault::Contradiction(b)),
+            Clash::Clear => Ok(()),
         },
     }
 }

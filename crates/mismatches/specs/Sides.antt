@@ -1,5 +1,5 @@
 -- The powers of the two sides of each bar in one interval, and how far they are apart.
-use Rattle.std.specs.Prelude.{◌≡◌, Bool, true, false, ◌&&◌, List, [], eqb, get_or, ℤ, pos, neg_ℤ, nat_abs, ◌+ℤ◌, ◌-ℤ◌}
+use Rattle.std.specs.Prelude.{◌≡◌, Bool, true, false, ◌&&◌, List, eqb, get_or, pos, neg_ℤ, nat_abs, ◌+ℤ◌, ◌-ℤ◌}
 use Rattle.std.proofs.Math.Path.{refl, sym, ap, ap₂}
 use Rattle.std.proofs.Common.{◌∙◌, mul-le-mul, add-one, eq-eqb, ne_eqb}
 use Rattle.std.proofs.Math.Bool.{not}
@@ -86,20 +86,10 @@ module _ (s : Sides) (side p : ℕ) where
   abbrev on : Bool → Sides
   on b = pick b (sides_of (kw (s.consuming.0 + p)) s.producing) (sides_of s.consuming (kw (s.producing.0 + p)))
 
-  pub side-consuming : {x : Kw} → side ≡ 1 → x.0 ≡ s.consuming.0 + p → sides_of x s.producing ≡ with_side s side p
-  side-consuming h e = ap (λ (y : ℕ). sides_of (kw y) s.producing) e ∙ sym (ap on (eq-eqb side 1 h))
-
-  pub side-producing : {x : Kw} → (side ≡ 1 → ⊥) → x.0 ≡ s.producing.0 + p → sides_of s.consuming x ≡ with_side s side p
-  side-producing h e = ap (λ (y : ℕ). sides_of s.consuming (kw y)) e ∙ sym (ap on (ne_eqb side 1 h))
-
 -- ---- the bars
 
 abbrev pub bar_sides_of : Sides → Sides → BarSides
 bar_sides_of first second = record { first = first; second = second }
-
--- four sums, each as it is in one record of them
-pub sums-are : {a b c d e f g h : Kw} → a ≡ e → b ≡ f → c ≡ g → d ≡ h → bar_sides_of (sides_of a b) (sides_of c d) ≡ bar_sides_of (sides_of e f) (sides_of g h)
-sums-are i j k l = ap₂ (λ (x y : Sides). bar_sides_of x y) (ap₂ (λ (x y : Kw). sides_of x y) i j) (ap₂ (λ (x y : Kw). sides_of x y) k l)
 
 -- all powers together
 abbrev pub all_of : BarSides → ℕ
@@ -168,9 +158,6 @@ module _ (devices : List (List ℕ)) (powers : List ℕ) (m t : ℕ) where
       → y ≤ most_power → r ≡ with_bar s b x y → BarsSo devices powers m t (i + 1) r
   unfolding bars_to
   bars-next i {s} {r} {k} {b} {x} {y} h j a e f l g = record { is = g ∙ rw (add-one i, h.is, a, e, f, j) refl; small = rw g (omega (arith, bar-all s b x y, h.small)) }
-
-  pub bars-end : (i n : ℕ) {s : BarSides} → i ≤ n → n ≤ i → BarsSo devices powers m t i s → BarsSo devices powers m t n s
-  bars-end i n h l k = let j : i ≡ n = omega arith in rw j at k
 
   -- the code's two mismatches
   pub mismatches-made : {n f g : ℕ} {s : BarSides} {x y : Kw} → BarsSo devices powers m t n s → g ≡ f

@@ -3,7 +3,7 @@
 
 ghost use Rattle.std.specs.Prelude.{◌≡◌, ◌+◌, ◌-◌, ◌<◌, ◌^◌, length};
 ghost use Rattle.row_places.specs.Figures.{flow_at};
-ghost use Rattle.mismatches.specs.Sides.{Powered, Linked, BarsSo, bars_to, apart_of, mismatches_of};
+ghost use Rattle.mismatches.specs.Sides.{Powered, Linked, BarsSo, with_side, bars_to, apart_of, mismatches_of};
 
 use device_rows::{bar_at, side_at};
 use kilowatts::{Kw, NO_KW};
@@ -31,45 +31,47 @@ pub struct BarMismatches {
     pub second: Kw,
 }
 
+// A power more on a side.
+fn with_side(s: Sides, side: u32, p: Kw) -> Sides
+    requires { s.consuming.0 + s.producing.0 + p.0 < 2 ^ 32 }
+    ensures { result ≡ with_side s side p.0 }
+{
+    if side == 1 {
+        Sides {
+            consuming: s.consuming.plus(p),
+            ..s
+        }
+    } else {
+        Sides {
+            producing: s.producing.plus(p),
+            ..s
+        }
+    }
+}
+
 // The powers by bar and side in interval t of m.
 fn bar_sides(devices: &[DeviceRow], powers: &[u32], m: usize, t: usize) -> BarSides
     requires { Powered (length devices.now) m t powers.now }
     ensures { BarsSo devices.now powers.now m t (length devices.now) result }
 {
-    let mut first_consuming = Kw(0);
-    let mut first_producing = Kw(0);
-    let mut second_consuming = Kw(0);
-    let mut second_producing = Kw(0);
-    let mut i = 0;
-    let mut k = t;
-    while i < devices.len() {
-        let p = Kw(powers[k]);
+    let none = Sides {
+        consuming: Kw(0),
+        producing: Kw(0),
+    };
+    let mut s = BarSides {
+        first: none,
+        second: none,
+    };
+    for i in 0..devices.len() {
+        let p = Kw(powers[i * m + t]);
         let side = side_at(devices, i);
         if bar_at(devices, i) == 0 {
-            if side == 1 {
-                first_consuming = first_consuming.plus(p);
-            } else {
-                first_producing = first_producing.plus(p);
-            }
+            s.first = with_side(s.first, side, p);
         } else {
-            if side == 1 {
-                second_consuming = second_consuming.plus(p);
-            } else {
-                second_producing = second_producing.plus(p);
-            }
+            s.second = with_side(s.second, side, p);
         }
-        k += m;
-        i += 1;
     }
-    let first = Sides {
-        consuming: first_consuming,
-        producing: first_producing,
-    };
-    let second = Sides {
-        consuming: second_consuming,
-        producing: second_producing,
-    };
-    BarSides { first, second }
+    s
 }
 
 // How far a bar's load is from its production, with what the link adds to each.

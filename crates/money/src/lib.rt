@@ -82,12 +82,6 @@ fn on_money(l: Ledger, rate: u32, on: u32, minutes: u32) -> Ledger
     l.spend(due(cost_over(rate, minutes), on))
 }
 
-fn money_of(x: u32) -> Grains
-    ensures { result.0 ≡ x }
-{
-    Grains(x as u64)
-}
-
 // A startup state's cost, which is kept from 0.
 fn state_money(l: Ledger, devices: &[DeviceRow], i: usize, state: u32) -> Ledger
     requires { (i < length devices.now) × Room cell_most l × (state ≤ most_states) × StateBelow (device_at devices.now i) state }
@@ -96,9 +90,8 @@ fn state_money(l: Ledger, devices: &[DeviceRow], i: usize, state: u32) -> Ledger
     if state == 0 {
         return l;
     }
-    let k = (state - 1) as usize;
-    let s = state_at(devices, i, k);
-    l.earn(Grains(COST_OFFSET)).spend(money_of(s.cost))
+    let s = state_at(devices, i, (state - 1) as usize);
+    l.earn(Grains(COST_OFFSET)).spend(Grains(u64::from(s.cost)))
 }
 
 // "start, stop and state costs"
@@ -178,12 +171,15 @@ pub fn cell_money(
     requires { (i < length devices.now) × Room 0 l × Ruled (device_at devices.now i) cell setting p.0 minutes x }
     ensures { CellEntered (device_at devices.now i) cell setting p.0 minutes x l result }
 {
-    let amounts = setting.reserves;
-    let prices = cell.reserves;
-    let reserved = reserves_money(l, amounts, prices, setting.on, minutes);
-    let powers = x.blocks;
-    let kept = cell.prices;
-    let traded = blocks_money(reserved, side_at(devices, i), p, powers, kept, minutes);
+    let reserved = reserves_money(l, setting.reserves, cell.reserves, setting.on, minutes);
+    let traded = blocks_money(
+        reserved,
+        side_at(devices, i),
+        p,
+        x.blocks,
+        cell.prices,
+        minutes,
+    );
     let running = on_money(traded, oncost_at(devices, i), setting.on, minutes);
     change_money(running, devices, i, x.started, x.stopped, x.state)
 }

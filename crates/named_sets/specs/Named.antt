@@ -1,7 +1,7 @@
 -- The sets that are named, place by place.
-use Rattle.std.specs.Prelude.{◌≡◌, Bool, ◌&&◌, ◌||◌, List, [], ◌∷◌, ℕ, suc, ◌+◌, ◌-◌, ◌≤◌, ◌<◌, length, get_or, drop}
+use Rattle.std.specs.Prelude.{◌≡◌, Bool, ◌&&◌, List, ℕ, ◌+◌, ◌-◌, ◌≤◌, ◌<◌, length, get_or, drop}
 use Rattle.std.proofs.Math.Path.{refl, ap}
-use Rattle.std.proofs.Common.{sym, ◌∙◌, arith, drop_of_length-le, drop-cons}
+use Rattle.std.proofs.Common.{◌∙◌, arith, drop_of_length-le, drop-cons}
 use Rattle.std.proofs.Math.Bool.{true, false, not}
 use Rattle.std.proofs.Math.Numerals.{add-one}
 use borrow.Author.Tests.{le-leb, lt-leb, leb-true}
@@ -22,29 +22,7 @@ produces devices s = counted (length devices) s && not (eqb (side_at devices (s 
 unfoldable pub named : List (List ℕ) → List ℕ → Bool
 named devices sets = every (produces devices) sets && once sets
 
-module _ (devices : List (List ℕ)) (s : ℕ) where
-  pub produces-below : s < 1 → produces devices s ≡ false
-  produces-below h = rw (lt-leb 1 s h) refl
-
-  pub produces-above : length devices < s → produces devices s ≡ false
-  produces-above h = go (leb 1 s) ∙ refl
-    where
-      go : (b : Bool) → (b && leb s (length devices)) && not (eqb (side_at devices (s - 1)) 1) ≡ false
-      go true = rw (lt-leb s (length devices) h) refl
-      go false = refl
-
-  pub produces-here : 1 ≤ s → s ≤ length devices → produces devices s ≡ not (eqb (side_at devices (s - 1)) 1)
-  produces-here h l = rw (le-leb 1 s h, le-leb s (length devices) l) refl
-
 module _ (sets : List ℕ) where
-  pub among-end : (s k : ℕ) → length sets ≤ k → among s (drop k sets) ≡ false
-  unfolding among
-  among-end s k h = rw (drop_of_length-le sets h)
-
-  pub among_next : (s k : ℕ) → k < length sets → among s (drop k sets) ≡ eqb s (get_or sets k 0) || among s (drop (k + 1) sets)
-  unfolding among
-  among_next s k h = rw (drop-cons sets k 0 h, add-one k)
-
   module _ (devices : List (List ℕ)) where
     pub named_end : (k : ℕ) → length sets ≤ k → named devices (drop k sets) ≡ true
     unfolding named once every

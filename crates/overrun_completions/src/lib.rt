@@ -1,7 +1,7 @@
 // The overruns of our completion: each is computed once, its money entered in a ledger and its bits written behind those before it.
 #![tactic(auto)]
 
-ghost use Rattle.std.specs.Prelude.{◌≡◌, ◌*◌, ◌<◌, length};
+ghost use Rattle.std.specs.Prelude.{◌*◌, ◌<◌, length};
 ghost use Rattle.model.specs.Judgement.{energy_windows};
 ghost use Rattle.pen.specs.Pens.{Ready};
 ghost use Rattle.pen.specs.Runs.{Room};
@@ -20,7 +20,7 @@ use progress::Progress;
 use row_places::{CellRow, DeviceRow, Front, MinimaRow, SettingRow, ZoneRow};
 use slack_money::overrun_money;
 
-// The energy windows of device i, whose powers begin at a.
+// The energy windows of device i.
 fn complete_windows(
     front: Front,
     halves: &[u32],
@@ -32,27 +32,24 @@ fn complete_windows(
     starts: &[u32],
     powers: &[u32],
     i: usize,
-    a: usize,
     buf: &mut [u8],
     p: Progress,
 ) -> Progress
-    requires unbroken { Unbroken front halves.now zones.now minima.now devices.now cells.now settings.now starts.now powers.now × (i < length devices.now)
-        × (a ≡ i * length halves.now) }
+    requires unbroken { Unbroken front halves.now zones.now minima.now devices.now cells.now settings.now starts.now powers.now × (i < length devices.now) }
     requires ready { Ready p.pen × Room buf.old p.pen (windows_of (system_in halves.now zones.now minima.now devices.now cells.now) i * overrun_width)
         × Spare windows_cost_most p.money }
     ensures { WindowsAdvance front halves.now zones.now minima.now devices.now cells.now settings.now i
         buf.old buf.new p result }
 {
+    let a = i * halves.len();
     let e = a + halves.len();
     let n = energies_at(devices, i);
     let mut money = p.money;
     let mut pen = p.pen;
-    let mut w = 0;
-    while w < n {
+    for w in 0..n {
         let over = overrun(energy_at(devices, i, w), starts, &powers[a..e]);
         money = overrun_money(money, over, front.overrun);
         pen = put_overrun(buf, pen, over);
-        w += 1;
     }
     Progress { money, pen }
 }
@@ -78,14 +75,10 @@ pub fn complete_overruns(
         (length devices.now) buf.old buf.new p result }
 {
     let mut q = p;
-    let mut i = 0;
-    let mut a = 0;
-    while i < devices.len() {
+    for i in 0..devices.len() {
         q = complete_windows(
-            front, halves, zones, minima, devices, cells, settings, starts, powers, i, a, buf, q,
+            front, halves, zones, minima, devices, cells, settings, starts, powers, i, buf, q,
         );
-        a += halves.len();
-        i += 1;
     }
     q
 }

@@ -1,7 +1,7 @@
 -- The energy of a device in a window, and its overrun.
-use Rattle.std.specs.Prelude.{◌≡◌, Bool, ◌&&◌, List, [], ltb, leb, eqb, length, ◌-ℤ◌}
+use Rattle.std.specs.Prelude.{◌≡◌, Bool, List, [], eqb, length, ◌-ℤ◌}
 use Rattle.std.proofs.Math.Path.{refl, sym, ap, ap₂}
-use Rattle.std.proofs.Common.{subst, ◌∙◌, add-zero, add-suc, eq-eqb, ne_eqb}
+use Rattle.std.proofs.Common.{subst, ◌∙◌, add-zero, add-suc}
 use Rattle.std.proofs.Math.Bool.{true, false}
 use Prim.Native.Nat.{ℕ, zero, suc, ◌+◌, ◌-◌, ◌*◌, ◌≤◌, ◌<◌, min, max}
 use native.Mathlib.Omega.{arith}
@@ -10,10 +10,9 @@ use Rattle.std.proofs.Math.Nat.{mul_comm, mul-le-mul}
 use Rattle.std.proofs.Math.ListN.{get_or}
 use Rattle.std.proofs.Math.IntN.{pos}
 use Rattle.numbers.specs.Laws.{max_zero, above-is}
-use Rattle.numbers.specs.Sum.{sumℕ, gate}
+use Rattle.numbers.specs.Sum.{sumℕ}
 use Rattle.bits.specs.Pick.{pick}
 use Rattle.numbers.specs.Base.{range, up_to}
-use Rattle.model.specs.Case as M
 use Rattle.model.specs.Case.{System, Plan}
 use Rattle.model.specs.Forced.{energy_window, power}
 use Rattle.model.specs.Completion as C
@@ -63,9 +62,6 @@ module _ (w : EnergyWindow) (starts powers : List ℕ) where
   spent-start = record { is = refl; spent-small = omega arith }
 
   module _ (r : Running starts powers) (t : ℕ) (l : t < length powers) {e v y : ℕ} (s : Spent w starts powers t e) (n : v ≤ longest) (d : y ≡ get_or powers t 0 * v) where
-    pub spent-room : e + y < 18446744073709551616
-    spent-room = omega (arith, s.spent-small, mul-le-mul (r.small t l) n, r.few)
-
     pub spent-next : {z : ℕ} → v ≡ minutes_of w (get_or starts t 0) (get_or starts (t + 1) 0) → z ≡ e + y → Spent w starts powers (t + 1) z
     unfolding energy_to
     spent-next f z = rw (z, add-one t) record {
@@ -98,17 +94,6 @@ module _ (w : EnergyWindow) (starts powers : List ℕ) where
   spent-rest r t h l s =
       let n : t + (length powers - t) ≡ length powers = omega arith in
       s.is ∙ sym (rest-none r t (length powers - t) (omega arith) l).1 ∙ ap (energy_to w starts powers) n
-
-  pub spent-end : (t n : ℕ) {e : ℕ} → t ≤ n → n ≤ t → Spent w starts powers t e → e ≡ energy_to w starts powers n
-  spent-end t n h l s = let m : t ≡ n = omega arith in s.is ∙ ap (energy_to w starts powers) m
-
--- the code's two answers
-module _ (w : EnergyWindow) (e : ℕ) where
-  pub over-maximum : {r : ℕ} → w.kind ≡ 0 → r ≡ e - w.energy.0 → r ≡ over_of w e
-  over-maximum k g = g ∙ sym (ap (λ (b : Bool). pick b (e - w.energy.0) (w.energy.0 - e)) (eq-eqb w.kind 0 k))
-
-  pub below-minimum : {r : ℕ} → (w.kind ≡ 0 → ⊥) → r ≡ w.energy.0 - e → r ≡ over_of w e
-  below-minimum k g = g ∙ sym (ap (λ (b : Bool). pick b (e - w.energy.0) (w.energy.0 - e)) (ne_eqb w.kind 0 k))
 
 -- ---- a decoded case and plan
 

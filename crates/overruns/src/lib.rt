@@ -1,33 +1,21 @@
 // An energy window's overrun, at its need.
 #![tactic(auto)]
 
-ghost use Rattle.std.specs.Prelude.{◌≡◌, ◌+◌, ◌-◌, ◌<◌, ◌≤◌, min, max, length};
+ghost use Rattle.std.specs.Prelude.{◌≡◌, ◌+◌, ◌-◌, ◌<◌, ◌≤◌, length};
 ghost use Rattle.overruns.specs.Energies.{longest, minutes_of, Running, Spent, energy_to, over_of};
 
 use energy::KwMin;
 use kilowatts::Kw;
 use row_places::EnergyWindow;
 
-fn later(a: u32, b: u32) -> u32
-    ensures { result ≡ max a b }
-{
-    if a <= b { b } else { a }
-}
-
-fn earlier(a: u32, b: u32) -> u32
-    ensures { result ≡ min a b }
-{
-    if a <= b { a } else { b }
-}
-
 // The minutes that an interval from start to end shares with a window, 0 where they do not meet.
 fn minutes_in(w: EnergyWindow, start: u32, end: u32) -> u32
     requires { end ≤ start + longest }
     ensures { (result ≡ minutes_of w start end) × (result ≤ longest) }
 {
-    let from = later(start, w.from);
-    let until = earlier(end, w.until);
-    if from <= until { until - from } else { 0 }
+    let from = start.max(w.from);
+    let until = end.min(w.until);
+    until.saturating_sub(from)
 }
 
 // The intervals that end before a window, or where it begins.
@@ -35,14 +23,12 @@ fn ahead_of(w: EnergyWindow, starts: &[u32], powers: &[u32]) -> usize
     requires { Running starts.now powers.now }
     ensures { (result ≤ length powers.now) × Spent w starts.now powers.now result 0 }
 {
-    let mut t = 0;
-    while t < powers.len() {
+    for t in 0..powers.len() {
         if w.from < starts[t + 1] {
             return t;
         }
-        t += 1;
     }
-    t
+    powers.len()
 }
 
 // A device's energy in a window, over its part of the powers: only the intervals that meet the window are looked at.
@@ -50,15 +36,13 @@ fn energy_in(w: EnergyWindow, starts: &[u32], powers: &[u32]) -> KwMin
     requires { Running starts.now powers.now }
     ensures { result.0 ≡ energy_to w starts.now powers.now (length powers.now) }
 {
-    let mut t = ahead_of(w, starts, powers);
     let mut energy = KwMin(0);
-    while t < powers.len() {
+    for t in ahead_of(w, starts, powers)..powers.len() {
         if w.until <= starts[t] {
             return energy;
         }
         let minutes = minutes_in(w, starts[t], starts[t + 1]);
         energy = energy.plus(Kw(powers[t]).over(minutes));
-        t += 1;
     }
     energy
 }

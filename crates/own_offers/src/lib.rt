@@ -24,7 +24,7 @@ pub struct Listed {
 fn price_of(kept: u32) -> i64
     ensures { result ≡ less price_offset kept }
 {
-    kept as i64 - 10_000
+    i64::from(kept) - 10_000
 }
 
 // Block b of a cell as an offer of set s.
@@ -32,18 +32,12 @@ fn offer_of(c: Cell, s: u64, b: usize) -> Offer
     requires { b < 4 }
     ensures { result ≡ block_offer c s b }
 {
-    let caps = c.caps;
-    let floors = c.floors;
-    let prices = c.prices;
-    let cap = caps[b];
-    let floor = floors[b];
-    let price = price_of(prices[b]);
     Offer {
         set: s,
         block: b as u64 + 1,
-        cap: cap.0 as u64,
-        floor: floor.0 as u64,
-        price: price,
+        cap: u64::from(c.caps[b].0),
+        floor: u64::from(c.floors[b].0),
+        price: price_of(c.prices[b]),
     }
 }
 
@@ -65,19 +59,12 @@ pub fn own_offers(
 {
     let mut all = no_offers();
     let mut n = 0;
-    let mut k = 0;
-    while k < sets.len() {
-        let s = sets[k];
-        let c = cell_at(cells, (s - 1) as usize * halves.len() + t);
-        let count = c.blocks as usize;
-        let mut b = 0;
-        while b < count {
-            let o = offer_of(c, s, b);
-            all[n] = o;
+    for s in sets {
+        let c = cell_at(cells, (*s - 1) as usize * halves.len() + t);
+        for b in 0..c.blocks as usize {
+            all[n] = offer_of(c, *s, b);
             n += 1;
-            b += 1;
         }
-        k += 1;
     }
-    Listed { all: all, n: n }
+    Listed { all, n }
 }

@@ -3,18 +3,21 @@ use mathlib.Core.Path.{◌≡◌, refl, sym, ◌∙◌, ap, subst}
 use mathlib.Core.List.{List, ◌++◌, append_assoc}
 use Prim.Native.Nat.{ℕ, ◌+◌, ◌-◌, ◌*◌, ◌/◌, ◌%◌, ◌^◌, ◌≤◌, ◌<◌}
 use native.Mathlib.Omega.{arith}
-use native.Mathlib.Nat.{add-zero, mul-one, mod-lt}
+use native.Mathlib.Nat.{mul-one, mod-lt}
 use Rattle.bits.proofs.Laws.{one_shl}
 use lib.Arith.{digits_lt}
 use lib.Bits.{bit_and, and_mask}
-use lib.ListN.{length, drop, set, length-append, length-drop}
+use lib.ListN.{length, take, drop, length-append, length-drop, take-append-drop}
 use lib.Pow.{pow-add, pow_mono, pow_pos, shl_exact, shr_lt, split}
-use lib.Seq.{drop-drop}
+use lib.Seq.{drop-drop, length-take-le}
+use mir.Syntax.{w64}
+use borrow.Rule.Slice.PartMut.{put_mid}
+use Rattle.std.specs.Int.{to_be_bytes}
 use Rattle.numbers.specs.Every.{all_append}
 use Rattle.layouts.specs.Layout.{bits_of, bytes}
 use Rattle.layouts.specs.Trip.{length-bits, length-bytes, bits_small}
 use Rattle.pen.specs.Stored.{stored}
-use Rattle.pen.proofs.Bytes.{num, num-bits, digits, stored-digits, bytes-digits, bytes-append}
+use Rattle.pen.proofs.Bytes.{num-bits, digits, stored-digits, bytes-digits, bytes-append}
 use Rattle.pen.proofs.Stores.{length-stored}
 use Rattle.pen.proofs.Stores.{joined}
 use Rattle.pen.specs.declared.Pen.{Pen}
@@ -32,20 +35,26 @@ behind before front at w v m t lf small e lt room =
     ∙ (stored-digits (bytes front) (drop at before) m (v * 2 ^ t) (simp length-drop (omega arith))
     ∙ rw (sym d, f, bytes-append at front (bits_of w v) lf) (sym (append_assoc (bytes front) (bytes (bits_of w v)) (drop (at + m) before))))
 
--- the eight stores of a word
-pub eight-sets : (l : List ℕ) (j v : ℕ)
-    → set (set (set (set (set (set (set (set l (j + 7) (v % 256)) (j + 6) (v / 2 ^ 8 % 256)) (j + 5) (v / 2 ^ 16 % 256)) (j + 4) (v / 2 ^ 24 % 256)) (j + 3)
-    (v / 2 ^ 32 % 256)) (j + 2) (v / 2 ^ 40 % 256)) (j + 1) (v / 2 ^ 48 % 256)) j (v / 2 ^ 56 % 256)
-    ≡ stored l j 8 v
-unfolding stored
-eight-sets l j v =
+-- the eight bytes of a word, highest first
+word-digits : (v : ℕ) → digits 8 v ≡ to_be_bytes w64 v
+unfolding digits
+word-digits v =
     let a : v / 256 / 256 ≡ v / 65536 = omega arith in
     let b : v / 65536 / 256 ≡ v / 16777216 = omega arith in
     let c : v / 16777216 / 256 ≡ v / 4294967296 = omega arith in
     let d : v / 4294967296 / 256 ≡ v / 1099511627776 = omega arith in
     let e : v / 1099511627776 / 256 ≡ v / 281474976710656 = omega arith in
     let f : v / 281474976710656 / 256 ≡ v / 72057594037927936 = omega arith in
-    sym (rw (a, b, c, d, e, f, add-zero j) refl)
+    rw (a, b, c, d, e, f) refl
+
+-- a word written over eight bytes
+pub word-stored : (l part : List ℕ) (j n v : ℕ) → n ≡ 8 → j + 8 ≤ length l → part ≡ to_be_bytes w64 v → put_mid j n l part ≡ stored l j 8 v
+word-stored l part j n v e h d =
+    let lt : length (take j l) ≡ j = length-take-le j l (omega arith) in
+    let t : take j l ++ drop j l ≡ l = take-append-drop j l in
+    let s : stored (take j l ++ drop j l) (length (take j l)) 8 v ≡ take j l ++ (digits 8 v ++ drop 8 (drop j l)) = stored-digits (take j l) (drop j l) 8 v (simp length-drop (omega arith)) in
+    let w : part ≡ digits 8 v = d ∙ sym (word-digits v) in
+    rw (e, w) (sym s ∙ rw (t, lt) refl)
 
 length-penned : {before after : List ℕ} {p : Pen} {bits : List ℕ} → Penned before after p bits → length after ≡ length before
 length-penned W = ap length W.wrote ∙ simp (length-append, length-drop) (let l = length-bytes W.front in let r = W.room in let h = W.whole in omega arith)

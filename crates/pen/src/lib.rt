@@ -1,7 +1,7 @@
 // Fields written one behind the other through a number of pending bits, which is stored eight bytes at a time.
 #![tactic(auto)]
 
-ghost use Rattle.std.specs.Prelude.{◌≡◌, length, drop, ◌++◌, ◌+◌, ◌-◌, ◌*◌, ◌%◌, ◌^◌, ◌≤◌, ◌<◌};
+ghost use Rattle.std.specs.Prelude.{◌≡◌, length, ◌+◌, ◌-◌, ◌*◌, ◌^◌, ◌≤◌, ◌<◌};
 ghost use Rattle.layouts.specs.Layout.{bits_of};
 ghost use Rattle.pen.specs.Stored.{stored};
 ghost use Rattle.pen.specs.Pens.{Ready, Pushes, Finishes};
@@ -14,25 +14,12 @@ pub struct Pen {
     pub at: usize,
 }
 
-fn low(x: u64) -> u8
-    ensures { result ≡ x % 256 }
-{
-    (x % 256) as u8
-}
-
 // A number in the eight bytes from j on: one swap and one store.
 fn store_word(buf: &mut [u8], j: usize, v: u64)
     requires { j + 8 ≤ length buf.old }
     ensures { buf.new ≡ stored buf.old j 8 v }
 {
-    buf[j + 7] = low(v);
-    buf[j + 6] = low(v >> 8);
-    buf[j + 5] = low(v >> 16);
-    buf[j + 4] = low(v >> 24);
-    buf[j + 3] = low(v >> 32);
-    buf[j + 2] = low(v >> 40);
-    buf[j + 1] = low(v >> 48);
-    buf[j] = low(v >> 56);
+    buf[j..j + 8].copy_from_slice(&v.to_be_bytes());
 }
 
 // A number in the bytes from `first` up to `end`, its lowest byte last.
@@ -41,11 +28,9 @@ fn store(buf: &mut [u8], first: usize, end: usize, all: u64)
     ensures { buf.new ≡ stored buf.old first (end - first) all }
 {
     let mut rest = all;
-    let mut j = end;
-    while first < j {
-        j -= 1;
+    for j in (first..end).rev() {
         buf[j] = (rest % 256) as u8;
-        rest = rest / 256;
+        rest /= 256;
     }
 }
 

@@ -1,7 +1,7 @@
 -- What a plan written anew is: its content's bytes in the newest edition, or the buffer as it was and the bytes needed.
-use Rattle.std.specs.Prelude.{◌≡◌, ℕ, ◌+◌, ◌*◌, ◌≤◌, ◌<◌}
+use Rattle.std.specs.Prelude.{◌≡◌, ℕ, ◌*◌, ◌≤◌}
 use Rattle.std.proofs.Math.Path.{refl, ap}
-use Rattle.std.proofs.Common.{sym, ◌∙◌, arith, le-leb}
+use Rattle.std.proofs.Common.{◌∙◌, arith, le-leb}
 use mathlib.Core.List.{List, ◌++◌}
 use Rattle.std.proofs.Math.Decide.{dec_le}
 use Rattle.std.proofs.lemmas.Bool.{lt-leb}
@@ -11,9 +11,9 @@ use Rattle.layouts.specs.Layout.{passes, bytes, read_whole}
 use Rattle.model.specs.Case.{Plan}
 use Rattle.model.specs.Editions.{newest, most_devices, most_intervals}
 use Rattle.model.specs.ByEdition.{plan_layout}
-use Rattle.writing.specs.Anew.{rows_bytes, Writings, writing, put}
+use Rattle.writing.specs.Anew.{rows_bytes, writing, put}
 use Rattle.writing.proofs.Same.{rows_fit}
-use Rattle.writing.specs.Splice.{past, spliced}
+use Rattle.writing.specs.Splice.{spliced}
 use Rattle.writing.proofs.Splice.{past_up}
 use Rattle.writing.specs.PlanSplices.{plan_splice, front_of}
 use Rattle.writing.proofs.PlanSplices.{plan-spliced}

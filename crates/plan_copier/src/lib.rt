@@ -8,12 +8,11 @@ ghost use Rattle.layouts.specs.Since.{has};
 ghost use Rattle.writing.specs.Splice.{keep, add, ◌⨾◌, times};
 ghost use Rattle.writing.specs.PlanSplices.{setting_splice, plan_splice, front_of};
 ghost use Rattle.pen.specs.Pens.{Ready};
-ghost use Rattle.bit_copier.specs.Moves.{Set, Moves, start, Renews};
+ghost use Rattle.bit_copier.specs.Moves.{Set, Moves, Renews};
 ghost use Rattle.plan_copier.specs.Fronts.{Fronts};
 
-use bit_copier::{Copier, add_field, bytes_in, close, keep_run, keep_since};
+use bit_copier::{Copier, add_field, copy_each, keep_run, keep_since, renew};
 use editions::{NEWEST, device_bits, interval_bits};
-use pen::Pen;
 
 // The widths of a plan's fields: kind, edition and, as the newest edition has them, the counts; in each interval and device its on, online power and eight
 // reserves, then reactive power and two reactive reserves; behind an interval's devices the flow.
@@ -52,48 +51,15 @@ fn copy_setting(s: &[u8], buf: &mut [u8], q: Copier, edition: u32) -> Copier
     keep_since(s, buf, q, edition, REACTIVE_EDITION, REACTIVE_BITS, 0)
 }
 
-// An interval's devices.
-fn copy_settings(s: &[u8], buf: &mut [u8], q: Copier, edition: u32, devices: u64) -> Copier
-    requires { Set s.now q }
-    ensures { Moves (times devices (setting_splice edition)) s.now buf.old buf.new q result }
-{
-    let mut t = q;
-    let mut k = 0;
-    while k < devices {
-        t = copy_setting(s, buf, t, edition);
-        k += 1;
-    }
-    t
-}
-
 // An interval: its devices, and since edition 5 its flow.
 fn copy_interval(s: &[u8], buf: &mut [u8], q: Copier, edition: u32, devices: u64) -> Copier
     requires { Set s.now q }
     ensures { Moves (times devices (setting_splice edition) ⨾ pick (has 5 edition) (keep 18) (add 18 0)) s.now buf.old buf.new q result }
 {
-    let q = copy_settings(s, buf, q, edition, devices);
+    let q = copy_each(buf, q, devices, move |buf, q| {
+        copy_setting(s, buf, q, edition)
+    });
     keep_since(s, buf, q, edition, FLOW_EDITION, FLOW_BITS, 0)
-}
-
-// So many intervals.
-fn copy_rows(
-    s: &[u8],
-    buf: &mut [u8],
-    q: Copier,
-    edition: u32,
-    devices: u64,
-    intervals: u64,
-) -> Copier
-    requires { Set s.now q }
-    ensures { Moves (times intervals (times devices (setting_splice edition) ⨾ pick (has 5 edition) (keep 18) (add 18 0))) s.now buf.old buf.new q result }
-{
-    let mut t = q;
-    let mut k = 0;
-    while k < intervals {
-        t = copy_interval(s, buf, t, edition, devices);
-        k += 1;
-    }
-    t
 }
 
 // Where a plan's rows begin.
@@ -115,19 +81,21 @@ fn add_front(buf: &mut [u8], q: Copier, devices: u64, intervals: u64) -> Copier
 }
 
 // One pass over a plan: its front new, its rows from behind the old one.
-fn copy_plan(s: &[u8], buf: &mut [u8], edition: u32, devices: u64, intervals: u64) -> Copier
-    requires { (front_of edition ≤ 8 * reach s.now) × (devices < 2 ^ 7) × (intervals < 2 ^ 7) }
-    ensures { Moves (plan_splice edition devices intervals) s.now buf.old buf.new (start (front_of edition)) result }
+fn copy_plan(
+    s: &[u8],
+    buf: &mut [u8],
+    q: Copier,
+    edition: u32,
+    devices: u64,
+    intervals: u64,
+) -> Copier
+    requires { Set s.now q × (devices < 2 ^ 7) × (intervals < 2 ^ 7) }
+    ensures { Moves (plan_splice edition devices intervals) s.now buf.old buf.new q result }
 {
-    let pen = Pen {
-        acc: 0,
-        n: 0,
-        at: 0,
-    };
-    let from = front_bits(edition);
-    let q = Copier { from, pen };
     let q = add_front(buf, q, devices, intervals);
-    copy_rows(s, buf, q, edition, devices, intervals)
+    copy_each(buf, q, intervals, move |buf, q| {
+        copy_interval(s, buf, q, edition, devices)
+    })
 }
 
 // A plan in the newest edition: how many bytes it takes, counted first; written only where they fit.
@@ -135,15 +103,8 @@ pub fn renew_plan(s: &[u8], buf: &mut [u8], edition: u32, devices: u64, interval
     requires { (front_of edition ≤ 8 * reach s.now) × (devices < 2 ^ 7) × (intervals < 2 ^ 7) }
     ensures { Renews (plan_splice edition devices intervals) (front_of edition) s.now buf.old buf.new result }
 {
-    let mut none = [0u8; 1];
-    let counted = copy_plan(s, &mut none, edition, devices, intervals);
-    let p = counted.pen;
-    let needed = bytes_in(p);
-    if (buf.len() as u64) < needed {
-        return needed;
-    }
-    let copied = copy_plan(s, buf, edition, devices, intervals);
-    let p = copied.pen;
-    close(buf, p);
-    needed
+    let from = front_bits(edition);
+    renew(buf, from, move |buf, q| {
+        copy_plan(s, buf, q, edition, devices, intervals)
+    })
 }

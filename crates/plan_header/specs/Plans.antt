@@ -1,14 +1,12 @@
 -- A plan message of every edition: what stands ahead of its settings, the rows that it is read into, and what reading it leaves in them.
-use Rattle.std.specs.Prelude.{◌≡◌, List, ℕ, ◌*◌, ◌≤◌, length}
+use Rattle.std.specs.Prelude.{Ok, Err, ◌≡◌, List, ℕ, ◌*◌, ◌≤◌, length}
 use Rattle.layouts.specs.declared.Fault.{Fault}
 use Rattle.layouts.specs.Layout.{Layout, nat, held, ◌▸◌, count_of, fixed, read_whole}
 use Rattle.layouts.specs.Numbers.{Tells}
 use Rattle.model.specs.Editions.{device_bits, interval_bits}
 use Rattle.model.specs.ByEdition.{plan_kind, plan_layout}
 use Rattle.records.specs.Views.{most_devices, most_intervals, plan_in, PlanRows}
-use Rattle.message_ends.specs.Ended.{ended}
-use Rattle.message_ends.specs.declared.Ending.{Ending}
-use Rattle.message_ends.specs.declared.Ending.TheVariants.{Passes, Fails}
+use Rattle.message_ends.specs.Ended.{Ending, ended}
 
 -- "kind 4 (2); edition 4; devices 5; intervals 6, equal to the case's", of which the last is kept
 unfoldable pub header : ℕ → ℕ → ℕ → Layout ℕ
@@ -27,5 +25,5 @@ pub record PlanRoom (devices intervals : ℕ) (settings : List (List ℕ)) : Typ
 -- a plan message s of edition e for a case with these counts, read into the rows: its fault, with what that tells of it, or its settings, each in its range
 pub record PlanDone (e devices intervals : ℕ) (s : List ℕ) (settings : List (List ℕ)) (r : Ending) : Type 0 where
   pub reads : ended (plan_in devices intervals settings) r ≡ read_whole (plan_layout e devices intervals) s
-  pub refused : (f : Fault) → r ≡ Fails f → Tells (plan_layout e devices intervals) s f
-  pub rows : r ≡ Passes → PlanRows devices intervals settings
+  pub refused : (f : Fault) → r ≡ Err f → Tells (plan_layout e devices intervals) s f
+  pub rows : r ≡ Ok tt → PlanRows devices intervals settings

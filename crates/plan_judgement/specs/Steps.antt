@@ -1,5 +1,5 @@
 -- The steps of judging a plan's bytes: refused in reading; a rule broken; none broken.
-use Rattle.std.specs.Prelude.{◌≡◌, refl, List, [], ◌∷◌, ℕ, length}
+use Rattle.std.specs.Prelude.{Ok, Err, ◌≡◌, refl, List, [], ◌∷◌, ℕ, length}
 use Rattle.std.proofs.Common.{sym, ap, ◌∙◌, arith}
 use Rattle.layouts.specs.declared.Fault.{Fault}
 use Rattle.layouts.specs.Layout.{passes, fails}
@@ -12,15 +12,12 @@ use Rattle.model.specs.ByEdition.{Stated}
 use Rattle.model.specs.Breaches.{breaches}
 use Rattle.model.proofs.Named.{none-every}
 use Rattle.model.specs.Judgement.{verdict, unless_broken, read_plan}
-use Rattle.message_ends.specs.Ended.{ended}
-use Rattle.message_ends.specs.declared.Ending.{Ending}
-use Rattle.message_ends.specs.declared.Ending.TheVariants.{Passes, Fails}
+use Rattle.message_ends.specs.Ended.{Ending, ended}
 use Rattle.row_places.specs.declared.Front.{Front}
 use Rattle.records.specs.Views.{system_in, plan_in, Ready}
 use Rattle.plan_header.specs.Plans.{PlanDone}
 use Rattle.breaches.specs.First.{first, none_first}
-use Rattle.breaches.specs.declared.Check.{Check}
-use Rattle.breaches.specs.declared.Check.TheVariants as K
+use Rattle.std.specs.Prelude.{Option, Some, None}
 use Rattle.decoded_cases.specs.Decoded.{Decoded, stated_rows}
 use Rattle.decoded_cases.specs.Plans.{plan-read}
 use Rattle.acceptance.specs.Decided.{Decides, Kept, decides}
@@ -28,12 +25,12 @@ use Rattle.plan_judgement.specs.JudgesPlan.{JudgesPlan, judges-plan}
 
 -- ---- the rules
 
-breach-head : (bs : List Breach) (b : Breach) (v : Verdict) → first bs ≡ K.Broken b → unless_broken bs v ≡ Broken b
+breach-head : (bs : List Breach) (b : Breach) (v : Verdict) → first bs ≡ Some b → unless_broken bs v ≡ Broken b
 unfolding first
 breach-head [] b v e = absurd (let z : ◌≡◌ {A = ℕ} 0 1 = cc in omega (arith, z))
 breach-head (x ∷ bs) b v e = let g : x ≡ b = cc in ap Broken g
 
-broken-verdict : (x : Stated) (p : Plan) (room : ℕ) (b : Breach) → first (breaches x.case.system p) ≡ K.Broken b → Broken b ≡ verdict x p room
+broken-verdict : (x : Stated) (p : Plan) (room : ℕ) (b : Breach) → first (breaches x.case.system p) ≡ Some b → Broken b ≡ verdict x p room
 unfolding verdict
 broken-verdict x p room b e = sym (breach-head (breaches x.case.system p) b _ e)
 
@@ -45,14 +42,14 @@ module _ (front : Front) (halves : List ℕ) (zones minima devices cells setting
   p = plan_in (length devices) (length halves) settings
 
   -- the first rule broken
-  pub decides-broken : (before : List ℕ) {k : Check} {b : Breach} → k ≡ first (breaches q p) → k ≡ K.Broken b
+  pub decides-broken : (before : List ℕ) {k : Option Breach} {b : Breach} → k ≡ first (breaches q p) → k ≡ Some b
       → Decides front halves zones minima devices cells settings before before (Broken b)
   decides-broken before {k} {b} e f =
       decides front halves zones minima devices cells settings before (broken-verdict (stated_rows front halves zones minima devices cells) p (length before) b (sym e ∙ f)) refl
 
   -- none broken
-  pub kept_of : {starts powers : List ℕ} → Decoded front halves zones minima devices cells → Ready front halves zones minima devices cells settings starts powers → {k : Check}
-      → k ≡ first (breaches q p) → k ≡ K.Held → Kept front halves zones minima devices cells settings starts powers
+  pub kept_of : {starts powers : List ℕ} → Decoded front halves zones minima devices cells → Ready front halves zones minima devices cells settings starts powers → {k : Option Breach}
+      → k ≡ first (breaches q p) → k ≡ None → Kept front halves zones minima devices cells settings starts powers
   kept_of d r e f = record { unbroken = record { ready = r; rules = none-every q p (none_first (breaches q p) e f) }; countable = d.countable }
 
 -- ---- a plan's bytes: refused in reading, or judged
@@ -65,12 +62,12 @@ module _ {front : Front} {halves : List ℕ} {zones minima devices cells : List 
   abbrev planned : Plan
   planned = plan_in (length devices) (length halves) settings
 
-  pub plan-fails : (before : List ℕ) {f : Fault} → e ≡ Fails f → JudgesPlan front halves zones minima devices cells ps before before (Refused S.Plan f)
+  pub plan-fails : (before : List ℕ) {f : Fault} → e ≡ Err f → JudgesPlan front halves zones minima devices cells ps before before (Refused S.Plan f)
   plan-fails before {f} t =
       let g : read_plan stated ps ≡ fails f = sym (plan-read d ps settings e h) ∙ ap (ended planned) t in
       judges-plan d (rw g refl) (rw g refl)
 
-  pub plan-passes : {before after : List ℕ} {v : Verdict} → e ≡ Passes → Decides front halves zones minima devices cells settings before after v
+  pub plan-passes : {before after : List ℕ} {v : Verdict} → e ≡ Ok tt → Decides front halves zones minima devices cells settings before after v
       → JudgesPlan front halves zones minima devices cells ps before after v
   plan-passes t k =
       let g : read_plan stated ps ≡ passes planned = sym (plan-read d ps settings e h) ∙ ap (ended planned) t in

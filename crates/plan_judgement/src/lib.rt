@@ -5,8 +5,6 @@ ghost use Rattle.decoded_cases.specs.Decoded.{Decoded, Planned, Work};
 ghost use Rattle.acceptance.specs.Decided.{Decides};
 ghost use Rattle.plan_judgement.specs.JudgesPlan.{JudgesPlan};
 
-use breaches::Check;
-use message_ends::Ending;
 use model::{Subject, Verdict};
 use row_places::{CellRow, DeviceRow, Front, MinimaRow, SettingRow, ZoneRow};
 
@@ -32,8 +30,8 @@ fn judge_settings(
         front, halves, zones, minima, devices, cells, settings, starts, powers,
     );
     match first {
-        Check::Broken(b) => Verdict::Broken(b),
-        Check::Held => acceptance::accept(
+        Some(b) => Verdict::Broken(b),
+        None => acceptance::accept(
             front, halves, zones, minima, devices, cells, settings, starts, powers, res,
         ),
     }
@@ -61,8 +59,8 @@ pub fn judge_plan(
     let n = devices.len();
     let m = halves.len();
     match plan_reader::read_plan(plan, front.edition, n, m, settings) {
-        Ending::Fails(f) => Verdict::Refused(Subject::Plan, f),
-        Ending::Passes => judge_settings(
+        Err(f) => Verdict::Refused(Subject::Plan, f),
+        Ok(()) => judge_settings(
             front, halves, zones, minima, devices, cells, settings, starts, powers, res,
         ),
     }

@@ -7,9 +7,10 @@ use native.Mathlib.Nat.{mul-zero, mod-lt, div-add-mod', div-lt_iff_lt-mul}
 use lib.ListN.{length, get_or}
 use lib.IntN.{ℤ, nat_abs}
 use Rattle.numbers.specs.Every.{all-at, all-or}
+use Rattle.std.specs.Prelude.{Result, Ok, Err}
 use Rattle.layouts.specs.declared.Fault.{Fault}
 use Rattle.layouts.specs.declared.Place.{Place}
-use Rattle.layouts.specs.Layout.{held, ◌then◌, list, begin, read_whole}
+use Rattle.layouts.specs.Layout.{held, ◌then◌, Layout, list, begin, read_whole}
 use Rattle.layouts.specs.Sure.{Any, sure-checked, whole-sure}
 use Rattle.model.specs.Case as M
 use Rattle.model.specs.Case.{no_setting, no_flow}
@@ -23,15 +24,11 @@ use Rattle.numbers.specs.Rows.{rows}
 use Rattle.numbers.specs.Rows.{rows_at, rows-map}
 use Rattle.numbers.specs.Parts.{part_at}
 use Rattle.records.specs.Views.{less, setting_in, plan_in, PlanRows}
-use Rattle.fields.specs.declared.Figure.{Figure}
-use Rattle.fields.specs.declared.Figure.TheVariants as G
-use Rattle.fields.specs.declared.Went.{Went}
-use Rattle.message_ends.specs.declared.Ending.{Ending}
-use Rattle.message_ends.specs.Ended.{ended, ended-tells}
+use Rattle.message_ends.specs.Ended.{Ending, ended, ended-tells, whole-failed}
 use Rattle.field_rows.specs.Each.{list-natural}
 use Rattle.numbers.specs.Rows.{rows_same}
-use Rattle.fields.specs.Got.{good, bad, got, figured, placed, placed_off, told, told-off, Natural, nat-natural, then-natural, held-natural, goes_on, goes-off, mapped}
-use Rattle.fields.proofs.Steps.{figure-on, figure-off}
+use Rattle.fields.specs.Got.{good, bad, got, told, Natural, nat-natural, then-natural, held-natural, goes_on, goes-off, mapped}
+use Rattle.fields.proofs.Steps.{Exits}
 use Rattle.plan_reader.specs.Rows.{row_at, settings_at, interval_at}
 use Rattle.plan_header.specs.Plans.{header, PlanDone}
 use Rattle.plan_reader.proofs.Turns.{interval-natural}
@@ -68,14 +65,19 @@ plan-in n m settings = ap₂ (λ (x : List (List M.Setting)) (y : List ℤ). rec
     (settings-are n m settings ∙ sym (rows-map (λ x. x.0) (interval_at n m settings) m))
     (sym (rows-map (λ x. x.1) (interval_at n m settings) m))
 
-module _ (e n m : ℕ) (s : List ℕ) {r : Figure} (h : figured r ≡ got (header e n m) s begin) where
-  pub plan-on : {v : ℕ} {q : Place} → r ≡ G.Good v q → (w : Went) (settings : List (List ℕ))
+module _ (e n m : ℕ) (s : List ℕ) where
+  pub plan-on : {v : ℕ} {q : Place} (w : Result Place Fault) (settings : List (List ℕ)) → good v q ≡ got (header e n m) s begin
       → told w (rows (interval_at n m settings) m) ≡ got (list m (planned e n)) s q → told w (plan_in n m settings) ≡ got (plan_layout e n m) s begin
-  plan-on {q = q} t w settings g = rw plan-in (mapped (planned-natural e n m) made_of s q w (rows (interval_at n m settings) m)
-      (plan-parts e n m s ∙ goes_on (header-natural e n m) s begin bad _ (figure-on h t)) g)
+  plan-on {q = q} w settings h g = rw plan-in (mapped (planned-natural e n m) made_of s q w (rows (interval_at n m settings) m)
+      (plan-parts e n m s ∙ goes_on (header-natural e n m) s begin bad _ (sym h)) g)
 
-  pub plan-off : {w : Went} {f : Fault} → r ≡ G.Bad f → w ≡ placed r → (a : M.Plan) → told w a ≡ got (plan_layout e n m) s begin
-  plan-off t d a = told-off a (placed_off d t) (plan-parts e n m s ∙ goes-off (header-natural e n m) s begin bad _ (figure-off h t))
+  pub plan-off : {f : Fault} → bad f ≡ got (header e n m) s begin → bad f ≡ got (plan_layout e n m) s begin
+  plan-off h = sym (plan-parts e n m s ∙ goes-off (header-natural e n m) s begin bad _ (sym h))
+
+-- the exit of a `?` fails a message with the fault that was met
+pub failed-exits : {A : Type 0} {l : Layout A} → Natural l → (s : List ℕ) (a : A) (r : Ending) {f : Fault} → Exits r f → bad f ≡ got l s begin → ended a r ≡ read_whole l s
+failed-exits u s a (Ok _) h e = absurd h.1
+failed-exits u s a (Err z) {f} h e = ap (λ (y : Fault). ended a (Err y)) h.1 ∙ whole-failed u s {w = Err f} a e refl
 
 -- ---- ranges
 

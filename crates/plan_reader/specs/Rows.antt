@@ -1,5 +1,6 @@
 -- A plan's intervals in rows that stand device by device: the setting of device i in interval t is in row i·m + t, the interval's flow in row t.
-use Rattle.std.specs.Prelude.{◌≡◌, List, [], ℕ, ◌+◌, ◌*◌, ◌<◌, get_or, ℤ}
+use Rattle.std.specs.Prelude.{◌≡◌, List, [], ℕ, ◌+◌, ◌*◌, ◌<◌, get_or, ℤ, Result, Ok}
+use Rattle.layouts.specs.declared.Fault.{Fault}
 use Rattle.layouts.specs.declared.Place.{Place}
 use Rattle.model.specs.Case.{Setting}
 use Rattle.layouts.specs.Layout.{list}
@@ -9,8 +10,6 @@ use Rattle.row_places.specs.declared.Setting as Kept
 use Rattle.row_places.specs.Figures.{setting_row, flow_at}
 use Rattle.numbers.specs.Rows.{rows}
 use Rattle.records.specs.Views.{less, setting_in}
-use Rattle.fields.specs.declared.Went.{Went}
-use Rattle.fields.specs.declared.Went.TheVariants.{On}
 use Rattle.fields.specs.Got.{got, told}
 
 abbrev pub row_at : (m : ℕ) → List (List ℕ) → ℕ → ℕ → List ℕ
@@ -28,12 +27,12 @@ interval_at n m settings t = (settings_at n m settings t, flow_in settings t)
 
 -- the settings of interval t, read at p into the rows `old`, which are then `new`: their fault, or they stand there, the first device's as it is stored alone;
 -- the rows of other intervals are as they were
-pub record SettingsDone (e n m t : ℕ) (s : List ℕ) (p : Place) (old new : List (List ℕ)) (r : Went) : Type 0 where
+pub record SettingsDone (e n m t : ℕ) (s : List ℕ) (p : Place) (old new : List (List ℕ)) (r : Result Place Fault) : Type 0 where
   pub reads : told r (settings_at n m new t) ≡ got (list n (setting e)) s p
   pub others : (i u : ℕ) → u < m → (u ≡ t → ⊥) → row_at m new u i ≡ row_at m old u i
-  pub first : (q : Place) → r ≡ On q → (x : Kept.Setting) × (row_at m new t 0 ≡ setting_row x)
+  pub first : (q : Place) → r ≡ Ok q → (x : Kept.Setting) × (row_at m new t 0 ≡ setting_row x)
 
 -- interval t: its fault, or its settings and its flow
-pub record IntervalDone (e n m t : ℕ) (s : List ℕ) (p : Place) (old new : List (List ℕ)) (r : Went) : Type 0 where
+pub record IntervalDone (e n m t : ℕ) (s : List ℕ) (p : Place) (old new : List (List ℕ)) (r : Result Place Fault) : Type 0 where
   pub reads : told r (interval_at n m new t) ≡ got (planned e n) s p
   pub others : (i u : ℕ) → u < m → (u ≡ t → ⊥) → row_at m new u i ≡ row_at m old u i

@@ -11,16 +11,14 @@ ghost use Rattle.fields.specs.Got.{got, told};
 ghost use Rattle.plan_reader.specs.Rows.{interval_at, SettingsDone, IntervalDone};
 ghost use Rattle.plan_header.specs.Plans.{PlanRoom, PlanDone};
 
-use fields::{Figure, Went};
 use kilowatts::SignedKw;
-use layouts::Place;
-use message_ends::Ending;
+use layouts::{Fault, Place};
 use plan_header::read_header;
 use row_places::SettingRow;
 use setting_rows::put_flow;
 use setting_store::store_setting;
 
-// The settings of interval t, device by device: the next device's row is as many rows further on as there are intervals.
+// The settings of interval t, device by device: the rows of a device stand together.
 fn read_settings(
     s: &[u8],
     p: Place,
@@ -29,23 +27,15 @@ fn read_settings(
     intervals: usize,
     t: usize,
     settings: &mut [SettingRow],
-) -> Went
+) -> Result<Place, Fault>
     requires { PlanRoom devices intervals settings.old × (t < intervals) }
     ensures { SettingsDone edition devices intervals t s.now p settings.old settings.new result }
 {
     let mut q = p;
-    let mut k = t;
-    let mut i: usize = 0;
-    while i < devices {
-        let went = store_setting(s, q, edition, settings, k);
-        let Went::On(next) = went else {
-            return went;
-        };
-        q = next;
-        k += intervals;
-        i += 1;
+    for i in 0..devices {
+        q = store_setting(s, q, edition, settings, i * intervals + t)?;
     }
-    Went::On(q)
+    Ok(q)
 }
 
 // Interval t: its settings, then its flow.
@@ -57,20 +47,14 @@ fn read_interval(
     intervals: usize,
     t: usize,
     settings: &mut [SettingRow],
-) -> Went
+) -> Result<Place, Fault>
     requires { PlanRoom devices intervals settings.old × (t < intervals) }
     ensures { IntervalDone edition devices intervals t s.now p settings.old settings.new result }
 {
-    let went = read_settings(s, p, edition, devices, intervals, t, settings);
-    let Went::On(at_flow) = went else {
-        return went;
-    };
-    let read = flow_reader::read_flow(s, at_flow, edition);
-    let Figure::Good(flow, past) = read else {
-        return fields::place_of(read);
-    };
+    let at_flow = read_settings(s, p, edition, devices, intervals, t, settings)?;
+    let (flow, past) = flow_reader::read_flow(s, at_flow, edition)?;
     put_flow(settings, t, SignedKw(flow));
-    Went::On(past)
+    Ok(past)
 }
 
 // Every interval.
@@ -81,21 +65,15 @@ fn read_intervals(
     devices: usize,
     intervals: usize,
     settings: &mut [SettingRow],
-) -> Went
+) -> Result<Place, Fault>
     requires { PlanRoom devices intervals settings.old }
     ensures { told result (rows (interval_at devices intervals settings.new) intervals) ≡ got (list intervals (planned edition devices)) s.now p }
 {
     let mut q = p;
-    let mut t: usize = 0;
-    while t < intervals {
-        let w = read_interval(s, q, edition, devices, intervals, t, settings);
-        let Went::On(next) = w else {
-            return w;
-        };
-        q = next;
-        t += 1;
+    for t in 0..intervals {
+        q = read_interval(s, q, edition, devices, intervals, t, settings)?;
     }
-    Went::On(q)
+    Ok(q)
 }
 
 // Every field of the plan.
@@ -105,14 +83,11 @@ fn read_fields(
     devices: usize,
     intervals: usize,
     settings: &mut [SettingRow],
-) -> Went
+) -> Result<Place, Fault>
     requires { PlanRoom devices intervals settings.old }
     ensures { told result (plan_in devices intervals settings.new) ≡ got (plan_layout edition devices intervals) s.now begin }
 {
-    let front = read_header(s, edition, devices as u32, intervals as u32);
-    let Figure::Good(_, p) = front else {
-        return fields::place_of(front);
-    };
+    let (_, p) = read_header(s, edition, devices as u32, intervals as u32)?;
     read_intervals(s, p, edition, devices, intervals, settings)
 }
 
@@ -123,12 +98,10 @@ pub fn read_plan(
     devices: usize,
     intervals: usize,
     settings: &mut [SettingRow],
-) -> Ending
+) -> Result<(), Fault>
     requires { PlanRoom devices intervals settings.old }
     ensures { PlanDone edition devices intervals s.now settings.new result }
 {
-    match read_fields(s, edition, devices, intervals, settings) {
-        Went::Off(x) => Ending::Fails(x),
-        Went::On(p) => message_ends::finish(s, p),
-    }
+    let p = read_fields(s, edition, devices, intervals, settings)?;
+    message_ends::finish(s, p)
 }

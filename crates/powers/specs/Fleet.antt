@@ -41,9 +41,6 @@ module _ (halves : List ℕ) (devices cells settings : List (List ℕ)) where
   pub record Forced (starts powers : List ℕ) : Type 0 where
     pub rows : (zones minima : List (List ℕ)) → ForcedRows (system_in halves zones minima devices cells) (plan_in n m settings) n m starts powers
 
-  pub forced-none : (powers : List ℕ) → length powers ≡ n * m → ForcedTo 0 powers
-  forced-none powers e = record { long = e; power = λ zones minima t i h l. absurd (omega arith); small = λ k l. absurd (omega arith) }
-
   module _ (known : CaseOf halves devices cells) (chosen : PlanRows n m settings) where
     pub halves_small : Halves halves
     halves_small = record { few = known.rows.few-intervals; half = half-small known.rows }
@@ -132,9 +129,6 @@ module _ (halves : List ℕ) (devices cells settings : List (List ℕ)) where
           let w : a + m - a ≡ m = omega arith in
           let k : Powers (ramping_of (device_of (get_or devices i []))) (part m i cells) (part m i settings) starts row = rw (← r, ← part_cut m i a cells e, ← part_cut m i a settings e) h in
           rw (w, e) (forced-next starts clock l f k)
-
-    pub forced-all : (i : ℕ) {powers : List ℕ} → i ≤ n → n ≤ i → ForcedTo i powers → ForcedPowers powers
-    forced-all i l h f = let e : i ≡ n = omega arith in rw (← e) f
 
     pub forced-both : {starts powers : List ℕ} → Times halves starts → ForcedPowers powers → Forced starts powers
     forced-both {starts} {powers} c f = record {

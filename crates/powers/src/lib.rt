@@ -17,8 +17,7 @@ fn ramping_at(devices: &[DeviceRow], i: usize) -> Ramping
     requires { i < length devices.now }
     ensures { result ≡ ramping_of (device_of (get_or devices.now i [])) }
 {
-    let d = device_at(devices, i);
-    ramping_of(d)
+    ramping_of(device_at(devices, i))
 }
 
 // The powers of every device.
@@ -35,14 +34,12 @@ fn put_powers(
     ensures { ForcedPowers halves.now devices.now cells.now settings.now powers.new }
 {
     let m = halves.len();
-    let mut i = 0;
     let mut a = 0;
-    while i < devices.len() {
+    for i in 0..devices.len() {
         let r = ramping_at(devices, i);
         let e = a + m;
         device_powers(r, &cells[a..e], &settings[a..e], starts, &mut powers[a..e]);
         a = e;
-        i += 1;
     }
 }
 

@@ -10,11 +10,9 @@ use Rattle.layouts.specs.Layout.{list, figure, advanced}
 use Rattle.model.specs.Case as M
 use Rattle.row_places.specs.declared.ReservePrices.{ReservePrices}
 use Rattle.records.specs.Views.{eight_prices_in}
-use Rattle.ranges.specs.Kept.{reserves_of}
-use Rattle.fields.specs.declared.Went.{Went}
-use Rattle.fields.specs.Got.{good, bad, got, told}
+use Rattle.fields.specs.Got.{good, bad, got}
 use Rattle.field_rows.proofs.Steps.{eight-list}
-use Rattle.cell_groups.specs.Groups.{reserve_prices, prices_of}
+use Rattle.cell_groups.specs.Groups.{reserve_prices}
 use Rattle.word_fields.proofs.Ranges.{either-bit, masked-bit, none_above}
 use Rattle.word_fields.proofs.Words.{field_of, fields_from, fields-good}
 use Rattle.price_words.specs.declared.Four.{Four}
@@ -103,8 +101,3 @@ found-good s p {x} f =
     sym (eight-list (figure price_bits 0 most_price) s p bad good
     ∙ fields-good price_bits most_price 8 0 s p.at p bad _ f.range (omega arith) f.there
     ∙ ap (λ (y : M.Reserves). good y (advanced p (p.at + eight_bits))) (sym f.is))
-
--- the eight, by name
-pub prices-told : (s : List ℕ) (p : Place) (w : Went) (v : List ℕ) {r : ReservePrices} → told w (reserves_of v) ≡ got reserve_prices s p → r ≡ prices_of v
-    → told w (eight_prices_in r) ≡ got reserve_prices s p
-prices-told s p w v e t = ap (λ (x : ReservePrices). told w (eight_prices_in x)) t ∙ e

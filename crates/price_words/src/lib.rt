@@ -1,15 +1,15 @@
 // The eight reserve prices of a cell: by two words where the message has them and each is in its range, else field by field.
 #![tactic(auto)]
 
-ghost use Rattle.std.specs.Prelude.{◌≡◌, true, ◌+◌, ◌*◌, ◌^◌, ◌≤◌, ◌<◌};
+ghost use Rattle.std.specs.Prelude.{◌≡◌, ◌+◌, ◌*◌, ◌^◌, ◌≤◌, ◌<◌, IfSome};
 ghost use Rattle.bits.specs.Bits.{reach};
 ghost use Rattle.records.specs.Views.{eight_prices_in};
-ghost use Rattle.fields.specs.Got.{got, told};
+ghost use Rattle.fields.specs.Got.{got, seen};
 ghost use Rattle.cell_groups.specs.Groups.{reserve_prices, prices_of};
 ghost use Rattle.price_words.specs.Prices.{four_bits, eight_bits, eight_in, Fourfold, Low, Unborrowed, Found};
 
 use bits::bits_at;
-use fields::Went;
+use fields::Read;
 use layouts::Place;
 use row_places::ReservePrices;
 use word_fields::{field_in, has_bits};
@@ -34,30 +34,17 @@ const MOST_FOUR: u64 = (2 << FOUR_BITS)
 
 const EIGHT_BITS: u64 = 2 * FOUR_BITS;
 
-#[derive(Clone, Copy)]
-pub struct PricesRead {
-    pub went: Went,
-    pub prices: ReservePrices,
-}
-
-// The prices where ok; else nothing is said.
-#[derive(Clone, Copy)]
-pub struct Quick {
-    pub ok: bool,
-    pub prices: ReservePrices,
-}
-
 // Four prices in a row.
 #[derive(Clone, Copy)]
-pub struct Four {
-    pub a: u32,
-    pub b: u32,
-    pub c: u32,
-    pub d: u32,
+struct Four {
+    a: u32,
+    b: u32,
+    c: u32,
+    d: u32,
 }
 
 // The eight by name.
-pub fn prices_of(v: [u32; 8]) -> ReservePrices
+fn prices_of(v: [u32; 8]) -> ReservePrices
     ensures { result ≡ prices_of v }
 {
     ReservePrices {
@@ -106,53 +93,46 @@ fn eight_of(x: Four, y: Four) -> ReservePrices
     }
 }
 
-// Eight prices in two words; ok where each is within its range.
-fn price_words(s: &[u8], at: u64) -> Quick
+// Eight prices in two words, where each is within its range.
+fn price_words(s: &[u8], at: u64) -> Option<ReservePrices>
     requires { at + eight_bits ≤ 8 * reach s.now }
-    ensures { result.ok ≡ true → Found s.now at result.prices }
+    ensures { IfSome result (Found s.now at) }
 {
     let first = bits_at(s, at, FOUR_BITS);
     let second = bits_at(s, at + FOUR_BITS, FOUR_BITS);
-    let ok = (borrows(first) | borrows(second)) & AHEAD == 0;
-    let prices = eight_of(four_in(first), four_in(second));
-    Quick { ok, prices }
+    if (borrows(first) | borrows(second)) & AHEAD != 0 {
+        return None;
+    }
+    Some(eight_of(four_in(first), four_in(second)))
 }
 
 // By words, where the message has them. The contract leaves free where it declines: the prices are then read field by field.
-fn quick_prices(s: &[u8], at: u64) -> Quick
-    ensures { result.ok ≡ true → Found s.now at result.prices }
+fn quick_prices(s: &[u8], at: u64) -> Option<ReservePrices>
+    ensures { IfSome result (Found s.now at) }
 {
-    if has_bits(s, at, EIGHT_BITS) {
-        return price_words(s, at);
+    if !has_bits(s, at, EIGHT_BITS) {
+        return None;
     }
-    let prices = prices_of([0u32; 8]);
-    Quick { ok: false, prices }
+    price_words(s, at)
 }
 
 // Field by field: from here comes every refusal.
-fn exact_prices(s: &[u8], p: Place) -> PricesRead
-    ensures { told result.went (eight_prices_in result.prices) ≡ got reserve_prices s.now p }
+fn exact_prices(s: &[u8], p: Place) -> Read<ReservePrices>
+    ensures { seen eight_prices_in result ≡ got reserve_prices s.now p }
 {
-    let eight = field_rows::read_eight(s, p, PRICE_BITS, MOST_PRICE);
-    let went = eight.went;
-    let values = eight.values;
-    let prices = prices_of(values);
-    PricesRead { went, prices }
+    let (values, past) = field_rows::read_eight(s, p, PRICE_BITS, MOST_PRICE)?;
+    Ok((prices_of(values), past))
 }
 
-pub fn read_prices(s: &[u8], p: Place) -> PricesRead
-    ensures { told result.went (eight_prices_in result.prices) ≡ got reserve_prices s.now p }
+pub fn read_prices(s: &[u8], p: Place) -> Read<ReservePrices>
+    ensures { seen eight_prices_in result ≡ got reserve_prices s.now p }
 {
-    let at = p.at;
-    let clash = p.clash;
-    let quick = quick_prices(s, at);
-    if quick.ok {
-        let prices = quick.prices;
-        let went = Went::On(Place {
-            at: at + EIGHT_BITS,
-            clash,
-        });
-        return PricesRead { went, prices };
+    if let Some(prices) = quick_prices(s, p.at) {
+        let past = Place {
+            at: p.at + EIGHT_BITS,
+            ..p
+        };
+        return Ok((prices, past));
     }
     exact_prices(s, p)
 }

@@ -16,7 +16,7 @@ use Rattle.optimum.specs.Cheapest.{Rising}
 use Rattle.optimum.specs.Order.{Asc}
 use Rattle.numbers.specs.Laws as L
 use Rattle.numbers.specs.Fill.{Apart}
-use Rattle.optimum.specs.Answer.{pick, up, total, answer, rise}
+use Rattle.optimum.specs.Answer.{pick, up, answer, rise}
 use Rattle.optimum.proofs.Answer.{total-up, power-up}
 use Rattle.offers.specs.declared.Offer.{Offer}
 use Rattle.offers.specs.Merit as M

@@ -1,6 +1,6 @@
 -- A device's powers as the code builds them: its online powers, then what each start and each stop adds.
-use Rattle.std.specs.Prelude.{◌≡◌, refl, Bool, true, false, ◌&&◌, List, ℕ, ◌+◌, ◌-◌, ◌*◌, ◌≤◌, ◌<◌, leb, length, get_or, set}
-use Rattle.std.proofs.Common.{sym, ap, ◌∙◌, add-zero, zero-add, le_refl, length-set, get_or-set_same, get_or-set_other}
+use Rattle.std.specs.Prelude.{◌≡◌, refl, Bool, true, false, ◌&&◌, List, ℕ, ◌+◌, ◌-◌, ◌*◌, ◌≤◌, ◌<◌, leb, length, get_or}
+use Rattle.std.proofs.Common.{◌∙◌, add-zero, zero-add, le_refl}
 use native.Mathlib.Omega.{arith}
 use Rattle.std.proofs.Math.Decide.{dec_le}
 use Rattle.std.proofs.Math.Nat.{one-mul, zero-mul}
@@ -14,8 +14,7 @@ use Rattle.row_places.specs.Figures.{on_at, online_at, pmin_at, on_before}
 use Rattle.numbers.specs.Ranges.{sum_more, sum-few}
 use Rattle.records.specs.Views.{most_intervals, most_power}
 use Rattle.ramped_powers.specs.declared.Ramping.{Ramping}
-use Rattle.clock.specs.Times.{Clock}
-use Rattle.trajectories.specs.Trajectories.{leaves_at, rise_in, fall_in, Raised, Ramped}
+use Rattle.trajectories.specs.Trajectories.{leaves_at, rise_in, fall_in, Raised}
 
 -- what a device's trajectories are computed from
 abbrev pub ramping_of : Device → Ramping
@@ -64,17 +63,6 @@ leaves-low r cells e h l = go (dec_le e 0)
     go (yes z) = rw (eq-eqb e 0 (omega arith)) h.power_small
     go (no z) = rw (ne_eqb e 0 (λ q. omega arith)) (h.pmin-small (e - 1) (omega arith))
 
-module _ {r : Ramping} {cells : List (List ℕ)} {starts : List ℕ} {e : ℕ} {row : List ℕ} (h : Rampable r cells) (l : e < length cells)
-    (c : Clock (length cells) starts) (n : length row ≡ length cells) (w : Low row) where
-  clock : Clock (length row) starts
-  clock = rw n c
-
-  pub start-ramped : {power : ℕ} → power ≡ pmin_at cells e → Ramped power r.starting starts e row
-  start-ramped z = record { interval = omega arith; clock = clock; low = w.below; power_small = rw z (h.pmin-small e l); ramp-small = h.starting-small }
-
-  pub stop-ramped : {power : ℕ} → power ≡ leaves_at r.power0.0 cells e → Ramped power r.stopping starts e row
-  stop-ramped z = record { interval = omega arith; clock = clock; low = w.below; power_small = rw z (leaves-low r cells e h l); ramp-small = h.stopping-small }
-
 -- a start, a stop, or neither
 module _ (r : Ramping) (cells : List (List ℕ)) (starts : List ℕ) (before on e : ℕ) where
   pub started-adds : {power : ℕ} {old new : List ℕ} → before < on → power ≡ pmin_at cells e → Raised (rise_in power r.starting starts e) 0 e old new
@@ -119,17 +107,6 @@ pub record OnlineTo (settings : List (List ℕ)) (t : ℕ) (row : List ℕ) : Ty
 -- all of them
 abbrev pub Online : List (List ℕ) → List ℕ → Type 0
 Online settings row = OnlineTo settings (length settings) row
-
-module _ (settings : List (List ℕ)) where
-  pub online-none : (row : List ℕ) → length row ≡ length settings → OnlineTo settings 0 row
-  online-none row e = record { long = e; number = λ k h. absurd (omega arith) }
-
-  pub online-next : {t v : ℕ} {row : List ℕ} → t < length settings → OnlineTo settings t row → v ≡ online_at settings t → OnlineTo settings (t + 1) (set row t v)
-  online-next {t} {v} {row} l h e = record { long = length-set row t v ∙ h.long; number = λ k m. go k m (dec_le t k) }
-    where
-      go : (k : ℕ) → k < t + 1 → Dec (t ≤ k) → get_or (set row t v) k 0 ≡ online_at settings k
-      go k m (yes x) = let q : k ≡ t = omega arith in rw q (get_or-set_same row t v 0 (omega (arith, h.long)) ∙ e)
-      go k m (no x) = get_or-set_other row t k v 0 (λ q. omega arith) ∙ h.number k (omega arith)
 
 -- ---- the changes so far
 

@@ -64,12 +64,10 @@ fn add_changes(
     ensures { Powers r cells.now settings.now starts.now row.new }
 {
     let mut before = r.on0;
-    let mut e = 0;
-    while e < cells.len() {
+    for e in 0..cells.len() {
         let on = on_at(settings, e);
         add_change(r, cells, starts, before, on, e, row);
         before = on;
-        e += 1;
     }
 }
 
@@ -77,11 +75,8 @@ fn online_powers(settings: &[SettingRow], row: &mut [u32])
     requires { length row.old ≡ length settings.now }
     ensures { Online settings.now row.new }
 {
-    let mut t = 0;
-    while t < settings.len() {
-        let power = online_at(settings, t);
-        row[t] = power.0;
-        t += 1;
+    for (t, power) in row.iter_mut().enumerate() {
+        *power = online_at(settings, t).0;
     }
 }
 

@@ -4,14 +4,14 @@ use Rattle.model.specs.Case.{ReactiveLimits, ReactiveReserves}
 use Rattle.row_places.specs.declared.ReactiveCell.{ReactiveCell}
 use Rattle.kilovars.specs.Reactive.{kvar_offset}
 use Rattle.records.specs.Views.{less, reactive_limits_in, reactive_prices_in}
-use Rattle.reactive_cells.specs.declared.LimitsRead.{LimitsRead}
-use Rattle.reactive_cells.specs.declared.PricesRead.{PricesRead}
+use Rattle.reactive_cells.specs.declared.Limits.{Limits}
+use Rattle.reactive_cells.specs.declared.Prices.{Prices}
 
-abbrev pub limits_in : LimitsRead → ReactiveLimits
+abbrev pub limits_in : Limits → ReactiveLimits
 limits_in r = record { qmin = less kvar_offset r.qmin.0; qmax = less kvar_offset r.qmax.0 }
 
-abbrev pub prices_in : PricesRead → ReactiveReserves
-prices_in r = record { qru = r.qru; qrd = r.qrd }
+abbrev pub prices_in : Prices → ReactiveReserves
+prices_in r = record { qru = r.qru.0; qrd = r.qrd.0 }
 
 abbrev pub reactive_pair : ReactiveCell → ReactiveLimits × ReactiveReserves
 reactive_pair r = (reactive_limits_in r, reactive_prices_in r)

@@ -1,10 +1,9 @@
 -- How far the q of the two sides of each bar are apart in one interval.
-use Rattle.std.specs.Prelude.{◌≡◌, Bool, true, false, not, ◌&&◌, List, [], eqb, get_or, ℤ, pos, ◌+ℤ◌, ◌-ℤ◌}
+use Rattle.std.specs.Prelude.{◌≡◌, Bool, true, false, not, ◌&&◌, List, [], eqb, ℤ, pos, ◌+ℤ◌, ◌-ℤ◌}
 use Rattle.std.proofs.Math.Path.{refl, sym, ap}
 use Rattle.std.proofs.Common.{ap₂, ◌∙◌, add-one, eq-eqb, ne_eqb}
 use Prim.Native.Nat.{ℕ, zero, suc, ◌+◌, ◌-◌, ◌*◌, ◌≤◌, ◌<◌}
 use native.Mathlib.Omega.{arith}
-use Rattle.std.proofs.Math.Decide.{dec_le}
 use Rattle.std.proofs.Math.ListN.{length}
 use Rattle.std.proofs.Math.IntN.{nat_abs}
 use Rattle.numbers.specs.Z.{whole, n+, n-}
@@ -46,20 +45,10 @@ module _ (s : ReactiveSides) (side q : ℕ) where
       (sides_of (kvar (s.consuming.0 + q)) (kvar (s.producing.0 + kvar_offset)))
       (sides_of (kvar (s.consuming.0 + kvar_offset)) (kvar (s.producing.0 + q)))
 
-  pub side-consuming : {x y : Kvar} → side ≡ 1 → x.0 ≡ s.consuming.0 + q → y.0 ≡ s.producing.0 + kvar_offset → sides_of x y ≡ with_side s side q
-  side-consuming h e f = ap₂ (λ (v w : ℕ). sides_of (kvar v) (kvar w)) e f ∙ sym (ap on (eq-eqb side 1 h))
-
-  pub side-producing : {x y : Kvar} → (side ≡ 1 → ⊥) → x.0 ≡ s.consuming.0 + kvar_offset → y.0 ≡ s.producing.0 + q → sides_of x y ≡ with_side s side q
-  side-producing h e f = ap₂ (λ (v w : ℕ). sides_of (kvar v) (kvar w)) e f ∙ sym (ap on (ne_eqb side 1 h))
-
 -- ---- the bars
 
 abbrev pub bar_sides_of : ReactiveSides → ReactiveSides → ReactiveBarSides
 bar_sides_of first second = record { first = first; second = second }
-
--- four sums, each as it is in one record of them
-pub sums-are : {a b c d e f g h : Kvar} → a ≡ e → b ≡ f → c ≡ g → d ≡ h → bar_sides_of (sides_of a b) (sides_of c d) ≡ bar_sides_of (sides_of e f) (sides_of g h)
-sums-are i j k l = ap₂ (λ (x y : ReactiveSides). bar_sides_of x y) (ap₂ (λ (x y : Kvar). sides_of x y) i j) (ap₂ (λ (x y : Kvar). sides_of x y) k l)
 
 -- all sums together
 abbrev pub all_of : ReactiveBarSides → ℕ
@@ -127,9 +116,6 @@ module _ (devices settings : List (List ℕ)) (m t : ℕ) where
   unfolding bars_to
   bars-next i {s} {r} {k} {b} {x} {y} h j a e f l g = record { is = g ∙ rw (add-one i, h.is, a, e, f, j) refl; small = rw g (omega (arith, bar-all s b x y, h.small)) }
 
-  pub bars-end : (i n : ℕ) {s : ReactiveBarSides} → i ≤ n → n ≤ i → BarsSo devices settings m t i s → BarsSo devices settings m t n s
-  bars-end i n h l k = let j : i ≡ n = omega arith in rw j at k
-
   -- the code's two mismatches
   pub mismatches-made : {n : ℕ} {s : ReactiveBarSides} {x y : Kvar} → BarsSo devices settings m t n s
       → x.0 ≡ apart_of s.first → y.0 ≡ apart_of s.second → mismatches_by x y ≡ mismatches_of (bars_to devices settings m t n)
@@ -141,19 +127,6 @@ pub record NoneTo (settings : List (List ℕ)) (m t n : ℕ) : Type 0 where
   pub none : (i : ℕ) → i < n → (reactive_at settings (i * m + t)).q.0 ≡ kvar_offset
 
 module _ (settings : List (List ℕ)) (m t : ℕ) where
-  pub none-start : NoneTo settings m t 0
-  none-start = record { none = λ i h. absurd (omega arith) }
-
-  pub none-next : (n : ℕ) {k x : ℕ} → NoneTo settings m t n → k ≡ n * m + t → x ≡ (reactive_at settings k).q.0 → x ≡ kvar_offset → NoneTo settings m t (n + 1)
-  none-next n {k} {x} h e f g = record { none = λ i l. go i (dec_le n i) l }
-    where
-      go : (i : ℕ) → Dec (n ≤ i) → i < n + 1 → (reactive_at settings (i * m + t)).q.0 ≡ kvar_offset
-      go i (yes a) l = let s : i ≡ n = omega arith in rw (s, ← e, ← f) g
-      go i (no a) l = h.none i (omega arith)
-
-  pub none_end : (i n : ℕ) → i ≤ n → n ≤ i → NoneTo settings m t i → NoneTo settings m t n
-  none_end i n h l s = let e : i ≡ n = omega arith in rw e at s
-
   -- a bar's two sums are equal
   abbrev Same : ReactiveSides → Type 0
   Same s = s.consuming.0 ≡ s.producing.0

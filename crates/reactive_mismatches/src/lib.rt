@@ -2,8 +2,9 @@
 #![tactic(auto)]
 
 ghost use Rattle.std.specs.Prelude.{◌≡◌, true, ◌+◌, ◌<◌, ◌^◌, length};
+ghost use Rattle.kilovars.specs.Reactive.{kvar_offset};
 ghost use Rattle.reactive_mismatches.specs.Settled.{Settled};
-ghost use Rattle.reactive_mismatches.specs.Sides.{BarsSo, bars_to, mismatches_of, NoneTo};
+ghost use Rattle.reactive_mismatches.specs.Sides.{BarsSo, with_side, bars_to, mismatches_of, NoneTo};
 
 use device_rows::{bar_at, side_at};
 use kilovars::{Kvar, NO_KVAR, SignedKvar};
@@ -32,51 +33,49 @@ pub struct ReactiveMismatches {
     pub second: Kvar,
 }
 
+// A device's q more.
+fn with_side(s: ReactiveSides, side: u32, q: SignedKvar) -> ReactiveSides
+    requires { s.consuming.0 + s.producing.0 + (q.0 + kvar_offset) < 2 ^ 32 }
+    ensures { result ≡ with_side s side q.0 }
+{
+    let kept = Kvar(q.0);
+    let offset = Kvar(NO_KVAR.0);
+    if side == 1 {
+        ReactiveSides {
+            consuming: s.consuming.plus(kept),
+            producing: s.producing.plus(offset),
+        }
+    } else {
+        ReactiveSides {
+            consuming: s.consuming.plus(offset),
+            producing: s.producing.plus(kept),
+        }
+    }
+}
+
 // The q by bar and side in interval t of m.
 fn bar_sides(devices: &[DeviceRow], settings: &[SettingRow], m: usize, t: usize) -> ReactiveBarSides
     requires { Settled (length devices.now) m t settings.now }
     ensures { BarsSo devices.now settings.now m t (length devices.now) result }
 {
-    let mut first_consuming = Kvar(0);
-    let mut first_producing = Kvar(0);
-    let mut second_consuming = Kvar(0);
-    let mut second_producing = Kvar(0);
-    let mut i = 0;
-    let mut k = t;
-    while i < devices.len() {
-        let x = reactive_at(settings, k);
-        let kept = Kvar(x.q.0);
-        let offset = Kvar(NO_KVAR.0);
+    let none = ReactiveSides {
+        consuming: Kvar(0),
+        producing: Kvar(0),
+    };
+    let mut s = ReactiveBarSides {
+        first: none,
+        second: none,
+    };
+    for i in 0..devices.len() {
+        let x = reactive_at(settings, i * m + t);
         let side = side_at(devices, i);
         if bar_at(devices, i) == 0 {
-            if side == 1 {
-                first_consuming = first_consuming.plus(kept);
-                first_producing = first_producing.plus(offset);
-            } else {
-                first_consuming = first_consuming.plus(offset);
-                first_producing = first_producing.plus(kept);
-            }
+            s.first = with_side(s.first, side, x.q);
         } else {
-            if side == 1 {
-                second_consuming = second_consuming.plus(kept);
-                second_producing = second_producing.plus(offset);
-            } else {
-                second_consuming = second_consuming.plus(offset);
-                second_producing = second_producing.plus(kept);
-            }
+            s.second = with_side(s.second, side, x.q);
         }
-        k += m;
-        i += 1;
     }
-    let first = ReactiveSides {
-        consuming: first_consuming,
-        producing: first_producing,
-    };
-    let second = ReactiveSides {
-        consuming: second_consuming,
-        producing: second_producing,
-    };
-    ReactiveBarSides { first, second }
+    s
 }
 
 // No device has a q in interval t of m; says nothing where one has.
@@ -84,15 +83,11 @@ fn none_reactive(devices: usize, settings: &[SettingRow], m: usize, t: usize) ->
     requires { Settled devices m t settings.now }
     ensures { result ≡ true → NoneTo settings.now m t devices }
 {
-    let mut i = 0;
-    let mut k = t;
-    while i < devices {
-        let x = reactive_at(settings, k);
+    for i in 0..devices {
+        let x = reactive_at(settings, i * m + t);
         if x.q.0 != NO_KVAR.0 {
             return false;
         }
-        k += m;
-        i += 1;
     }
     true
 }

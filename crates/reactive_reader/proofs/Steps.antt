@@ -4,26 +4,19 @@ use mathlib.Core.List.{List}
 use Prim.Native.Nat.{ℕ, ◌+◌, ◌*◌, ◌/◌, ◌%◌, ◌^◌, ◌≤◌}
 use native.Mathlib.Omega.{arith}
 use Rattle.bits.specs.Bits.{field_at, reach}
-use Rattle.layouts.specs.declared.Fault.{Fault}
 use Rattle.layouts.specs.declared.Place.{Place}
 use Rattle.layouts.specs.Layout.{◌▸◌, advanced}
 use Rattle.layouts.specs.Since.{has, since}
-use Rattle.model.specs.Case as M
 use Rattle.model.specs.Case.{no_reactive}
 use Rattle.model.specs.ByEdition.{signed_kvar, kvar, reactive}
-use Rattle.ranges.specs.Kept.{less}
 use Rattle.kilovars.specs.Reactive.{kvar_offset}
 use Rattle.row_places.specs.declared.Reactive.{Reactive}
 use Rattle.records.specs.Views.{reactive_in}
 use Rattle.word_fields.proofs.Words.{field_of, figure-good, offset-good}
 use Rattle.reactive_reader.specs.Words.{q_bits, reserve_bits, most_reserve, reactive_bits, InRanges, Found}
-use Rattle.fields.specs.declared.Figure.{Figure}
-use Rattle.fields.specs.declared.Figure.TheVariants as F
-use Rattle.fields.specs.declared.Went.{Went}
-use Rattle.fields.specs.Got.{good, got, figured, kept, placed, told, Natural, nat-natural, int-natural, then-natural, held-natural}
+use Rattle.fields.specs.Got.{good, got, Natural, nat-natural, int-natural, then-natural, held-natural}
 use Rattle.fields.specs.Since.{present-natural}
-use Rattle.fields.proofs.Steps.{figure-on, figure-off}
-use Rattle.fields.proofs.Chains.{stop, then-off, then-late, then-on, held-off, held_on, kept-good, kept-bad}
+use Rattle.fields.proofs.Chains.{then-on, held_on}
 
 reserves-natural : Natural (kvar ▸ kvar)
 reserves-natural = then-natural (nat-natural _) (λ _. nat-natural _)
@@ -57,32 +50,8 @@ found-good s p {x} f =
     let past = advanced p (p.at + q_bits + reserve_bits + reserve_bits) in
     let end : p.at + reactive_bits ≡ p.at + q_bits + reserve_bits + reserve_bits = omega arith in
     ap (λ (k : ℕ). good (reactive_in x) (advanced p k)) end
-    ∙ sym (held_on three-natural _ _ s p
-    (then-on (int-natural _ _) _ s p reserves-natural (offset-good q_bits 131072 kvar_offset refl (omega arith) s p f.q f.range.q (omega (arith, f.there)))
+    ∙ held_on three-natural _ _ s p
+    (then-on (int-natural _ _) _ s p reserves-natural (sym (offset-good q_bits 131072 kvar_offset refl (omega arith) s p f.q f.range.q (omega (arith, f.there))))
     (then-on (nat-natural _) _ s z (nat-natural _)
-    (figure-good reserve_bits most_reserve s z (omega (arith, f.qru, f.range.qru)) (omega (arith, f.there)) ∙ ap (λ (n : ℕ). good n b) (sym f.qru))
-    (figure-good reserve_bits most_reserve s b (omega (arith, f.qrd, f.range.qrd)) (omega (arith, f.there)) ∙ ap (λ (n : ℕ). good n past) (sym f.qrd)))))
-
--- ---- field by field
-
-module _ (s : List ℕ) (p : Place) {r : Figure} (e : kept kvar_offset r ≡ got signed_kvar s p) where
-  pub no-q : (a : M.Reactive) {w v : Went} {f : Fault} → r ≡ F.Bad f → v ≡ placed r → w ≡ v → told w a ≡ got reactive s p
-  unfolding reactive
-  no-q a t d o = stop a t d o (held-off three-natural _ _ s p (then-off (int-natural _ _) _ s p (kept-bad kvar_offset e t)))
-
-  module _ {q : ℕ} {z : Place} (g : r ≡ F.Good q z) {x : Figure} (h : figured x ≡ got kvar s z) where
-    pub no-qru : (a : M.Reactive) {w v : Went} {f : Fault} → x ≡ F.Bad f → v ≡ placed x → w ≡ v → told w a ≡ got reactive s p
-    unfolding reactive
-    no-qru a t d o = stop a t d o (held-off three-natural _ _ s p
-        (then-late (int-natural _ _) _ s p reserves-natural (kept-good kvar_offset e g) (then-off (nat-natural _) _ s z (figure-off h t))))
-
-    module _ {qru : ℕ} {b : Place} (k : x ≡ F.Good qru b) {y : Figure} (i : figured y ≡ got kvar s b) where
-      pub no-qrd : (a : M.Reactive) {w v : Went} {f : Fault} → y ≡ F.Bad f → v ≡ placed y → w ≡ v → told w a ≡ got reactive s p
-      unfolding reactive
-      no-qrd a t d o = stop a t d o (held-off three-natural _ _ s p
-          (then-late (int-natural _ _) _ s p reserves-natural (kept-good kvar_offset e g) (then-late (nat-natural _) _ s z (nat-natural _) (figure-on h k) (figure-off i t))))
-
-      pub all_three : {qrd : ℕ} {past : Place} → y ≡ F.Good qrd past → good (record { q = less kvar_offset q; qru = qru; qrd = qrd }) past ≡ got reactive s p
-      unfolding reactive
-      all_three t = sym (held_on three-natural _ _ s p
-          (then-on (int-natural _ _) _ s p reserves-natural (kept-good kvar_offset e g) (then-on (nat-natural _) _ s z (nat-natural _) (figure-on h k) (figure-on i t))))
+    (ap (λ (n : ℕ). good n b) f.qru ∙ sym (figure-good reserve_bits most_reserve s z (omega (arith, f.qru, f.range.qru)) (omega (arith, f.there))))
+    (ap (λ (n : ℕ). good n past) f.qrd ∙ sym (figure-good reserve_bits most_reserve s b (omega (arith, f.qrd, f.range.qrd)) (omega (arith, f.there))))))

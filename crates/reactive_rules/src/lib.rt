@@ -42,25 +42,12 @@ pub fn reactive_bounds_of(d: Device) -> ReactiveBounds
 fn idle(kind: u32, c: ReactiveCell, x: Reactive) -> bool
     ensures { result ≡ true → Idle kind c x }
 {
-    if kind != NO_LINK {
-        return false;
-    }
-    if x.q.0 != KVAR_OFFSET {
-        return false;
-    }
-    if x.qru.0 != 0 {
-        return false;
-    }
-    if x.qrd.0 != 0 {
-        return false;
-    }
-    if KVAR_OFFSET < c.qmin.0 {
-        return false;
-    }
-    if c.qmax.0 < KVAR_OFFSET {
-        return false;
-    }
-    true
+    kind == NO_LINK
+        && x.q.0 == KVAR_OFFSET
+        && x.qru.0 == 0
+        && x.qrd.0 == 0
+        && c.qmin.0 <= KVAR_OFFSET
+        && KVAR_OFFSET <= c.qmax.0
 }
 
 // Whether nothing of interval t is reactive.
@@ -129,15 +116,12 @@ fn idle_front(
     requires { AllReactiveFit d cells.now settings.now starts.now powers.now }
     ensures { (result ≤ length cells.now) × ReactiveHeldTo d cells.now settings.now starts.now powers.now result }
 {
-    let mut t = 0;
-    while t < cells.len() {
-        let kind = d.link.kind;
-        if !idle_at(kind, cells, settings, t) {
+    for t in 0..cells.len() {
+        if !idle_at(d.link.kind, cells, settings, t) {
             return t;
         }
-        t += 1;
     }
-    t
+    cells.len()
 }
 
 // Whether no reactive rule of a device's intervals fails.
@@ -151,12 +135,10 @@ pub fn reactive_held(
     requires { AllReactiveFit d cells.now settings.now starts.now powers.now }
     ensures { (result ≡ true) ↔ ReactiveHeldTo d cells.now settings.now starts.now powers.now (length cells.now) }
 {
-    let mut t = idle_front(d, cells, settings, starts, powers);
-    while t < cells.len() {
+    for t in idle_front(d, cells, settings, starts, powers)..cells.len() {
         if !held_at(d, cells, settings, starts, powers, t) {
             return false;
         }
-        t += 1;
     }
     true
 }

@@ -85,9 +85,6 @@ module _ (devices settings : List (List ℕ)) (m t z : ℕ) where
   unfolding held_to
   held_next i h e a = record { is = a.is ∙ rw (add-one i, h.is, e) refl; small = a.small i h.small }
 
-  pub held-end : (i n : ℕ) {s : ReactiveHeld} → i ≤ n → n ≤ i → HeldSo devices settings m t z i s → HeldSo devices settings m t z n s
-  held-end i n h l s = let e : i ≡ n = omega arith in rw e at s
-
 -- ---- the two needs
 
 abbrev pub short_by : Var → Var → ReactiveShortfalls
@@ -102,10 +99,6 @@ none-short least s h =
     let a : 0 ≡ 1000 * least.qru.0 - 1000 * s.qru.0 = omega (arith, h.0) in
     let b : 0 ≡ 1000 * least.qrd.0 - 1000 * s.qrd.0 = omega (arith, h.1) in
     ap₂ (λ (v w : ℕ). short_by (var v) (var w)) a b
-
-pub both-short : (least : Minima) {s v : ReactiveHeld} {a b : Var} → a.0 ≡ 1000 * least.qru.0 - 1000 * s.qru.0 → b.0 ≡ 1000 * least.qrd.0 - 1000 * s.qrd.0 → s ≡ v
-    → short_by a b ≡ short_of least v
-both-short least e f g = ap₂ (λ (v w : ℕ). short_by (var v) (var w)) e f ∙ ap (short_of least) g
 
 -- ---- a decoded case and plan
 

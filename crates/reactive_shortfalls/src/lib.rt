@@ -1,7 +1,7 @@
 // A zone's two reactive shortfalls in an interval, each at its need.
 #![tactic(auto)]
 
-ghost use Rattle.std.specs.Prelude.{◌≡◌, true, ◌-◌, ◌*◌, ◌<◌, length};
+ghost use Rattle.std.specs.Prelude.{◌≡◌, ◌-◌, ◌*◌, ◌<◌, length};
 ghost use Rattle.records.specs.Views.{most_zones};
 ghost use Rattle.reactive_mismatches.specs.Settled.{Settled};
 ghost use Rattle.reactive_shortfalls.specs.Held.{HeldSo, held_to, short_of};
@@ -32,16 +32,12 @@ fn reactive_held(
 {
     let mut qru = Kvar(0);
     let mut qrd = Kvar(0);
-    let mut i = 0;
-    let mut k = t;
-    while i < devices.len() {
+    for i in 0..devices.len() {
         if in_zone(zonebits_at(devices, i), z) {
-            let x = reactive_at(settings, k);
+            let x = reactive_at(settings, i * m + t);
             qru = qru.plus(x.qru);
             qrd = qrd.plus(x.qrd);
         }
-        k += m;
-        i += 1;
     }
     ReactiveHeld { qru, qrd }
 }
@@ -60,13 +56,6 @@ fn short_of(least: Kvar, held: Kvar) -> Var
     least.in_var().less(held.in_var())
 }
 
-// No reactive reserve is required; says nothing where some is.
-fn none_required(up: Kvar, down: Kvar) -> bool
-    ensures { result ≡ true → (up.0 ≡ 0) × (down.0 ≡ 0) }
-{
-    if up.0 == 0 { down.0 == 0 } else { false }
-}
-
 // The two reactive shortfalls of zone z in interval t of m, each at its need: none where nothing is required.
 pub fn reactive_shortfalls(
     least: Minima,
@@ -81,7 +70,7 @@ pub fn reactive_shortfalls(
 {
     let up = least.qru;
     let down = least.qrd;
-    if none_required(up, down) {
+    if up.0 == 0 && down.0 == 0 {
         return ReactiveShortfalls {
             qru: Var(0),
             qrd: Var(0),

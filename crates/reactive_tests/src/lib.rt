@@ -36,7 +36,7 @@ const EQUALITY: u32 = 2;
 #[derive(Clone, Copy)]
 struct Vars(pub u64);
 
-// The reserve of a consuming device, or that of a producing one.
+// The reserve of a consuming device, or that of a producing one. A generic one, for Kw too, could not speak of the figure in a reserve, which proofs read.
 fn by_side(side: u32, consuming: Kvar, producing: Kvar) -> Kvar
     requires { (consuming.0 ≤ 100000) × (producing.0 ≤ 100000) }
     ensures { (result.0 ≡ pick (eqb side 1) consuming.0 producing.0) × (result.0 ≤ 100000) }
@@ -60,20 +60,12 @@ fn above_limit(q: SignedKvar, down: Kvar, qmin: SignedKvar, n: u32) -> bool
     qmin.0 * n + KVAR_OFFSET + down.0 <= q.0 + KVAR_OFFSET * n
 }
 
-// What a slope gives at a power: "no product is rounded".
-fn sloped(slope: u32, power: Kw) -> u64
-    ensures { result ≡ slope * power.0 }
-{
-    product(slope, power.0)
-}
-
-// A line at bracket n and power p: the offset times n, and the slope times p.
+// A line at bracket n and power p: the offset times n, and the slope times p; "no product is rounded".
 fn line_level(l: Line, n: u32, power: Kw) -> Vars
     requires { LineSized l × (n ≤ most_bracket) × (power.0 ≤ most_power) }
     ensures { (result.0 ≡ line_level l n power.0) × (result.0 < 2 ^ 40) }
 {
-    let rise = sloped(l.slope, power);
-    Vars(product(VARS, l.offset.0 * n) + rise + product(VARS, KVAR_OFFSET))
+    Vars(product(VARS, l.offset.0 * n) + product(l.slope, power.0) + product(VARS, KVAR_OFFSET))
 }
 
 // A reactive power at the same level.
@@ -184,11 +176,8 @@ fn limits_held(side: u32, n: u32, power: Kw, link: Link, c: ReactiveCell, x: Rea
     ensures { (result ≡ true) ↔ (failing (limit_tests (eqb side 1) n power.0 (link_in link) (reactive_limits_in c) (reactive_in x)) ≡ []) }
 {
     let up = by_side(side, x.qrd, x.qru);
-    if !below_limit(x.q, up, c.qmax, n) {
-        return false;
-    }
     let down = by_side(side, x.qru, x.qrd);
-    above_limit(x.q, down, c.qmin, n)
+    below_limit(x.q, up, c.qmax, n) && above_limit(x.q, down, c.qmin, n)
 }
 
 // Whether rules 23 and 24 hold.
@@ -200,11 +189,8 @@ fn lines_held(side: u32, n: u32, power: Kw, link: Link, c: ReactiveCell, x: Reac
         return true;
     }
     let up = by_side(side, x.qrd, x.qru);
-    if !below_line(x.q, up, link.upper, n, power) {
-        return false;
-    }
     let down = by_side(side, x.qru, x.qrd);
-    above_line(x.q, down, link.lower, n, power)
+    below_line(x.q, up, link.upper, n, power) && above_line(x.q, down, link.lower, n, power)
 }
 
 // Whether rules 25 and 26 hold.
@@ -215,10 +201,7 @@ fn equality_held(side: u32, n: u32, power: Kw, link: Link, c: ReactiveCell, x: R
     if link.kind != EQUALITY {
         return true;
     }
-    if !on_line(x.q, link.upper, n, power) {
-        return false;
-    }
-    none_held(x.qru, x.qrd)
+    on_line(x.q, link.upper, n, power) && none_held(x.qru, x.qrd)
 }
 
 // Whether no reactive rule of one device in one interval fails, in one go.

@@ -7,10 +7,10 @@ ghost use Rattle.layouts.specs.Layout.{figure};
 ghost use Rattle.layouts.specs.Since.{since};
 ghost use Rattle.model.specs.Case.{no_reactive_reserves, unit_prices};
 ghost use Rattle.model.specs.ByEdition.{reactive_minima, zone_reactive_prices};
-ghost use Rattle.fields.specs.Got.{got, told};
-ghost use Rattle.reactive_zones.specs.Two.{two, two_in, reactive_minima_in};
+ghost use Rattle.fields.specs.Got.{got, seen};
+ghost use Rattle.reactive_zones.specs.Two.{two, two_of, prices_in, minima_in};
 
-use fields::Went;
+use fields::Read;
 use kilovars::Kvar;
 use layouts::Place;
 
@@ -34,64 +34,60 @@ pub const NEUTRAL_PRICE: u32 = 1;
 
 pub const NO_MINIMUM: Kvar = Kvar(0);
 
+// The shortfall prices of a zone, in grains per var·min.
 #[derive(Clone, Copy)]
-pub struct TwoRead {
-    pub went: Went,
+pub struct Prices {
     pub qru: u32,
     pub qrd: u32,
 }
 
+// The minima of a zone in one interval.
 #[derive(Clone, Copy)]
-pub struct MinimaRead {
-    pub went: Went,
+pub struct Minima {
     pub qru: Kvar,
     pub qrd: Kvar,
 }
 
 // Two fields of one kind, "up before down".
-fn read_two(s: &[u8], p: Place, width: u64, low: u32, high: u32) -> TwoRead
+fn read_two(s: &[u8], p: Place, width: u64, low: u32, high: u32) -> Read<[u32; 2]>
     requires { width ≤ 64 }
-    ensures { told result.went (two_in result) ≡ got (two (figure width low high)) s.now p }
+    ensures { seen two_of result ≡ got (two (figure width low high)) s.now p }
 {
     let mut v = [0u32; 2];
-    let went = field_rows::read_list(s, p, 2, width, low, high, &mut v);
-    TwoRead {
-        went,
-        qru: v[0],
-        qrd: v[1],
-    }
+    let past = field_rows::read_list(s, p, 2, width, low, high, &mut v)?;
+    Ok((v, past))
 }
 
 // The two prices, ahead of a zone's intervals.
-pub fn read_prices(s: &[u8], p: Place, edition: u32) -> TwoRead
-    ensures { told result.went (two_in result) ≡ got (since edition 2 unit_prices zone_reactive_prices) s.now p }
+pub fn read_prices(s: &[u8], p: Place, edition: u32) -> Read<Prices>
+    ensures { seen prices_in result ≡ got (since edition 2 unit_prices zone_reactive_prices) s.now p }
 {
     if edition < REACTIVE_EDITION {
-        return TwoRead {
-            went: Went::On(p),
+        let prices = Prices {
             qru: NEUTRAL_PRICE,
             qrd: NEUTRAL_PRICE,
         };
+        return Ok((prices, p));
     }
-    read_two(s, p, PRICE_BITS, LEAST_PRICE, MOST_PRICE)
+    let ([qru, qrd], past) = read_two(s, p, PRICE_BITS, LEAST_PRICE, MOST_PRICE)?;
+    Ok((Prices { qru, qrd }, past))
 }
 
 // The two minima of one interval.
-pub fn read_minima(s: &[u8], p: Place, edition: u32) -> MinimaRead
-    ensures { told result.went (reactive_minima_in result) ≡ got (since edition 2 no_reactive_reserves reactive_minima) s.now p }
+pub fn read_minima(s: &[u8], p: Place, edition: u32) -> Read<Minima>
+    ensures { seen minima_in result ≡ got (since edition 2 no_reactive_reserves reactive_minima) s.now p }
 {
     if edition < REACTIVE_EDITION {
-        return MinimaRead {
-            went: Went::On(p),
+        let minima = Minima {
             qru: NO_MINIMUM,
             qrd: NO_MINIMUM,
         };
+        return Ok((minima, p));
     }
-    let minima = read_two(s, p, MINIMUM_BITS, 0, MOST_MINIMUM);
-    let went = minima.went;
-    MinimaRead {
-        went,
-        qru: Kvar(minima.qru),
-        qrd: Kvar(minima.qrd),
-    }
+    let ([qru, qrd], past) = read_two(s, p, MINIMUM_BITS, 0, MOST_MINIMUM)?;
+    let minima = Minima {
+        qru: Kvar(qru),
+        qrd: Kvar(qrd),
+    };
+    Ok((minima, past))
 }

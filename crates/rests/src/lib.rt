@@ -33,9 +33,7 @@ fn all_far_back(r: Rest, settings: &[SettingRow], starts: &[u32], t: usize) -> b
     ensures { result ≡ apart_at r settings.now starts.now t }
 {
     let start = starts[t];
-    let mut k = t;
-    while 0 < k {
-        let e = k - 1;
+    for e in (0..t).rev() {
         let back = start - starts[e];
         if r.least <= back {
             return true;
@@ -43,7 +41,6 @@ fn all_far_back(r: Rest, settings: &[SettingRow], starts: &[u32], t: usize) -> b
         if changes(r, settings, e) == 1 {
             return false;
         }
-        k = e;
     }
     true
 }

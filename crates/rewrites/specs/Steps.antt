@@ -1,5 +1,5 @@
 -- Writing a case's bytes and a plan's in the newest edition: refused in reading, or their content's bytes, or 7.
-use Rattle.std.specs.Prelude.{◌≡◌, refl, List, ℕ, ◌*◌, ◌≤◌, length}
+use Rattle.std.specs.Prelude.{Ok, Err, ◌≡◌, refl, List, ℕ, ◌*◌, ◌≤◌, length}
 use Rattle.std.proofs.Common.{sym, ap, ap₂, ◌∙◌, subst}
 use Rattle.bits.specs.Bits.{reach}
 use Rattle.layouts.specs.declared.Fault.{Fault}
@@ -9,14 +9,12 @@ use Rattle.model.specs.Case.{Plan}
 use Rattle.model.specs.Editions.{Largest, newest, most_devices, most_intervals}
 use Rattle.model.specs.ByEdition.{Stated, stated_in, plan_layout}
 use Rattle.model.specs.AsBefore.{stated}
-use Rattle.message_ends.specs.Ended.{ended}
-use Rattle.message_ends.specs.declared.Ending.{Ending}
-use Rattle.message_ends.specs.declared.Ending.TheVariants.{Passes, Fails}
+use Rattle.message_ends.specs.Ended.{Ending, ended}
 use Rattle.row_places.specs.declared.Front.{Front}
 use Rattle.row_places.specs.declared.Counts.{Counts}
 use Rattle.records.specs.Views.{plan_in}
 use Rattle.front_reader.specs.Fronts.{largest}
-use Rattle.case_reader.specs.Whole.{case_of, CaseDone}
+use Rattle.case_reader.specs.Whole.{case_of, CasePassed, CaseRefused}
 use Rattle.plan_header.specs.Plans.{PlanDone}
 use Rattle.writing.specs.declared.Writing.{Writing}
 use Rattle.writing.specs.declared.Writing.TheVariants.{Refused}
@@ -67,29 +65,23 @@ case-on : (l : Largest) (cs before : List ℕ) (x : Stated) → stated_in l cs �
 unfolding case_anew
 case-on l cs before x e = rw e (refl, refl)
 
-module _ (i j : ℕ) (cs halves : List ℕ) (zones minima devices cells : List (List ℕ)) (e : Ending) (front : Front) (n : Counts)
-    (h : CaseDone i j cs halves zones minima devices cells e front n) where
-  abbrev held : Stated
-  held = stated front.edition (case_of front n halves zones minima devices cells)
+module _ (i j : ℕ) (cs : List ℕ) where
+  pub case-fails : (before : List ℕ) {f : Fault} → CaseRefused i j cs f → RewritesCase (largest i j) cs before before (Refused S.Case f)
+  case-fails before {f} h = let off = case-off (largest i j) cs before f (sym h.is) in rewrites-case (largest i j) off.0 off.1
 
-  passed : e ≡ Passes → stated_in (largest i j) cs ≡ passes held
-  passed t = sym h.is ∙ ap (ended held) t
+  module _ (halves : List ℕ) (zones minima devices cells : List (List ℕ)) (front : Front) (n : Counts) (h : CasePassed i j cs halves zones minima devices cells front n) where
+    abbrev held : Stated
+    held = stated front.edition (case_of front n halves zones minima devices cells)
 
-  failed : {f : Fault} → e ≡ Fails f → stated_in (largest i j) cs ≡ fails f
-  failed t = sym h.is ∙ ap (ended held) t
+    -- a case that passes has a first byte
+    pub case-some : 1 ≤ reach cs
+    case-some = some_byte (largest i j) cs held (sym h.is)
 
-  pub case-fails : (before : List ℕ) {f : Fault} → e ≡ Fails f → RewritesCase (largest i j) cs before before (Refused S.Case f)
-  case-fails before {f} t = let off = case-off (largest i j) cs before f (failed t) in rewrites-case (largest i j) off.0 off.1
-
-  -- a case that passes has a first byte
-  pub case-some : e ≡ Passes → 1 ≤ reach cs
-  case-some t = some_byte (largest i j) cs held (passed t)
-
-  pub case-passes : {before after : List ℕ} {r : Writing} → e ≡ Passes → RenewsCase front.edition cs before after r → RewritesCase (largest i j) cs before after r
-  case-passes {before} t k =
-      let on = case-on (largest i j) cs before held (passed t) in
-      let g = renewed (largest i j) cs held (passed t) k in
-      rewrites-case (largest i j) (g.0 ∙ on.0) (g.1 ∙ on.1)
+    pub case-passes : {before after : List ℕ} {r : Writing} → RenewsCase front.edition cs before after r → RewritesCase (largest i j) cs before after r
+    case-passes {before} k =
+        let on = case-on (largest i j) cs before held (sym h.is) in
+        let g = renewed (largest i j) cs held (sym h.is) k in
+        rewrites-case (largest i j) (g.0 ∙ on.0) (g.1 ∙ on.1)
 
 -- ---- a plan, of a case of edition e with d devices and n intervals
 
@@ -101,20 +93,20 @@ module _ (e d n : ℕ) (ps : List ℕ) (settings : List (List ℕ)) (r : Ending)
   abbrev p : Plan
   p = plan_in d n settings
 
-  plan-off : {f : Fault} → r ≡ Fails f → read_whole (plan_layout e d n) ps ≡ fails f
+  plan-off : {f : Fault} → r ≡ Err f → read_whole (plan_layout e d n) ps ≡ fails f
   plan-off t = sym h.reads ∙ ap (ended p) t
 
-  plan-on : r ≡ Passes → read_whole (plan_layout e d n) ps ≡ passes p
+  plan-on : r ≡ Ok tt → read_whole (plan_layout e d n) ps ≡ passes p
   plan-on t = sym h.reads ∙ ap (ended p) t
 
-  pub plan-fails : (before : List ℕ) {f : Fault} → r ≡ Fails f → RewritesRows e d n ps before before (Refused S.Plan f)
+  pub plan-fails : (before : List ℕ) {f : Fault} → r ≡ Err f → RewritesRows e d n ps before before (Refused S.Plan f)
   plan-fails before t = let g = plan-off t in record { answer = λ _. rw g refl; result = λ _. rw g refl }
 
   -- a plan that passes has a front
-  pub plan-some : r ≡ Passes → front_of e ≤ 8 * reach ps
+  pub plan-some : r ≡ Ok tt → front_of e ≤ 8 * reach ps
   plan-some t = some-front e d n ps p (plan-on t)
 
-  pub plan-passes : {before after : List ℕ} {needed : ℕ} {w : Writing} → d ≤ most_devices → n ≤ most_intervals → r ≡ Passes
+  pub plan-passes : {before after : List ℕ} {needed : ℕ} {w : Writing} → d ≤ most_devices → n ≤ most_intervals → r ≡ Ok tt
       → Renews (plan_splice e d n) (front_of e) ps before after needed → w ≡ writing needed (length before) → RewritesRows e d n ps before after w
   plan-passes few short t k a =
       let g = plan-on t in

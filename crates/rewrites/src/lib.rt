@@ -10,7 +10,6 @@ ghost use Rattle.writing.specs.Anew.{writing};
 ghost use Rattle.rewrites.specs.Steps.{RenewsCase, RewritesCase, RewritesRows};
 
 use layouts::Fault;
-use message_ends::Ending;
 use model::Subject;
 use row_places::{CellRow, DeviceRow, MinimaRow, SettingRow, ZoneRow};
 use writing::Writing;
@@ -60,11 +59,9 @@ pub fn rewrite_case_by(
         devices,
         cells,
     );
-    let ending = read.ending;
-    let front = read.front;
-    match ending {
-        Ending::Fails(f) => Writing::Refused(Subject::Case, f),
-        Ending::Passes => rewrite_read_case(case, front.edition, res),
+    match read {
+        Err(f) => Writing::Refused(Subject::Case, f),
+        Ok(head) => rewrite_read_case(case, head.front.edition, res),
     }
 }
 
@@ -82,8 +79,8 @@ pub fn rewrite_plan_by(
 {
     let room = res.len();
     match plan_reader::read_plan(plan, edition, devices, intervals, settings) {
-        Ending::Fails(f) => Writing::Refused(Subject::Plan, f),
-        Ending::Passes => {
+        Err(f) => Writing::Refused(Subject::Plan, f),
+        Ok(()) => {
             let n = devices as u64;
             let m = intervals as u64;
             let bytes = plan_copier::renew_plan(plan, res, edition, n, m);

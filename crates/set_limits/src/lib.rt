@@ -33,15 +33,12 @@ pub fn limits_of(
 {
     let mut lo = [0u64; 64];
     let mut hi = [0u64; 64];
-    let mut j = sets.len();
-    while 0 < j {
-        let k = j - 1;
+    for k in (0..sets.len()).rev() {
         let i = (sets[k] - 1) as usize;
         let earlier = powers[k];
         let b = set_bounds::bounds_at(front, halves, zones, minima, devices, cells, t, i, earlier);
         lo[i] = b.lo;
         hi[i] = b.hi;
-        j = k;
     }
     Limits { lo, hi }
 }

@@ -14,16 +14,10 @@ use Rattle.model.specs.Case.{no_reactive}
 use Rattle.model.specs.Messages.{kw_field, eight, active}
 use Rattle.model.specs.ByEdition.{reactive, setting}
 use Rattle.ranges.specs.Kept.{reserves_of}
-use Rattle.row_places.specs.declared.Reserves.{Reserves}
 use Rattle.row_places.specs.declared.Reactive.{Reactive}
 use Rattle.records.specs.Views.{eight_in, reactive_in}
-use Rattle.fields.specs.declared.Figure.{Figure}
-use Rattle.fields.specs.declared.Figure.TheVariants as G
-use Rattle.fields.specs.declared.Went.{Went}
-use Rattle.fields.specs.declared.Went.TheVariants as W
-use Rattle.fields.specs.Got.{good, bad, got, figured, placed, placed_off, told, told-off, Natural, nat-natural, then-natural, held-natural, held-eq, went-good, went-bad, goes_on, goes-off, mapped}
-use Rattle.fields.proofs.Steps.{figure-on, figure-off}
-use Rattle.fields.proofs.Chains.{then-off, then-told, held-off}
+use Rattle.std.specs.Prelude.{Result}
+use Rattle.fields.specs.Got.{good, bad, got, told, Natural, nat-natural, then-natural, held-natural, goes_on, mapped}
 use Rattle.field_rows.proofs.Steps.{eight-natural}
 use Rattle.reactive_reader.proofs.Steps.{reactive-natural}
 use Rattle.word_fields.proofs.Words.{figure-good, fields_from, fields-good}
@@ -53,25 +47,6 @@ found-good s p {x} f =
     ∙ ap (λ (k : ℕ). good (active_at s p.at) (advanced p k)) end
     ∙ ap (λ (y : ℕ × (ℕ × M.Reserves)). good y (advanced p (p.at + active_bits))) (sym f.is))
 
--- ---- field by field
-
-module _ (s : List ℕ) (p : Place) {r : Figure} (e : figured r ≡ got (any 1) s p) where
-  pub no-on : (a : ℕ × (ℕ × M.Reserves)) {w : Went} {f : Fault} → r ≡ G.Bad f → w ≡ placed r → told w a ≡ got active s p
-  unfolding active ◌then◌
-  no-on a t d = told-off a (placed_off d t) (goes-off (nat-natural _) s p bad _ (figure-off e t))
-
-  module _ {on : ℕ} {q : Place} (t : r ≡ G.Good on q) {x : Figure} (g : figured x ≡ got kw_field s q) where
-    pub no-online : (a : ℕ × (ℕ × M.Reserves)) {w : Went} {f : Fault} → x ≡ G.Bad f → w ≡ placed x → told w a ≡ got active s p
-    unfolding active ◌then◌
-    no-online a k d = told-off a (placed_off d k) (goes_on (nat-natural _) s p bad _ (figure-on e t) ∙ goes-off (nat-natural _) s q bad _ (figure-off g k))
-
-    pub all_read : {online : ℕ} {z : Place} → x ≡ G.Good online z → (w : Went) (l : List ℕ) (y : Reserves) → eight_in y ≡ reserves_of l → told w (reserves_of l) ≡ got (eight kw_field) s z
-        → told w (on, (online, eight_in y)) ≡ got active s p
-    unfolding active ◌then◌
-    all_read {online} {z} k w l y same h =
-        rw same (mapped (eight-natural (nat-natural _)) (λ v. (on, (online, v))) s z w (reserves_of l)
-        (goes_on (nat-natural _) s p bad _ (figure-on e t) ∙ goes_on (nat-natural _) s q bad _ (figure-on g k)) h)
-
 -- ---- a setting
 
 parts-natural : (e : ℕ) → Natural (active ▸ since e 2 no_reactive reactive)
@@ -81,13 +56,9 @@ pub setting-natural : (e : ℕ) → Natural (setting e)
 unfolding setting
 setting-natural e = held-natural _ _ (parts-natural e)
 
--- from what was read of the figures that every edition has
-module _ (e : ℕ) (s : List ℕ) (p : Place) {w : Went} (x : Active) (h : told w (active_in x) ≡ got active s p) where
-  pub setting-off : (a : M.Setting) {f : Fault} → w ≡ W.Off f → told w a ≡ got (setting e) s p
-  unfolding setting
-  setting-off a t = told-off a t (held-off (parts-natural e) _ _ s p (then-off active-natural _ s p (went-bad (active_in x) h t)))
-
-  pub setting-on : {q : Place} (v : Went) (y : Reactive) → w ≡ W.On q → told v (reactive_in y) ≡ got (since e 2 no_reactive reactive) s q → told v (setting_from x y) ≡ got (setting e) s p
-  unfolding setting
-  setting-on v y t g = mapped (parts-natural e) _ s p v (active_in x, reactive_in y) (held-eq _ _ _ s p bad good)
-      (then-told active-natural _ s p v (reactive_in y) (reactive-natural e) (went-good (active_in x) h t) g)
+-- the figures that every edition has, then the reactive ones, held as a setting
+pub setting-on : (e : ℕ) (s : List ℕ) (p : Place) {q : Place} (x : Active) (w : Result Place Fault) (y : Reactive) → good (active_in x) q ≡ got active s p
+    → told w (reactive_in y) ≡ got (since e 2 no_reactive reactive) s q → told w (setting_from x y) ≡ got (setting e) s p
+unfolding setting held ◌then◌
+setting-on e s p {q} x w y h g = mapped (reactive-natural e) (λ z. record { on = x.on; online = x.online.0; reserves = eight_in x.reserves; reactive = z }) s q w (reactive_in y)
+    (goes_on active-natural s p bad _ (sym h)) g

@@ -4,79 +4,97 @@
 ghost use Rattle.std.specs.Prelude.{◌≡◌, ◌<◌, length};
 ghost use Rattle.setting_store.specs.Stored.{setting_by, neutral, ReactiveStored, SettingStored};
 
-use fields::Went;
-use layouts::Place;
+use kilowatts::Kw;
+use layouts::{Fault, Place};
 use reactive_reader::{NEUTRAL, REACTIVE_BITS, SINCE, quick_reactive, read_three};
-use row_places::{Setting, SettingRow};
+use row_places::{Reserves, Setting, SettingRow};
 use setting_reader::read_setting;
 use setting_rows::{put_reactive, put_setting};
 use setting_words::{ACTIVE_BITS, Active, quick_active};
 
+// What stands in a row whose setting was refused.
+const NO_SETTING: Setting = Setting {
+    on: 0,
+    online: Kw(0),
+    reserves: Reserves {
+        rgu: Kw(0),
+        rgd: Kw(0),
+        scr: Kw(0),
+        nsc: Kw(0),
+        rruon: Kw(0),
+        rruoff: Kw(0),
+        rrdon: Kw(0),
+        rrdoff: Kw(0),
+    },
+    reactive: NEUTRAL,
+};
+
 // The reactive figures at p into row k, which has the others.
-fn store_reactive(s: &[u8], p: Place, settings: &mut [SettingRow], k: usize) -> Went
+fn store_reactive(s: &[u8], p: Place, settings: &mut [SettingRow], k: usize) -> Result<Place, Fault>
     requires { k < length settings.old }
     ensures { ReactiveStored k s.now p settings.old settings.new result }
 {
-    let at = p.at;
-    let clash = p.clash;
-    let quick = quick_reactive(s, at);
-    if quick.ok {
-        let reactive = quick.reactive;
+    if let Some(reactive) = quick_reactive(s, p.at) {
         put_reactive(settings, k, reactive);
-        return Went::On(Place {
-            at: at + REACTIVE_BITS,
-            clash,
+        return Ok(Place {
+            at: p.at + REACTIVE_BITS,
+            ..p
         });
     }
-    let read = read_three(s, p);
-    let reactive = read.reactive;
-    put_reactive(settings, k, reactive);
-    read.went
+    match read_three(s, p) {
+        Ok((reactive, past)) => {
+            put_reactive(settings, k, reactive);
+            Ok(past)
+        }
+        Err(f) => {
+            put_reactive(settings, k, NEUTRAL);
+            Err(f)
+        }
+    }
 }
 
 // The figures that every edition has, and no reactive ones.
 fn plain(active: Active) -> Setting
     ensures { result ≡ setting_by active neutral }
 {
-    let on = active.on;
-    let online = active.online;
-    let reserves = active.reserves;
     Setting {
-        on,
-        online,
-        reserves,
+        on: active.on,
+        online: active.online,
+        reserves: active.reserves,
         reactive: NEUTRAL,
     }
 }
 
-// A setting of an edition at p into row k. After a refusal what the row holds is left free.
+// A setting of an edition at p into row k. After a refusal the row holds some setting.
 pub fn store_setting(
     s: &[u8],
     p: Place,
     edition: u32,
     settings: &mut [SettingRow],
     k: usize,
-) -> Went
+) -> Result<Place, Fault>
     requires { k < length settings.old }
     ensures { SettingStored edition k s.now p settings.old settings.new result }
 {
-    let at = p.at;
-    let clash = p.clash;
-    let quick = quick_active(s, at);
-    if quick.ok {
-        let active = quick.active;
+    if let Some(active) = quick_active(s, p.at) {
         put_setting(settings, k, plain(active));
         let next = Place {
-            at: at + ACTIVE_BITS,
-            clash,
+            at: p.at + ACTIVE_BITS,
+            ..p
         };
         if edition < SINCE {
-            return Went::On(next);
+            return Ok(next);
         }
         return store_reactive(s, next, settings, k);
     }
-    let read = read_setting(s, p, edition);
-    let setting = read.setting;
-    put_setting(settings, k, setting);
-    read.went
+    match read_setting(s, p, edition) {
+        Ok((setting, past)) => {
+            put_setting(settings, k, setting);
+            Ok(past)
+        }
+        Err(f) => {
+            put_setting(settings, k, NO_SETTING);
+            Err(f)
+        }
+    }
 }

@@ -2,8 +2,6 @@
 use Rattle.std.specs.Prelude.{◌≡◌, List, ℕ, ◌+◌, ◌*◌, ◌/◌, ◌%◌, ◌^◌, ◌≤◌, ◌<◌}
 use Rattle.bits.specs.Bits.{field_at, reach}
 use Rattle.model.specs.Case as M
-use Rattle.kilowatts.specs.Power.{kw}
-use Rattle.row_places.specs.declared.Reserves.{Reserves}
 use Rattle.row_places.specs.declared.Reactive.{Reactive}
 use Rattle.row_places.specs.declared.Setting.{Setting}
 use Rattle.row_places.specs.Figures.{setting_row}
@@ -14,13 +12,6 @@ use Rattle.setting_words.specs.declared.Three.{Three}
 -- "on 1, online power 17, eight reserves 17 each": what a record holds of the fields that every edition has
 abbrev pub active_in : Active → ℕ × (ℕ × M.Reserves)
 active_in x = (x.on, (x.online.0, eight_in x.reserves))
-
--- what stands beside a refusal: each figure 0
-abbrev pub no_reserves : Reserves
-no_reserves = record { rgu = kw 0; rgd = kw 0; scr = kw 0; nsc = kw 0; rruon = kw 0; rruoff = kw 0; rrdon = kw 0; rrdoff = kw 0 }
-
-abbrev pub no_active : Active
-no_active = record { on = 0; online = kw 0; reserves = no_reserves }
 
 -- the setting that a record holds; that of these figures and the reactive ones
 abbrev pub setting_held : Setting → M.Setting

@@ -1,9 +1,9 @@
 // The figures of a plan's setting by whole words, where the message has them and each is in its range.
 #![tactic(auto)]
 
-ghost use Rattle.std.specs.Prelude.{◌≡◌, true, ◌+◌, ◌*◌, ◌%◌, ◌^◌, ◌≤◌};
+ghost use Rattle.std.specs.Prelude.{◌≡◌, ◌+◌, ◌*◌, ◌%◌, ◌^◌, ◌≤◌, IfSome};
 ghost use Rattle.bits.specs.Bits.{reach};
-ghost use Rattle.setting_words.specs.Settings.{no_reserves, no_active, active_in, active_bits, nine_in, Threefold, Unborrowed, Low, Found};
+ghost use Rattle.setting_words.specs.Settings.{active_in, active_bits, nine_in, Threefold, Unborrowed, Low, Found};
 
 use bits::bits_at;
 use kilowatts::Kw;
@@ -35,40 +35,6 @@ pub struct Active {
     pub on: u32,
     pub online: Kw,
     pub reserves: Reserves,
-}
-
-// These figures where ok; else nothing is said.
-#[derive(Clone, Copy)]
-pub struct Quick {
-    pub ok: bool,
-    pub active: Active,
-}
-
-// What stands beside a refusal.
-fn no_reserves() -> Reserves
-    ensures { result ≡ no_reserves }
-{
-    Reserves {
-        rgu: Kw(0),
-        rgd: Kw(0),
-        scr: Kw(0),
-        nsc: Kw(0),
-        rruon: Kw(0),
-        rruoff: Kw(0),
-        rrdon: Kw(0),
-        rrdoff: Kw(0),
-    }
-}
-
-pub fn no_active() -> Active
-    ensures { result ≡ no_active }
-{
-    let reserves = no_reserves();
-    Active {
-        on: 0,
-        online: Kw(0),
-        reserves,
-    }
 }
 
 // Three powers in a row.
@@ -118,27 +84,27 @@ fn active_of(on: u32, a: Three, b: Three, c: Three) -> Active
     }
 }
 
-// Nine powers in three words, the on bit ahead of the first; ok where each is within its range.
-fn active_words(s: &[u8], at: u64) -> Quick
+// Nine powers in three words, the on bit ahead of the first, where each is within its range.
+fn active_words(s: &[u8], at: u64) -> Option<Active>
     requires { at + active_bits ≤ 8 * reach s.now }
-    ensures { result.ok ≡ true → Found s.now at result.active }
+    ensures { IfSome result (Found s.now at) }
 {
     let first = bits_at(s, at, FIRST_BITS);
     let second = bits_at(s, at + FIRST_BITS, THREE_BITS);
     let third = bits_at(s, at + (FIRST_BITS + THREE_BITS), THREE_BITS);
-    let ok = (borrows(first) | borrows(second) | borrows(third)) & AHEAD == 0;
+    if (borrows(first) | borrows(second) | borrows(third)) & AHEAD != 0 {
+        return None;
+    }
     let on = (first >> THREE_BITS) as u32;
-    let active = active_of(on, three_in(first), three_in(second), three_in(third));
-    Quick { ok, active }
+    Some(active_of(on, three_in(first), three_in(second), three_in(third)))
 }
 
 // By whole words, where the message has them. The contract leaves free where it declines: a reader then goes field by field, with the same figures.
-pub fn quick_active(s: &[u8], at: u64) -> Quick
-    ensures { result.ok ≡ true → Found s.now at result.active }
+pub fn quick_active(s: &[u8], at: u64) -> Option<Active>
+    ensures { IfSome result (Found s.now at) }
 {
     if has_bits(s, at, ACTIVE_BITS) {
         return active_words(s, at);
     }
-    let active = no_active();
-    Quick { ok: false, active }
+    None
 }

@@ -37,8 +37,7 @@ pub fn zone_money(l: Ledger, x: [Watts; 6], zone: Zone, minutes: u32) -> Ledger
     requires { Room 0 l × ZoneOf zone minutes x }
     ensures { ZoneEntered zone minutes x l result }
 {
-    let prices = zone.prices;
-    l.spend(six_cost(x, prices, minutes))
+    l.spend(six_cost(x, zone.prices, minutes))
 }
 
 // An interval's mismatches, of both bars: "d·mismatch price".

@@ -26,13 +26,9 @@ pub fn whole_span(most: u64) -> Span
 fn starting(s: Span, k: u64) -> Span
     ensures { result ≡ started s k }
 {
-    if s.from < k {
-        Span {
-            from: k,
-            until: s.until,
-        }
-    } else {
-        s
+    Span {
+        from: s.from.max(k),
+        until: s.until,
     }
 }
 
@@ -40,13 +36,9 @@ fn starting(s: Span, k: u64) -> Span
 fn ending(s: Span, k: u64) -> Span
     ensures { result ≡ ended s k }
 {
-    if k < s.until {
-        Span {
-            from: s.from,
-            until: k,
-        }
-    } else {
-        s
+    Span {
+        from: s.from,
+        until: s.until.min(k),
     }
 }
 
@@ -56,12 +48,12 @@ pub fn at_least(s: Span, slope: u64, x: u64, y: u64) -> Span
     ensures { result ≡ narrow s (least slope x y) }
 {
     if x <= y {
-        return s;
+        s
+    } else if slope == 0 {
+        ending(s, 0)
+    } else {
+        starting(s, (x - y).div_ceil(slope))
     }
-    if slope == 0 {
-        return ending(s, 0);
-    }
-    starting(s, (x - y + slope - 1) / slope)
 }
 
 // Those v of a span with slope·v + x ≤ y.
@@ -70,12 +62,12 @@ pub fn at_most(s: Span, slope: u64, x: u64, y: u64) -> Span
     ensures { result ≡ narrow s (most slope x y) }
 {
     if y < x {
-        return ending(s, 0);
+        ending(s, 0)
+    } else if slope == 0 {
+        s
+    } else {
+        ending(s, (y - x) / slope + 1)
     }
-    if slope == 0 {
-        return s;
-    }
-    ending(s, (y - x) / slope + 1)
 }
 
 // Whether a span has none.
@@ -90,11 +82,5 @@ pub fn clamp(s: Span, v: u64) -> u64
     requires { s.from < s.until }
     ensures { result ≡ clamped s v }
 {
-    if v < s.from {
-        return s.from;
-    }
-    if v < s.until {
-        return v;
-    }
-    s.until - 1
+    v.clamp(s.from, s.until - 1)
 }

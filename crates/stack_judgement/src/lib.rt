@@ -94,15 +94,13 @@ fn judge_messages(
     ensures { TakesTurns (stated_rows front halves.now zones.now minima.now devices.now cells.now)
         (plans_in (messages_of host_limit batch.now)) results.old results.new table.old table.new result }
 {
-    let places = ROW * count;
     let mut reached = Reached { at: 0, bytes: 0 };
-    let mut place = 0;
-    while place < places {
+    for k in 0..count {
+        let place = ROW * k;
         reached = next_turn(
             front, halves, zones, minima, devices, cells, batch, settings, starts, powers, results,
             table, reached, place,
         );
-        place += ROW;
     }
     reached.bytes
 }

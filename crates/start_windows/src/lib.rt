@@ -13,14 +13,12 @@ fn ahead_of(w: StartWindow, on0: u32, settings: &[SettingRow], starts: &[u32]) -
     requires { Timed settings.now starts.now }
     ensures { Reached w on0 settings.now starts.now result 0 }
 {
-    let mut t = 0;
-    while t < settings.len() {
+    for t in 0..settings.len() {
         if w.from <= starts[t] {
             return t;
         }
-        t += 1;
     }
-    t
+    settings.len()
 }
 
 // The starts with window start ≤ S < window end: only the intervals that begin inside the window are looked at.
@@ -28,14 +26,12 @@ fn starts_in(w: StartWindow, on0: u32, settings: &[SettingRow], starts: &[u32]) 
     requires { Timed settings.now starts.now }
     ensures { result ≡ starts_at w on0 settings.now starts.now }
 {
-    let mut t = ahead_of(w, on0, settings, starts);
     let mut counted = 0;
-    while t < settings.len() {
+    for t in ahead_of(w, on0, settings, starts)..settings.len() {
         if w.until <= starts[t] {
             return counted;
         }
         counted += started_at(on0, settings, t);
-        t += 1;
     }
     counted
 }
@@ -46,10 +42,8 @@ pub fn all_starts(on0: u32, settings: &[SettingRow]) -> u32
     ensures { result ≡ all_starts on0 settings.now }
 {
     let mut sum = 0;
-    let mut t = 0;
-    while t < settings.len() {
+    for t in 0..settings.len() {
         sum += started_at(on0, settings, t);
-        t += 1;
     }
     sum
 }

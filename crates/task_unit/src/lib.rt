@@ -10,7 +10,6 @@ use case_inspection::{
     CELLS, DEVICES, INTERVALS, MINIMA, SMALL_CELLS, SMALL_MINIMA, SMALL_TIMES, TIMES, ZONES,
 };
 use case_sizes::{SMALL_DEVICES, SMALL_INTERVALS, Size};
-use message_ends::Ending;
 use model::Inspected;
 use task_work::serve_in;
 use tasks::Task;
@@ -40,15 +39,12 @@ fn serve_small(task: Task, case: &[u8], message: &[u8], res: &mut [u8], table: &
         &mut devices,
         &mut cells,
     );
-    let ending = read.ending;
-    let front = read.front;
-    let counts = read.counts;
-    let n = counts.devices;
-    let m = counts.intervals;
-    let z = counts.zones;
-    match ending {
-        Ending::Fails(f) => tell_case(Inspected::Refused(f)),
-        Ending::Passes => {
+    match read {
+        Err(f) => tell_case(Inspected::Refused(f)),
+        Ok(head) => {
+            let n = head.counts.devices;
+            let m = head.counts.intervals;
+            let z = head.counts.zones;
             let setting = row_places::blank_setting();
             let mut settings = [setting; SMALL_CELLS];
             let mut starts = [0u32; SMALL_TIMES];
@@ -59,7 +55,7 @@ fn serve_small(task: Task, case: &[u8], message: &[u8], res: &mut [u8], table: &
             serve_in(
                 task,
                 case,
-                front,
+                head.front,
                 &halves[..m],
                 &zones[..z],
                 &minima[..j],
@@ -100,15 +96,12 @@ fn serve_large(task: Task, case: &[u8], message: &[u8], res: &mut [u8], table: &
         &mut devices,
         &mut cells,
     );
-    let ending = read.ending;
-    let front = read.front;
-    let counts = read.counts;
-    let n = counts.devices;
-    let m = counts.intervals;
-    let z = counts.zones;
-    match ending {
-        Ending::Fails(f) => tell_case(Inspected::Refused(f)),
-        Ending::Passes => {
+    match read {
+        Err(f) => tell_case(Inspected::Refused(f)),
+        Ok(head) => {
+            let n = head.counts.devices;
+            let m = head.counts.intervals;
+            let z = head.counts.zones;
             let setting = row_places::blank_setting();
             let mut settings = [setting; CELLS];
             let mut starts = [0u32; TIMES];
@@ -119,7 +112,7 @@ fn serve_large(task: Task, case: &[u8], message: &[u8], res: &mut [u8], table: &
             serve_in(
                 task,
                 case,
-                front,
+                head.front,
                 &halves[..m],
                 &zones[..z],
                 &minima[..j],

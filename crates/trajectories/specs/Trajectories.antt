@@ -1,6 +1,6 @@
 -- What a start gives the intervals before it, and a stop itself and those after it.
-use Rattle.std.specs.Prelude.{◌≡◌, refl, Bool, true, false, ◌&&◌, List, ℕ, ◌+◌, ◌-◌, ◌*◌, ◌≤◌, ◌<◌, ltb, leb, eqb, length, get_or, set}
-use Rattle.std.proofs.Common.{sym, ap, ◌∙◌, arith, mul-le-mul_left, le-leb, lt-ltb, le-ltb, length-set, get_or-set_same, get_or-set_other}
+use Rattle.std.specs.Prelude.{◌≡◌, refl, Bool, true, false, ◌&&◌, List, ℕ, ◌+◌, ◌-◌, ◌*◌, ◌≤◌, ◌<◌, ltb, leb, eqb, length, get_or}
+use Rattle.std.proofs.Common.{sym, ap, ◌∙◌, arith, mul-le-mul_left, le-leb, lt-ltb, le-ltb}
 use Rattle.std.proofs.Math.Decide.{dec_le}
 use Rattle.std.proofs.lemmas.Bool.{lt-leb}
 use Rattle.numbers.specs.Sum.{gate}
@@ -48,44 +48,6 @@ module _ (a b k : ℕ) where
   ahead h = rw (lt-leb a k h) refl
 
 module _ (f : ℕ → ℕ) where
-  pub raised-none : (a : ℕ) (l : List ℕ) → Raised f a a l l
-  raised-none a l = record { long = refl; number = λ k. go k (dec_le a k) }
-    where
-      go : (k : ℕ) → Dec (a ≤ k) → get_or l k 0 ≡ get_or l k 0 + gate (leb a k && ltb k a) (f k)
-      go k (yes h) = rw (past a a k h) (omega arith)
-      go k (no h) = rw (ahead a a k (omega arith)) (omega arith)
-
-  -- the number behind, and the number ahead, is as it was
-  pub raised-behind : (a : ℕ) {b : ℕ} {old new : List ℕ} → Raised f a b old new → get_or new b 0 ≡ get_or old b 0
-  raised-behind a {b} h = let e : b ≤ b = omega arith in h.number b ∙ rw (past a b b e) (omega arith)
-
-  pub raised-ahead : {a b : ℕ} (k : ℕ) {old new : List ℕ} → k < a → Raised f a b old new → get_or new k 0 ≡ get_or old k 0
-  raised-ahead {a} {b} k l h = h.number k ∙ rw (ahead a b k l) (omega arith)
-
-  -- one more raised: number c, between the numbers that are raised and those that are not
-  module _ {a b c v : ℕ} {old new : List ℕ} (m : c < length old) (h : Raised f a b old new) (e : v ≡ get_or new c 0 + f c) where
-    other : (k x y : ℕ) → ((k ≡ c) → ⊥) → (leb a k && ltb k b) ≡ (leb x k && ltb k y) → get_or (set new c v) k 0 ≡ get_or old k 0 + gate (leb x k && ltb k y) (f k)
-    other k x y n g = get_or-set_other new c k v 0 n ∙ h.number k ∙ ap (λ (t : Bool). get_or old k 0 + gate t (f k)) g
-
-    same : get_or new c 0 ≡ get_or old c 0 → (x y : ℕ) → (leb x c && ltb c y) ≡ true → get_or (set new c v) c 0 ≡ get_or old c 0 + gate (leb x c && ltb c y) (f c)
-    same g x y w = rw w (get_or-set_same new c v 0 (omega (arith, h.long)) ∙ e ∙ ap (λ (n : ℕ). n + f c) g)
-
-  pub raised-next : {a b v : ℕ} {old new : List ℕ} → a ≤ b → b < length old → Raised f a b old new → v ≡ get_or new b 0 + f b → Raised f a (b + 1) old (set new b v)
-  raised-next {a} {b} {v} {old} {new} l m h e = record { long = length-set new b v ∙ h.long; number = λ k. go k (dec_le k b) (dec_le b k) }
-    where
-      go : (k : ℕ) → Dec (k ≤ b) → Dec (b ≤ k) → get_or (set new b v) k 0 ≡ get_or old k 0 + gate (leb a k && ltb k (b + 1)) (f k)
-      go k (yes x) (yes y) = let q : k ≡ b = omega arith in rw q (same m h e (raised-behind a h) a (b + 1) (within a (b + 1) b l (omega arith)))
-      go k (yes x) (no y) = other m h e k a (b + 1) (λ q. omega arith) (ap (λ (t : Bool). leb a k && t) (lt-ltb k b (omega arith) ∙ sym (lt-ltb k (b + 1) (omega arith))))
-      go k (no x) d = other m h e k a (b + 1) (λ q. omega arith) (past a b k (omega arith) ∙ sym (past a (b + 1) k (omega arith)))
-
-  pub raised-back : {a b c v : ℕ} {old new : List ℕ} → a ≡ c + 1 → c < b → c < length old → Raised f a b old new → v ≡ get_or new c 0 + f c → Raised f c b old (set new c v)
-  raised-back {a} {b} {c} {v} {old} {new} z l m h e = record { long = length-set new c v ∙ h.long; number = λ k. go k (dec_le k c) (dec_le c k) }
-    where
-      go : (k : ℕ) → Dec (k ≤ c) → Dec (c ≤ k) → get_or (set new c v) k 0 ≡ get_or old k 0 + gate (leb c k && ltb k b) (f k)
-      go k (yes x) (yes y) = let q : k ≡ c = omega arith in rw q (same m h e (raised-ahead c (omega arith) h) c b (within c b c (omega arith) l))
-      go k (yes x) (no y) = other m h e k c b (λ q. omega arith) (ahead a b k (omega arith) ∙ sym (ahead c b k (omega arith)))
-      go k (no x) d = other m h e k c b (λ q. omega arith) (ap (λ (t : Bool). t && ltb k b) (le-leb a k (omega arith) ∙ sym (le-leb c k (omega arith))))
-
   -- nothing is left behind, nothing is left ahead
   pub raised-up : {a b c : ℕ} {old new : List ℕ} → a ≤ b → b ≤ c → ((k : ℕ) → b ≤ k → k < c → f k ≡ 0) → Raised f a b old new → Raised f a c old new
   raised-up {a} {b} {c} {old} {new} l m z h = record { long = h.long; number = λ k. h.number k ∙ ap (λ (n : ℕ). get_or old k 0 + n) (go k (dec_le b k) (dec_le c k)) }
@@ -117,33 +79,15 @@ module _ {power ramp : ℕ} {starts : List ℕ} {e : ℕ} {row : List ℕ} (h : 
 
   -- going back from a start: the numbers from t on are raised
   module _ {t : ℕ} {now : List ℕ} (l : t ≤ e) (m : 0 < t) (r : Raised (rise_in power ramp starts e) t e row now) where
-    pub before-kept : get_or now (t - 1) 0 ≤ most_power - 100000
-    before-kept = rw (raised-ahead (rise_in power ramp starts e) (t - 1) (omega arith) r) (h.low (t - 1))
-
-    pub before-minutes : get_or starts t 0 ≤ get_or starts (e + 1) 0
-    before-minutes = h.clock.rising t (e + 1) (omega arith) (omega (arith, h.interval))
-
     module _ {left : ℕ} (is : left ≡ power - ramp * (get_or starts (e + 1) 0 - get_or starts t 0)) where
       here : left ≡ rise_in power ramp starts e (t - 1)
       here = let z : t - 1 + 1 ≡ t = omega arith in is ∙ rw z refl
-
-      pub before-next : {v : ℕ} → v ≡ get_or now (t - 1) 0 + left → Raised (rise_in power ramp starts e) (t - 1) e row (set now (t - 1) v)
-      before-next f = raised-back (rise_in power ramp starts e) (omega arith) (omega arith) (omega (arith, h.interval)) r (f ∙ ap (λ (x : ℕ). get_or now (t - 1) 0 + x) here)
 
       pub before-stop : left ≡ 0 → Raised (rise_in power ramp starts e) 0 e row now
       before-stop z = raised-down (rise_in power ramp starts e) (omega arith) l (λ k a b. none_before (t - 1) (omega arith) (sym here ∙ z) k (omega arith)) r
 
   -- going on from a stop: the numbers below t are raised
   module _ {t : ℕ} {now : List ℕ} (l : e ≤ t) (m : t < length row) (r : Raised (fall_in power ramp starts e) e t row now) where
-    pub after_kept : get_or now t 0 ≤ most_power - 100000
-    after_kept = rw (raised-behind (fall_in power ramp starts e) e r) (h.low t)
-
-    pub after-minutes : get_or starts e 0 ≤ get_or starts (t + 1) 0
-    after-minutes = h.clock.rising e (t + 1) (omega arith) (omega arith)
-
     module _ {left : ℕ} (is : left ≡ fall_in power ramp starts e t) where
-      pub after_next : {v : ℕ} → v ≡ get_or now t 0 + left → Raised (fall_in power ramp starts e) e (t + 1) row (set now t v)
-      after_next f = raised-next (fall_in power ramp starts e) l m r (f ∙ ap (λ (x : ℕ). get_or now t 0 + x) is)
-
       pub after_stop : left ≡ 0 → Raised (fall_in power ramp starts e) e (length row) row now
       after_stop z = raised-up (fall_in power ramp starts e) l (omega arith) (λ k a b. none_after t l m (sym is ∙ z) k a b) r

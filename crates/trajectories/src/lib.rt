@@ -26,8 +26,7 @@ pub fn left_after(power: u32, ramp: u32, minutes: u32) -> u32
     requires { (power ≤ 100000) × (ramp ≤ 100000) × (minutes ≤ last_minute) }
     ensures { (result ≡ power - ramp * minutes) × (result ≤ 100000) }
 {
-    let gone = ramp * minutes;
-    if gone < power { power - gone } else { 0 }
+    power.saturating_sub(ramp * minutes)
 }
 
 // Adds what a start in interval e gives those before it, back to where nothing is left.
@@ -35,16 +34,13 @@ pub fn add_before(power: Kw, ramp: u32, starts: &[u32], e: usize, row: &mut [u32
     requires { Ramped power.0 ramp starts.now e row.old }
     ensures { Raised (rise_in power.0 ramp starts.now e) 0 e row.old row.new }
 {
-    let next = e + 1;
-    let until = starts[next];
-    let mut t = e;
-    while 0 < t {
-        let minutes = until - starts[t];
+    let until = starts[e + 1];
+    for t in (0..e).rev() {
+        let minutes = until - starts[t + 1];
         let left = left_after(power.0, ramp, minutes);
         if left == 0 {
             return;
         }
-        t -= 1;
         row[t] += left;
     }
 }
@@ -55,15 +51,12 @@ pub fn add_after(power: Kw, ramp: u32, starts: &[u32], e: usize, row: &mut [u32]
     ensures { Raised (fall_in power.0 ramp starts.now e) e (length row.old) row.old row.new }
 {
     let from = starts[e];
-    let mut t = e;
-    while t < row.len() {
-        let next = t + 1;
-        let minutes = starts[next] - from;
+    for t in e..row.len() {
+        let minutes = starts[t + 1] - from;
         let left = left_after(power.0, ramp, minutes);
         if left == 0 {
             return;
         }
         row[t] += left;
-        t = next;
     }
 }

@@ -5,7 +5,7 @@ ghost use Rattle.writing.specs.Splice.{times};
 ghost use Rattle.writing.specs.CaseSplices.{minima_splice, zone_splice};
 ghost use Rattle.bit_copier.specs.Moves.{Set, Moves};
 
-use bit_copier::{Copier, keep_field, keep_since};
+use bit_copier::{Copier, copy_each, keep_field, keep_since};
 
 // The widths of a zone's fields: four shares, six prices, two reactive prices; in each interval two minima, and two reactive ones.
 const SHARES_BITS: u64 = 4 * 10;
@@ -33,20 +33,6 @@ fn copy_minima(s: &[u8], buf: &mut [u8], q: Copier, edition: u32) -> Copier
     keep_since(s, buf, q, edition, REACTIVE_EDITION, MINIMA_BITS, 0)
 }
 
-// A zone's minima in every interval.
-fn copy_each_minima(s: &[u8], buf: &mut [u8], q: Copier, edition: u32, intervals: u64) -> Copier
-    requires { Set s.now q }
-    ensures { Moves (times intervals (minima_splice edition)) s.now buf.old buf.new q result }
-{
-    let mut t = q;
-    let mut k = 0;
-    while k < intervals {
-        t = copy_minima(s, buf, t, edition);
-        k += 1;
-    }
-    t
-}
-
 // A zone: shares and prices, since edition 2 two prices more, neutrally 1 each; then its minima.
 fn copy_zone(s: &[u8], buf: &mut [u8], q: Copier, edition: u32, intervals: u64) -> Copier
     requires { Set s.now q }
@@ -63,7 +49,9 @@ fn copy_zone(s: &[u8], buf: &mut [u8], q: Copier, edition: u32, intervals: u64) 
         REACTIVE_PRICES_BITS,
         UNIT_PRICES,
     );
-    copy_each_minima(s, buf, q, edition, intervals)
+    copy_each(buf, q, intervals, move |buf, q| {
+        copy_minima(s, buf, q, edition)
+    })
 }
 
 // So many zones.
@@ -78,11 +66,7 @@ pub fn copy_zones(
     requires { Set s.now q }
     ensures { Moves (times zones (zone_splice edition intervals)) s.now buf.old buf.new q result }
 {
-    let mut t = q;
-    let mut k = 0;
-    while k < zones {
-        t = copy_zone(s, buf, t, edition, intervals);
-        k += 1;
-    }
-    t
+    copy_each(buf, q, zones, move |buf, q| {
+        copy_zone(s, buf, q, edition, intervals)
+    })
 }

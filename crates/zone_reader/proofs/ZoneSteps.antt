@@ -1,6 +1,6 @@
 -- The steps of a zone's chain: shares, prices, prices of reactive reserves, minima.
 use mathlib.Core.Path.{◌≡◌, refl, ap, sym, ◌∙◌}
-use mathlib.Core.List.{List, map}
+use mathlib.Core.List.{List, [], map}
 use Prim.Native.Nat.{ℕ, ◌+◌, ◌≤◌, ◌<◌}
 use native.Mathlib.Omega.{arith}
 use lib.ListN.{length, get_or, take, set, length-set}
@@ -16,18 +16,17 @@ use Rattle.row_places.specs.declared.Zone.{Zone}
 use Rattle.row_places.specs.declared.Minima.{Minima}
 use Rattle.row_places.specs.Figures.{zone_row, minima_row}
 use Rattle.records.specs.Views.{minima_in, zone_in, six_in}
-use Rattle.fields.specs.declared.Went.{Went}
-use Rattle.fields.specs.declared.Went.TheVariants as W
-use Rattle.fields.specs.Got.{good, bad, got, told, Natural, nat-natural, then-natural, held-natural, goes_on, goes-off, mapped, told-off, went-good, went-bad}
+use Rattle.std.specs.Prelude.{Ok, Err}
+use Rattle.fields.specs.Got.{good, bad, got, Natural, nat-natural, then-natural, held-natural, mapped}
+use Rattle.fields.proofs.Steps.{on, off}
 use Rattle.field_rows.specs.Each.{list-natural}
 use Rattle.field_rows.specs.Going.{Storing, storing-none, storing-more, storing-off, storing-done}
-use Rattle.fields.proofs.Chains.{then-off, then-told}
 use Rattle.reactive_zones.proofs.Steps as R
-use Rattle.zone_reader.specs.Zones.{zone_from, zone_with, terms, terms_in, ahead, ahead_in, zone_pair, ZoneDone}
+use Rattle.zone_reader.specs.Zones.{zone_from, terms, terms_in, ahead, ahead_in, pair_in, interval_in, zone_pair}
 
 -- ---- any reader goes on from a zone
 
-pair-natural : Natural M.minima
+pub pair-natural : Natural M.minima
 unfolding M.minima
 pair-natural = held-natural _ _ (then-natural (nat-natural _) (λ a. nat-natural _))
 
@@ -44,7 +43,7 @@ unfolding M.six
 six-natural = held-natural _ _
     (then-natural (nat-natural _) (λ a. then-natural (nat-natural _) (λ b. then-natural (nat-natural _) (λ c. then-natural (nat-natural _) (λ d. then-natural (nat-natural _) (λ e. nat-natural _))))))
 
-terms-natural : Natural terms
+pub terms-natural : Natural terms
 terms-natural = then-natural shares-natural (λ a. six-natural)
 
 ahead-natural : (e : ℕ) → Natural (ahead e)
@@ -56,30 +55,13 @@ zone-natural e m = held-natural _ _ (then-natural shares-natural (λ a. then-nat
 
 -- ---- an interval's minima
 
-pub pair-told : (s : List ℕ) (p : Place) (w : Went) (v : List ℕ) → length v ≡ 2 → told w (take 2 v) ≡ got (list 2 (figure 23 0 6400000)) s p
-    → told w (record { rru = get_or v 0 0; rrd = get_or v 1 0; reactive = C.no_reactive_reserves }) ≡ got M.minima s p
+pub pair-good : (s : List ℕ) (p : Place) {q : Place} (v : List ℕ) → length v ≡ 2 → good (take 2 v) q ≡ got (list 2 (figure 23 0 6400000)) s p → good (pair_in v) q ≡ got M.minima s p
 unfolding M.minima held ◌then◌ list repeated
-pair-told s p w v l e =
-    mapped (list-natural 2 (nat-natural _)) (λ (v : List ℕ). record { rru = get_or v 0 0; rrd = get_or v 1 0; reactive = C.no_reactive_reserves }) s p w v refl (rw (take_all 2 v (omega arith)) at e)
+pair-good s p {q} v l e = mapped (list-natural 2 (nat-natural _)) pair_in s p (Ok q) v refl (rw (take_all 2 v (omega arith)) at e)
 
-abbrev reactive : ℕ → Layout C.ReactiveReserves
-reactive e = since e 2 C.no_reactive_reserves B.reactive_minima
-
--- the same with those of reactive reserves
-abbrev minima_with : C.Minima → C.ReactiveReserves → C.Minima
-minima_with x r = record { rru = x.rru; rrd = x.rrd; reactive = r }
-
-module _ (e : ℕ) (s : List ℕ) (p : Place) where
-  minima-is : got (B.minima e) s p ≡ (M.minima).read s p bad (λ x p. (reactive e).read s p bad (λ r p. good (minima_with x r) p))
-  unfolding B.minima held ◌then◌
-  minima-is = refl
-
-  module _ (x : C.Minima) {v : Went} (t : told v x ≡ got M.minima s p) where
-    pub minima-no-pair : (y : C.Minima) {f : Fault} → v ≡ W.Off f → told v y ≡ got (B.minima e) s p
-    minima-no-pair y o = told-off y o (minima-is ∙ goes-off pair-natural s p bad _ (went-bad x t o))
-
-    pub minima-done : {q : Place} (w : Went) (r : C.ReactiveReserves) → v ≡ W.On q → told w r ≡ got (reactive e) s q → told w (minima_with x r) ≡ got (B.minima e) s p
-    minima-done {q} w r o g = mapped (R.minima-natural e) (minima_with x) s q w r (minima-is ∙ goes_on pair-natural s p bad _ (went-good x t o)) g
+pub pair-bad : (s : List ℕ) (p : Place) {f : Fault} → bad f ≡ got (list 2 (figure 23 0 6400000)) s p → bad f ≡ got M.minima s p
+unfolding M.minima held ◌then◌ list repeated
+pair-bad s p {f} e = mapped (list-natural 2 (nat-natural _)) pair_in s p (Err f) [] refl e
 
 -- k of n intervals' minima have been read, and stand in the first rows
 pub record Minding (e : ℕ) (s : List ℕ) (n : ℕ) (start : Place) (k : ℕ) (minima : List (List ℕ)) (p : Place) : Type 0 where
@@ -90,52 +72,46 @@ pub minding-none : (e : ℕ) (s : List ℕ) (start : Place) (minima : List (List
 minding-none e s start minima = record { long = refl; storing = storing-none (omega arith) }
 
 module _ {e : ℕ} {s : List ℕ} {n : ℕ} {start : Place} {k : ℕ} {minima : List (List ℕ)} {p : Place} (t : Minding e s n start k minima p) where
-  module _ (h : k < length minima) (x : Minima) {w : Went} (g : told w (minima_in (minima_row x)) ≡ got (B.minima e) s p) where
-    pub minding-more : {next : List (List ℕ)} {q : Place} → w ≡ W.On q → next ≡ set minima k (minima_row x) → Minding e s n start (k + 1) next q
-    minding-more o j = rw j (record {
-      long = length-set minima k (minima_row x) ∙ t.long;
-      storing = storing-more t.storing (minima-natural e) (omega (arith, t.long)) (went-good (minima_in (minima_row x)) g o);
-    })
+  pub minding-more : k < length minima → (x : Minima) {next : List (List ℕ)} {q : Place} → good (interval_in x) q ≡ got (B.minima e) s p → next ≡ set minima k (minima_row x) → Minding e s n start (k + 1) next q
+  minding-more h x g j = rw j (record {
+    long = length-set minima k (minima_row x) ∙ t.long;
+    storing = storing-more t.storing (minima-natural e) (omega (arith, t.long)) g;
+  })
 
-    pub minding-off : {f : Fault} → w ≡ W.Off f → told w (map minima_in minima) ≡ got (list (length minima) (B.minima e)) s start
-    minding-off o = rw t.long
-        (told-off (map minima_in minima) o (storing-off t.storing (minima-natural e) (omega (arith, t.long)) (went-bad (minima_in (minima_row x)) g o)))
+  pub minding-off : k < length minima → {f : Fault} → bad f ≡ got (B.minima e) s p → bad f ≡ got (list (length minima) (B.minima e)) s start
+  minding-off h g = rw t.long (storing-off t.storing (minima-natural e) (omega (arith, t.long)) g)
 
   pub minding-done : length minima ≤ k → good (map minima_in minima) p ≡ got (list (length minima) (B.minima e)) s start
-  minding-done h = rw t.long (sym (storing-done t.storing (omega (arith, t.long)) ∙ rw (take_all n minima (omega (arith, t.long))) refl))
+  minding-done h = rw t.long (sym (sym (storing-done t.storing (omega (arith, t.long))) ∙ rw (take_all n minima (omega (arith, t.long))) refl))
 
 -- ---- shares and prices
 
 abbrev shares_from : List ℕ → C.Shares
 shares_from v = record { rgu = get_or v 0 0; rgd = get_or v 1 0; scr = get_or v 2 0; nsc = get_or v 3 0 }
 
+four-natural : Natural (list 4 (figure 10 0 1000))
+four-natural = list-natural 4 (nat-natural _)
+
+prices-natural : Natural (list 6 (figure 7 1 100))
+prices-natural = list-natural 6 (nat-natural _)
+
 module _ (s : List ℕ) (p : Place) where
   terms-is : got terms s p ≡ (list 4 (figure 10 0 1000)).read s p bad (λ a p. (list 6 (figure 7 1 100)).read s p bad (λ b p. good (shares_from a, six_in b) p))
   unfolding M.shares M.six held ◌then◌ list repeated
   terms-is = refl
 
-  module _ (a : List ℕ) {x : Went} (e : told x (take 4 a) ≡ got (list 4 (figure 10 0 1000)) s p) where
-    pub terms-no-shares : (z : Zone) {f : Fault} → x ≡ W.Off f → told x (terms_in z) ≡ got terms s p
-    terms-no-shares z o = told-off (terms_in z) o (terms-is ∙ goes-off (list-natural 4 (nat-natural _)) s p bad _ (went-bad (take 4 a) e o))
+  pub terms-off : {f : Fault} → bad f ≡ got (list 4 (figure 10 0 1000)) s p → bad f ≡ got terms s p
+  terms-off e = off four-natural s p bad _ e refl ∙ sym terms-is
 
-    pub terms-done : (b : List ℕ) (w : Went) {z : Zone} {q : Place} → length a ≡ 4 → length b ≡ 6 → x ≡ W.On q → told w (take 6 b) ≡ got (list 6 (figure 7 1 100)) s q → z ≡ zone_from a b
-        → told w (terms_in z) ≡ got terms s p
-    terms-done b w {z} {q} la lb o g k =
-        ap (λ (z : Zone). told w (terms_in z)) k
-        ∙ mapped (list-natural 6 (nat-natural _)) (λ b. (shares_from a, six_in b)) s q w b
-        (terms-is ∙ goes_on (list-natural 4 (nat-natural _)) s p bad _ (rw (take_all 4 a (omega arith)) at (went-good (take 4 a) e o)))
-        (rw (take_all 6 b (omega arith)) at g)
+  module _ (a : List ℕ) {q : Place} (l : length a ≡ 4) (e : good (take 4 a) q ≡ got (list 4 (figure 10 0 1000)) s p) where
+    first : good a q ≡ got (list 4 (figure 10 0 1000)) s p
+    first = rw (take_all 4 a (omega arith)) at e
 
--- ---- prices of reactive reserves
+    pub terms-late : {f : Fault} → bad f ≡ got (list 6 (figure 7 1 100)) s q → bad f ≡ got terms s p
+    terms-late h = on four-natural s p bad _ first (off prices-natural s q bad _ h refl) ∙ sym terms-is
 
-module _ (e : ℕ) (s : List ℕ) (p : Place) (z : Zone) {x : Went} (t : told x (terms_in z) ≡ got terms s p) where
-  pub ahead-no-terms : (y : Zone) {f : Fault} → x ≡ W.Off f → told x (ahead_in y) ≡ got (ahead e) s p
-  ahead-no-terms y o = told-off (ahead_in y) o (then-off terms-natural _ s p (went-bad (terms_in z) t o))
-
-  pub ahead-done : {q : Place} (w : Went) (qru qrd : ℕ) {y : Zone} → x ≡ W.On q → told w (record { qru = qru; qrd = qrd }) ≡ got (since e 2 C.unit_prices B.zone_reactive_prices) s q
-      → y ≡ zone_with z qru qrd → told w (ahead_in y) ≡ got (ahead e) s p
-  ahead-done w qru qrd o g k =
-      ap (λ (y : Zone). told w (ahead_in y)) k ∙ then-told terms-natural _ s p w (record { qru = qru; qrd = qrd }) (R.prices-natural e) (went-good (terms_in z) t o) g
+    pub terms-on : (b : List ℕ) {z : Zone} {r : Place} → length b ≡ 6 → good (take 6 b) r ≡ got (list 6 (figure 7 1 100)) s q → z ≡ zone_from a b → good (terms_in z) r ≡ got terms s p
+    terms-on b {r = r} m h k = ap (λ (z : Zone). good (terms_in z) r) k ∙ on four-natural s p bad _ first (on prices-natural s q bad _ (rw (take_all 6 b (omega arith)) at h) refl) ∙ sym terms-is
 
 -- ---- a zone
 
@@ -148,15 +124,13 @@ module _ (e : ℕ) (s : List ℕ) (p : Place) where
   unfolding B.zone held ◌then◌
   zone-is m = refl
 
-  module _ (z : Zone) {x : Went} (t : told x (ahead_in z) ≡ got (ahead e) s p) where
-    pub zone-no-terms : (y : Zone) (minima : List (List ℕ)) {f : Fault} → x ≡ W.Off f → ZoneDone e s p x y minima
-    zone-no-terms y minima o = record {
-      is = told-off (zone_pair (zone_row y) minima) o (zone-is (length minima) ∙ goes-off (ahead-natural e) s p bad _ (went-bad (ahead_in z) t o));
-    }
+  pub zone-off : (minima : List (List ℕ)) {f : Fault} → bad f ≡ got (ahead e) s p → bad f ≡ got (B.zone e (length minima)) s p
+  zone-off minima h = off (ahead-natural e) s p bad _ h refl ∙ sym (zone-is (length minima))
 
-    pub zone-done : (minima : List (List ℕ)) (w : Went) {q : Place} → x ≡ W.On q → told w (map minima_in minima) ≡ got (list (length minima) (B.minima e)) s q → ZoneDone e s p w z minima
+  module _ (z : Zone) {q : Place} (t : good (ahead_in z) q ≡ got (ahead e) s p) where
+    pub zone-late : (minima : List (List ℕ)) {f : Fault} → bad f ≡ got (list (length minima) (B.minima e)) s q → bad f ≡ got (B.zone e (length minima)) s p
+    zone-late minima h = on (ahead-natural e) s p bad _ t (off (list-natural (length minima) (minima-natural e)) s q bad _ h refl) ∙ sym (zone-is (length minima))
+
+    pub zone-on : (minima : List (List ℕ)) {r : Place} → good (map minima_in minima) r ≡ got (list (length minima) (B.minima e)) s q → good (zone_pair (zone_row z) minima) r ≡ got (B.zone e (length minima)) s p
     unfolding zone_in
-    zone-done minima w {q} o g = record {
-      is = mapped (list-natural (length minima) (minima-natural e)) (zone_of_parts (ahead_in z)) s q w (map minima_in minima)
-          (zone-is (length minima) ∙ goes_on (ahead-natural e) s p bad _ (went-good (ahead_in z) t o)) g;
-    }
+    zone-on minima h = on (ahead-natural e) s p bad _ t (on (list-natural (length minima) (minima-natural e)) s q bad _ h refl) ∙ sym (zone-is (length minima))

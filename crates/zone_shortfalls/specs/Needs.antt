@@ -1,5 +1,5 @@
 -- A zone's six needs, from its shares, its sums and its minima.
-use Rattle.std.specs.Prelude.{◌≡◌, Bool, true, false, not, ◌&&◌, List, [], ◌∷◌, map, eqb, get_or, length}
+use Rattle.std.specs.Prelude.{◌≡◌, Bool, true, false, not, ◌&&◌, List, [], ◌∷◌, map, get_or, length}
 use Rattle.std.proofs.Math.Path.{refl}
 use Rattle.std.proofs.Common.{sym, ap, ap₂, ◌∙◌, arith, add-one}
 use Prim.Native.Nat.{ℕ, zero, suc, ◌+◌, ◌-◌, ◌*◌, ◌≤◌, ◌<◌, max}
@@ -18,14 +18,14 @@ use Rattle.row_places.specs.declared.Front.{Front}
 use Rattle.row_places.specs.declared.Reserves.{Reserves}
 use Rattle.row_places.specs.declared.Zone.{Zone}
 use Rattle.row_places.specs.declared.Minima.{Minima}
-use Rattle.row_places.specs.Figures.{side_at, zonebits_at, in_zone, setting_of, zone_of, minima_of}
+use Rattle.row_places.specs.Figures.{setting_of, zone_of, minima_of}
 use Rattle.numbers.specs.Parts.{part, part_at}
 use Rattle.numbers.specs.Ranges.{sum-next, sum-skip, largest-next, largest-skip}
 use Rattle.records.specs.Views.{eight_in, minima_in, system_in, plan_in, Ready}
 use Rattle.records.specs.Viewed as W
 use Rattle.records.specs.Ranged.{shares-small}
 use Rattle.zone_totals.specs.declared.ZoneSums.{ZoneSums}
-use Rattle.zone_totals.specs.Sums.{sums_by, no_sums, with_device, sums_to}
+use Rattle.zone_totals.specs.Sums.{sums_by, with_device, sums_to}
 
 pub record Thousandths (z : Zone) : Type 0 where
   pub rgu : z.rgu ≤ 1000
@@ -41,9 +41,6 @@ required_of z load unit =
     ∷ watts (z.rgu * load + z.scr * unit)
     ∷ watts (z.rgu * load + z.scr * unit + z.nsc * unit)
     ∷ []
-
-pub required-made : {a b c d : Watts} {e f g h : ℕ} → a.0 ≡ e → b.0 ≡ f → c.0 ≡ g → d.0 ≡ h → ◌≡◌ {A = List Watts} (a ∷ b ∷ c ∷ d ∷ []) (watts e ∷ watts f ∷ watts g ∷ watts h ∷ [])
-required-made p q r s = rw (← p, ← q, ← r, ← s) refl
 
 -- the six needs from what is required, the sums and the minima
 abbrev pub needs_of : List Watts → ZoneSums → Minima → List Watts
@@ -62,10 +59,6 @@ zone_needs z least s = needs_of (required_of z s.load.0 s.unit.0) s least
 pub six-made : {a b c d e f : Watts} {u v w x y z : ℕ} → a.0 ≡ u → b.0 ≡ v → c.0 ≡ w → d.0 ≡ x → e.0 ≡ y → f.0 ≡ z
     → ◌≡◌ {A = List Watts} (a ∷ b ∷ c ∷ d ∷ e ∷ f ∷ []) (watts u ∷ watts v ∷ watts w ∷ watts x ∷ watts y ∷ watts z ∷ [])
 six-made p q r s t o = rw (← p, ← q, ← r, ← s, ← t, ← o) refl
-
-pub needs-from : (z : Zone) (least : Minima) {s v : ZoneSums} {required r : List Watts} → r ≡ needs_of required s least → required
-    ≡ required_of z s.load.0 s.unit.0 → s ≡ v → r ≡ zone_needs z least v
-needs-from z least e f g = e ∙ rw (f, g) refl
 
 -- ---- a decoded case and plan
 

@@ -37,13 +37,14 @@ fn zone_needs(required: [Watts; 4], s: ZoneSums, least: Minima) -> [Watts; 6]
 {
     let spinning = s.rgu.plus(s.scr);
     let standing = spinning.plus(s.nsc);
-    let a = short_of(required[0], s.rgu);
-    let b = short_of(required[1], s.rgd);
-    let c = short_of(required[2], spinning);
-    let d = short_of(required[3], standing);
-    let e = short_of(least.rru.in_watts(), s.rru);
-    let f = short_of(least.rrd.in_watts(), s.rrd);
-    [a, b, c, d, e, f]
+    [
+        short_of(required[0], s.rgu),
+        short_of(required[1], s.rgd),
+        short_of(required[2], spinning),
+        short_of(required[3], standing),
+        short_of(least.rru.in_watts(), s.rru),
+        short_of(least.rrd.in_watts(), s.rrd),
+    ]
 }
 
 // The shortfalls of zone z in interval t of m, each at its need, in the order of their prices.

@@ -1,5 +1,5 @@
 -- The turns of a loop that reads records into rows, and the rest of each into its part of a table.
-use mathlib.Core.Path.{◌≡◌, refl, ap₂, sym, ◌∙◌}
+use mathlib.Core.Path.{◌≡◌, refl, ap₂, ◌∙◌}
 use mathlib.Core.List.{List, [], ◌++◌}
 use Prim.Native.Nat.{ℕ, ◌+◌, ◌-◌, ◌*◌, ◌≤◌, ◌<◌}
 use native.Mathlib.Omega.{arith}
@@ -10,9 +10,7 @@ use Rattle.layouts.specs.declared.Place.{Place}
 use Rattle.layouts.specs.Layout.{Layout, list}
 use Rattle.numbers.specs.Rows.{rows}
 use Rattle.numbers.specs.Parts.{part, part-inside, patched-long, patched_same, patched-ahead}
-use Rattle.fields.specs.declared.Went.{Went}
-use Rattle.fields.specs.declared.Went.TheVariants as W
-use Rattle.fields.specs.Got.{good, got, told, Natural, told-off, went-good, went-bad}
+use Rattle.fields.specs.Got.{Got, good, bad, got, Natural}
 use Rattle.field_rows.specs.Going.{Reading, reading-none, reading-more, reading-off, reading-done}
 use Rattle.zone_table.specs.Tables.{Fits}
 
@@ -49,14 +47,11 @@ module _ {A : Type 0} {layout : ℕ → Layout A} {view : List ℕ → List (Lis
     pub stored-long : (own : List (List ℕ)) → length own ≡ length (take (a + m - a) (drop a table)) → length (take a table ++ (own ++ drop (a + m - a) (drop a table))) ≡ length table₀
     stored-long own k = patched-long [] table own a (a + m - a) (own-long own k ∙ omega arith) (omega (arith, inside)) ∙ u.table-long
 
-    module _ (natural : Natural (layout m)) (row : List ℕ) (own : List (List ℕ)) (k : length own ≡ length (take (a + m - a) (drop a table))) (w : Went)
-        (e : told w (view row own) ≡ got (layout (length own)) s p) where
-      here : told w (view row own) ≡ got (layout m) s p
-      here = rw (own-long own k) at e
-
-      pub parting-more : {next : List (List ℕ)} {q : Place} → w ≡ W.On q → next ≡ set heads i row
+    module _ (natural : Natural (layout m)) (row : List ℕ) (own : List (List ℕ)) (k : length own ≡ length (take (a + m - a) (drop a table))) where
+      pub parting-more : {next : List (List ℕ)} {q : Place} → good (view row own) q ≡ got (layout (length own)) s p → next ≡ set heads i row
           → Parting layout view s n m start heads₀ table₀ (i + 1) (a + m) next (take a table ++ (own ++ drop (a + m - a) (drop a table))) q
-      parting-more o g =
+      parting-more {q = q} e g =
+          let here : good (view row own) q ≡ got (layout m) s p = rw (own-long own k) at e in
           let wide : a + m - a ≡ m = omega arith in
           let long : length own ≡ m = own-long own k in
           let fit : i * m + m ≤ length table = omega (arith, inside, u.at) in
@@ -64,13 +59,14 @@ module _ {A : Type 0} {layout : ℕ → Layout A} {view : List ℕ → List (Lis
             at = omega arith;
             heads-long = length-set heads i row ∙ u.heads-long;
             table-long = patched-long [] table own (i * m) m long fit ∙ u.table-long;
-            reading = reading-more u.reading natural h (went-good (view row own) here o)
+            reading = reading-more u.reading natural h here
                 (λ k l. ap₂ view (get_or-set_other heads i k row [] (λ e. omega (arith, e))) (patched-ahead [] table own (i * m) m long fit (k * m) m (part-inside m k i l)))
                 (ap₂ view (get_or-set_same heads i row [] inside-heads) (patched_same [] table own (i * m) m long fit));
           })
 
-      pub parting-off : {f : Fault} (x : List A) → w ≡ W.Off f → told w x ≡ got (list n (layout m)) s start
-      parting-off x o = told-off x o (reading-off u.reading natural h (went-bad (view row own) here o))
+    pub parting-off : Natural (layout m) → (own : List (List ℕ)) → length own ≡ length (take (a + m - a) (drop a table)) → {f : Fault} → bad f ≡ got (layout (length own)) s p
+        → bad f ≡ got (list n (layout m)) s start
+    parting-off natural own k {f} e = let here : bad f ≡ got (layout m) s p = rw (own-long own k) at e in reading-off u.reading natural h here
 
   pub parting-done : n ≤ i → good (rows (seen view m heads table) n) p ≡ got (list n (layout m)) s start
-  parting-done h = sym (reading-done u.reading h)
+  parting-done h = reading-done u.reading h

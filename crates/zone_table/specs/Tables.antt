@@ -1,5 +1,5 @@
 -- A case's zones and devices in their tables: a row each, and each with its part of m rows.
-use Rattle.std.specs.Prelude.{◌≡◌, List, [], ℕ, ◌*◌, ◌≤◌, ◌<◌, length, get_or}
+use Rattle.std.specs.Prelude.{Result, Ok, ◌≡◌, List, [], ℕ, ◌*◌, ◌≤◌, ◌<◌, length, get_or}
 use Rattle.layouts.specs.declared.Place.{Place}
 use Rattle.layouts.specs.Layout.{list}
 use Rattle.model.specs.Case as C
@@ -9,9 +9,8 @@ use Rattle.row_places.specs.declared.Device.{Device}
 use Rattle.row_places.specs.Figures.{device_of, device_row, DeviceSmall}
 use Rattle.numbers.specs.Parts.{part}
 use Rattle.records.specs.Views.{most_intervals, device_in, device_prices_in, Padded, Counted}
-use Rattle.fields.specs.declared.Went.{Went}
-use Rattle.fields.specs.declared.Went.TheVariants.{On}
-use Rattle.fields.specs.Got.{got, told}
+use Rattle.layouts.specs.declared.Fault.{Fault}
+use Rattle.fields.specs.Got.{Got, good, got, seen, told}
 use Rattle.zone_reader.specs.Zones.{zone_pair}
 
 -- room for n rows, and for n parts of m
@@ -29,11 +28,11 @@ abbrev pub device_pair : List ℕ → List (List ℕ) → C.Device × C.DevicePr
 device_pair r cells = (device_in (device_of r) cells, device_prices_in (device_of r) cells)
 
 -- a device that was read, its cells in its part
-pub record DeviceDone (e : ℕ) (s : List ℕ) (p : Place) (zones last : ℕ) (w : Went) (d : Device) (cells : List (List ℕ)) : Type 0 where
-  pub is : told w (device_pair (device_row d) cells) ≡ got (B.device e (length cells) zones last) s p
-  pub small : (q : Place) → w ≡ On q → DeviceSmall d
-  pub counted : (q : Place) → w ≡ On q → Counted (device_of (device_row d))
-  pub padded : (q : Place) → w ≡ On q → (k : ℕ) → k < length cells → Padded (get_or cells k [])
+pub record DeviceDone (e : ℕ) (s : List ℕ) (p : Place) (zones last : ℕ) (r : Got Device) (cells : List (List ℕ)) : Type 0 where
+  pub is : seen (λ d. device_pair (device_row d) cells) r ≡ got (B.device e (length cells) zones last) s p
+  pub small : (d : Device) (q : Place) → r ≡ good d q → DeviceSmall d
+  pub counted : (d : Device) (q : Place) → r ≡ good d q → Counted (device_of (device_row d))
+  pub padded : (d : Device) (q : Place) → r ≡ good d q → (k : ℕ) → k < length cells → Padded (get_or cells k [])
 
 -- the n first devices
 abbrev pub devices_in : (n m : ℕ) → (devices cells : List (List ℕ)) → List (C.Device × C.DevicePrices)
@@ -49,7 +48,7 @@ pub record Manned (n m : ℕ) (devices cells : List (List ℕ)) : Type 0 where
   pub counted : (i : ℕ) → i < n → Counted (device_of (get_or devices i []))
   pub padded : (k : ℕ) → k < n * m → Padded (get_or cells k [])
 
-pub record DevicesDone (e : ℕ) (s : List ℕ) (p : Place) (n m zones last : ℕ) (w : Went) (devices cells : List (List ℕ)) : Type 0 where
-  pub is : told w (devices_in n m devices cells) ≡ got (list n (B.device e m zones last)) s p
-  pub stored : (q : Place) → w ≡ On q → (i : ℕ) → i < n → Stored (get_or devices i [])
-  pub manned : (q : Place) → w ≡ On q → Manned n m devices cells
+pub record DevicesDone (e : ℕ) (s : List ℕ) (p : Place) (n m zones last : ℕ) (r : Result Place Fault) (devices cells : List (List ℕ)) : Type 0 where
+  pub is : told r (devices_in n m devices cells) ≡ got (list n (B.device e m zones last)) s p
+  pub stored : (q : Place) → r ≡ Ok q → (i : ℕ) → i < n → Stored (get_or devices i [])
+  pub manned : (q : Place) → r ≡ Ok q → Manned n m devices cells

@@ -1,11 +1,10 @@
 -- A zone's sums over its members in one interval.
-use Rattle.std.specs.Prelude.{◌≡◌, refl, true, false, not, List, [], ℕ, zero, suc, ◌+◌, ◌*◌, ◌≤◌, ◌<◌, max, eqb, get_or, length}
+use Rattle.std.specs.Prelude.{◌≡◌, refl, not, List, [], ℕ, zero, suc, ◌+◌, ◌*◌, ◌≤◌, ◌<◌, max, eqb, get_or, length}
 use Rattle.std.proofs.Common.{◌∙◌, add-one}
 use native.Mathlib.Omega.{arith}
 use Rattle.numbers.specs.Sum.{gate}
 use Rattle.bits.specs.Pick.{pick}
 use Rattle.ranges.specs.Ranges.{Eight}
-use Rattle.numbers.specs.Every.{gate-le}
 use Rattle.kilowatts.specs.declared.Kw.{Kw}
 use Rattle.kilowatts.specs.Power.{kw}
 use Rattle.row_places.specs.declared.Front.{Front}
@@ -13,7 +12,7 @@ use Rattle.row_places.specs.declared.Reserves.{Reserves}
 use Rattle.row_places.specs.Figures.{side_at, zonebits_at, in_zone, setting_of}
 use Rattle.records.specs.Views.{most_power, eight_in, Ready}
 use Rattle.zone_totals.specs.declared.ZoneSums.{ZoneSums}
-use Rattle.mismatches.specs.Sides.{Powered, powered, place}
+use Rattle.mismatches.specs.Sides.{Powered, powered}
 
 -- the sums of n devices: powers of at most most_power, reserves of at most 100,000
 pub record SumsOf (n : ℕ) (s : ZoneSums) : Type 0 where
@@ -44,45 +43,12 @@ with_member s side p r = sums_by
     (kw (s.rru.0 + (r.rruon.0 + r.rruoff.0)))
     (kw (s.rrd.0 + (r.rrdon.0 + r.rrdoff.0)))
 
--- the code's eight sums
-pub member-made : {load unit rgu rgd scr nsc rru rrd : Kw} {a b c d e f g h : ℕ} → load.0 ≡ a → unit.0 ≡ b → rgu.0 ≡ c → rgd.0 ≡ d → scr.0 ≡ e → nsc.0 ≡ f → rru.0 ≡ g → rrd.0 ≡ h
-    → sums_by load unit rgu rgd scr nsc rru rrd ≡ sums_by (kw a) (kw b) (kw c) (kw d) (kw e) (kw f) (kw g) (kw h)
-member-made p q r s t u v w = rw (← p, ← q, ← r, ← s, ← t, ← u, ← v, ← w) refl
-
-pub member-small : (n : ℕ) (s : ZoneSums) (side p : ℕ) (r : Reserves) → SumsOf n s → p ≤ most_power → Eight (λ x. x ≤ 100000) (eight_in r) → SumsOf (n + 1) (with_member s side p r)
-member-small n s side p r h l w = record {
-  load = omega (arith, h.load, gate-le (eqb side 1) p most_power l);
-  unit = omega (arith, h.unit, gate-le (not (eqb side 1)) p most_power l);
-  rgu = omega (arith, h.rgu, w.rgu);
-  rgd = omega (arith, h.rgd, w.rgd);
-  scr = omega (arith, h.scr, w.scr);
-  nsc = omega (arith, h.nsc, w.nsc);
-  rru = omega (arith, h.rru, w.rru_on, w.rru_off);
-  rrd = omega (arith, h.rrd, w.rrd_on, w.rrd_off);
-}
-
-pub sums-mono : (m n : ℕ) (s : ZoneSums) → m ≤ n → SumsOf m s → SumsOf n s
-sums-mono m n s l h = record {
-  load = omega (arith, h.load);
-  unit = h.unit;
-  rgu = omega (arith, h.rgu);
-  rgd = omega (arith, h.rgd);
-  scr = omega (arith, h.scr);
-  nsc = omega (arith, h.nsc);
-  rru = omega (arith, h.rru);
-  rrd = omega (arith, h.rrd);
-}
-
 -- a device's setting and power stand at place k
 pub record Stood (settings : List (List ℕ)) (powers : List ℕ) (k : ℕ) : Type 0 where
   pub in-settings : k < length settings
   pub in-powers : k < length powers
   pub power_small : get_or powers k 0 ≤ most_power
   pub held_small : Eight (λ x. x ≤ 100000) (eight_in (setting_of (get_or settings k [])).reserves)
-
--- what the code takes out of the setting
-pub held_of : {settings : List (List ℕ)} {powers : List ℕ} {k : ℕ} {a : Reserves} → Stood settings powers k → a ≡ (setting_of (get_or settings k [])).reserves → Eight (λ x. x ≤ 100000) (eight_in a)
-held_of s e = rw e s.held_small
 
 -- one device more; its setting and its power stand at place k
 abbrev pub with_device : ZoneSums → List (List ℕ) → List (List ℕ) → List ℕ → (i k z : ℕ) → ZoneSums
@@ -91,14 +57,6 @@ with_device s devices settings powers i k z = pick (in_zone (zonebits_at devices
 pub record DeviceAdded (s : ZoneSums) (devices settings : List (List ℕ)) (powers : List ℕ) (i k z : ℕ) (r : ZoneSums) : Type 0 where
   pub is : r ≡ with_device s devices settings powers i k z
   pub small : (n : ℕ) → SumsOf n s → SumsOf (n + 1) r
-
-module _ (s : ZoneSums) (devices settings : List (List ℕ)) (powers : List ℕ) (i k z : ℕ) where
-  pub not-added : in_zone (zonebits_at devices i) z ≡ false → DeviceAdded s devices settings powers i k z s
-  not-added e = record { is = rw e refl; small = λ n h. sums-mono n (n + 1) s (omega arith) h }
-
-  pub added : {side p : ℕ} {a : Reserves} {r : ZoneSums} → in_zone (zonebits_at devices i) z ≡ true → side ≡ side_at devices i → p ≡ get_or powers k 0 → p ≤ most_power
-      → a ≡ (setting_of (get_or settings k [])).reserves → Eight (λ x. x ≤ 100000) (eight_in a) → r ≡ with_member s side p a → DeviceAdded s devices settings powers i k z r
-  added {side} {p} {a} {r} e f g l u v h = record { is = rw (e, h, f, g, u) refl; small = λ n j. rw h (member-small n s side p a j l v) }
 
 -- interval t of m, and the settings and powers of n devices in m intervals
 pub record Zoned (n m t : ℕ) (settings : List (List ℕ)) (powers : List ℕ) : Type 0 where
@@ -113,11 +71,6 @@ zoned r t h = record {
   settled = r.plan-rows.full ∙ omega (arith, r.forced-rows.powers-full);
   held = λ k l. (r.plan-rows.range k l).reserves;
 }
-
-pub stood : {n m t : ℕ} {settings : List (List ℕ)} {powers : List ℕ} → Zoned n m t settings powers → (i k : ℕ) → i < n → k ≡ i * m + t → Stood settings powers k
-stood s i k l e =
-    let p = place s.power i k l e in
-    record { in-settings = omega (arith, s.settled); in-powers = p.inside; power_small = p.power; held_small = s.held k (omega (arith, s.settled)) }
 
 -- the first n devices
 unfoldable pub sums_to : List (List ℕ) → List (List ℕ) → List ℕ → (m t z n : ℕ) → ZoneSums
@@ -141,6 +94,3 @@ module _ (devices settings : List (List ℕ)) (powers : List ℕ) (m t z : ℕ) 
       → SumsSo devices settings powers m t z (i + 1) r
   unfolding sums_to
   sums_next i h e a = record { is = a.is ∙ rw (add-one i, h.is, e) refl; small = a.small i h.small }
-
-  pub sums-end : (i n : ℕ) {s : ZoneSums} → i ≤ n → n ≤ i → SumsSo devices settings powers m t z i s → SumsSo devices settings powers m t z n s
-  sums-end i n h l s = let e : i ≡ n = omega arith in rw e at s

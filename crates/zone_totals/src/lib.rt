@@ -36,32 +36,22 @@ fn with_member(s: ZoneSums, side: u32, p: Kw, r: Reserves) -> ZoneSums
     let nsc = s.nsc.plus(r.nsc);
     let rru = s.rru.plus(r.rruon.plus(r.rruoff));
     let rrd = s.rrd.plus(r.rrdon.plus(r.rrdoff));
+    let mut load = s.load;
+    let mut unit = s.unit;
     if side == 1 {
-        let load = s.load.plus(p);
-        let unit = s.unit;
-        ZoneSums {
-            load,
-            unit,
-            rgu,
-            rgd,
-            scr,
-            nsc,
-            rru,
-            rrd,
-        }
+        load = load.plus(p);
     } else {
-        let load = s.load;
-        let unit = s.unit.most(p);
-        ZoneSums {
-            load,
-            unit,
-            rgu,
-            rgd,
-            scr,
-            nsc,
-            rru,
-            rrd,
-        }
+        unit = unit.most(p);
+    }
+    ZoneSums {
+        load,
+        unit,
+        rgu,
+        rgd,
+        scr,
+        nsc,
+        rru,
+        rrd,
     }
 }
 
@@ -90,8 +80,7 @@ fn with_device(
         return s;
     }
     let held = setting_at(settings, k);
-    let reserves = held.reserves;
-    with_member(s, side_at(devices, i), Kw(powers[k]), reserves)
+    with_member(s, side_at(devices, i), Kw(powers[k]), held.reserves)
 }
 
 // The sums over the members of zone z in interval t of m.
@@ -116,12 +105,8 @@ pub fn zone_sums(
         rru: Kw(0),
         rrd: Kw(0),
     };
-    let mut i = 0;
-    let mut k = t;
-    while i < devices.len() {
-        s = with_device(s, devices, settings, powers, i, k, z);
-        k += m;
-        i += 1;
+    for i in 0..devices.len() {
+        s = with_device(s, devices, settings, powers, i, i * m + t, z);
     }
     s
 }

@@ -1,32 +1,13 @@
--- Nothing where the message ends before it.
-use Rattle.bit_copier.specs.Moves.{reached-is, short-keep, field-small, keep-moves}
-use native.Mathlib.Omega.{arith}
-use mathlib.Core.Path.{refl}
+use Rattle.std.proofs.Common.{List, ℕ, refl, append-nil}
+use Rattle.writing.specs.Splice.{none, keep, by, past, spliced}
+use Rattle.bit_copier.specs.declared.Copier.{Copier}
+use Rattle.bit_copier.specs.Moves.{Moves, moves-as}
 use Rattle.bit_copier.proofs.keep_field.Goals as goal
 
-pub overflow_mul-reached : goal.overflow_mul-reached
-overflow_mul-reached c = let a = c.args in omega (arith, c.reached.ensures, (reached-is a.s.now).few)
-
-pub returns-then-reached-from : goal.returns-then-reached-from
-returns-then-reached-from c = let s = c in short-keep s.args.width s.requires.0 (omega (arith, c.if-reached-from.true, c.reached.ensures))
-
-pub bits_at-value-requires : goal.bits_at-value-requires
-bits_at-value-requires c = let s = c in (s.requires.2, omega (arith, c.if-reached-from.false, c.reached.ensures, s.requires.0.inside, (reached-is s.args.s.now).there))
-
-pub put-pen-requires : goal.put-pen-requires
-put-pen-requires c = let b = c in let s = b in (
-  s.requires.0.ready,
-  s.requires.1,
-  s.requires.2,
-  field-small s.args.s.now
-      s.args.q.from s.args.width _ b.bits_at-value.ensures,
-)
-
-pub overflow_add-result : goal.overflow_add-result
-overflow_add-result c = let e = c in
-    let s = e in omega (arith, e.if-reached-from.false, e.reached.ensures, s.requires.0.inside, (reached-is s.args.s.now).few)
+-- a field in its own width
+as_is : (w : ℕ) {s a b : List ℕ} {q r : Copier} → Moves (by w w (λ x. none)) s a b q r → Moves (keep w) s a b q r
+unfolding past spliced
+as_is w m = moves-as (record { past = refl; bits = append-nil _ }) m
 
 pub returns : goal.returns
-returns c = let w = c in let b = w in let e = b in
-    let s = e in keep-moves s.args.width _ b.bits_at-value.ensures refl (omega
-    (arith, e.if-reached-from.false, e.reached.ensures, s.requires.0.inside)) w.put-pen.ensures
+returns c = as_is c.args.width c.widen_field.ensures

@@ -1,13 +1,10 @@
 -- 0 where the message ends before it.
-use Rattle.bit_copier.specs.Moves.{reached-is, peeked-none, peeked-is}
+use Rattle.bit_copier.specs.Moves.{reached-is, peeked-is}
 use native.Mathlib.Omega.{arith}
 use Rattle.bit_copier.proofs.next_field.Goals as goal
 
 pub overflow_mul-reached : goal.overflow_mul-reached
 overflow_mul-reached c = let a = c.args in omega (arith, c.reached.ensures, (reached-is a.s.now).few)
-
-pub returns-then-reached-from : goal.returns-then-reached-from
-returns-then-reached-from c = let s = c in peeked-none s.args.width s.requires.0 (omega (arith, c.if-reached-from.true, c.reached.ensures))
 
 pub bits_at-requires : goal.bits_at-requires
 bits_at-requires c = let s = c in (s.requires.1, omega (arith, c.if-reached-from.false, c.reached.ensures, s.requires.0.inside, (reached-is s.args.s.now).there))

@@ -27,13 +27,13 @@ overflow_add-at-4 c = let R = reaches c.args.s.now in omega arith
 pub gathered-low-requires : goal.gathered-low-requires
 gathered-low-requires c = let R = reaches c.args.s.now in omega arith
 
-pub overflow_mul-both : goal.overflow_mul-both
-overflow_mul-both c =
+pub overflow_mul-result : goal.overflow_mul-result
+overflow_mul-result c =
     let a = c.args in
     omega (arith, field-small 32 a.s.now a.at (a.width - 32) (omega arith))
 
-pub overflow_add-both : goal.overflow_add-both
-overflow_add-both c =
+pub overflow_add-result : goal.overflow_add-result
+overflow_add-result c =
     let a = c.args in
     omega (
       arith,

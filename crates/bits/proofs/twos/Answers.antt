@@ -1,19 +1,17 @@
--- Below 0 the complement is taken, from 0 up the number itself.
+-- The bits by which the machine holds a number are those of two's complement.
+use mathlib.Core.Path.{◌≡◌, refl, ◌∙◌, ap}
 use native.Mathlib.Omega.{arith}
-use Rattle.bits.proofs.Sign.{below, above}
+use lib.IntN.{ℤ, pos, negsuc}
+use mir.Syntax.{w64}
+use mir.Val.{of_z}
+use mir.ValLaws.{to_z-of_z}
+use Rattle.bits.specs.Twos.{to_twos}
 use Rattle.bits.proofs.twos.Goals as goal
 
-pub overflow_cast-turned : goal.overflow_cast-turned
-overflow_cast-turned c = let b = below c.args.z c.ranges.z c.if-z-lt0.true in rw b.is (tt, record { fits = omega arith })
+held : (z : ℤ) → of_z w64 z ≡ to_twos 64 z
+unfolding to_twos
+held (pos n) = refl
+held (negsuc n) = omega arith
 
-pub overflow_sub-result : goal.overflow_sub-result
-overflow_sub-result c = let b = below c.args.z c.ranges.z c.if-z-lt0.true in rw b.is (omega arith)
-
-pub overflow_cast-result : goal.overflow_cast-result
-overflow_cast-result c = let a = above c.args.z c.ranges.z c.if-z-lt0.false in rw a.0 (tt, record { fits = a.1 })
-
-pub returns-then-z-lt0 : goal.returns-then-z-lt0
-returns-then-z-lt0 c = let b = below c.args.z c.ranges.z c.if-z-lt0.true in rw b.is (omega arith)
-
-pub returns-else-z-lt0 : goal.returns-else-z-lt0
-returns-else-z-lt0 c = let a = above c.args.z c.ranges.z c.if-z-lt0.false in rw a.0
+pub returns : goal.returns
+returns c = c.cast_unsigned.ensures ∙ (ap (of_z w64) (to_z-of_z w64 c.args.z c.ranges.z) ∙ held c.args.z)

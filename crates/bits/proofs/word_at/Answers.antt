@@ -1,6 +1,7 @@
--- Both halves, each loaded and turned round, are the field of 64 bits.
+use mathlib.Core.Path.{◌∙◌}
+use native.Mathlib.Omega.{arith}
 use Rattle.bits.proofs.Laws.{eight}
 use Rattle.bits.proofs.word_at.Goals as goal
 
 pub returns : goal.returns
-returns c = eight _ _ c.loaded.ensures c.loaded-2.ensures c.turned-high.ensures.0 c.turned-low.ensures.0
+returns c = c.from_be_bytes.ensures ∙ eight c.args.s.now c.args.j _ (omega arith) (λ i. (c.type_inv.s i).fits)

@@ -18,31 +18,31 @@ returns-in_default c =
     (filling-all lin c.loop-left.invariant.1 (all-places _ _ (c.next-next.ensures.none.0 c.in_default.is))) c.loop-left.invariant.1.beyond
 
 pub offset_bounds-caps-k : goal.offset_bounds-caps-k
-offset_bounds-caps-k c = omega (arith, (c.next-next.ensures.next-is _ c.in-Block.is).one)
+offset_bounds-caps-k c = omega (arith, (c.next-next.ensures.next-is _ c.in-Some.is).one)
 
 pub bounds-caps-k : goal.bounds-caps-k
-bounds-caps-k c = omega (arith, (c.next-next.ensures.next-is _ c.in-Block.is).one)
+bounds-caps-k c = omega (arith, (c.next-next.ensures.next-is _ c.in-Some.is).one)
 
 pub offset_bounds-powers-k : goal.offset_bounds-powers-k
-offset_bounds-powers-k c = omega (arith, (c.next-next.ensures.next-is _ c.in-Block.is).one)
+offset_bounds-powers-k c = omega (arith, (c.next-next.ensures.next-is _ c.in-Some.is).one)
 
 pub bounds-powers-k : goal.bounds-powers-k
-bounds-powers-k c = omega (arith, (c.next-next.ensures.next-is _ c.in-Block.is).one)
+bounds-powers-k c = omega (arith, (c.next-next.ensures.next-is _ c.in-Some.is).one)
 
 pub bounds-picked-k : goal.bounds-picked-k
-bounds-picked-k c = omega (arith, (c.next-next.ensures.next-is _ c.in-Block.is).one)
+bounds-picked-k c = omega (arith, (c.next-next.ensures.next-is _ c.in-Some.is).one)
 
 pub loop-left-smaller : goal.loop-left-smaller
 loop-left-smaller c =
     let lin : _ = ahead-linear (eqb c.args.side 1) c.args.prices in
-    let next : _ = c.next-next.ensures.next-is _ c.in-Block.is in
+    let next : _ = c.next-next.ensures.next-is _ c.in-Some.is in
     fewer-left c.args.blocks c.loop-left.picked _ (picked-length lin c.loop-left.invariant.1.picks.1) next.one next.fresh
 
 pub loop-left-preserved : goal.loop-left-preserved
 loop-left-preserved c =
     let a : _ = c.args in
     let lin : _ = ahead-linear (eqb a.side 1) a.prices in
-    let next : _ = c.next-next.ensures.next-is _ c.in-Block.is in
+    let next : _ = c.next-next.ensures.next-is _ c.in-Some.is in
     arrays-more lin c.requires.few a.caps c.loop-left.powers c.loop-left.invariant.0 c.loop-left.invariant.1 next c.least-power.ensures c.less-left.ensures
 
 pub returns : goal.returns

@@ -1,14 +1,10 @@
 -- A full offer has four blocks.
 use mathlib.Core.Path.{sym, ap, ◌∙◌}
 use Prim.Native.Nat.{ℕ}
-use native.Mathlib.Omega.{arith}
 use lib.Dec.{eqb}
 use Rattle.block_pick.specs.Picks.{next_of}
 use Rattle.block_pick.proofs.Picks.{picks_of}
 use Rattle.block_pick.proofs.next.Goals as goal
-
-pub next_among-requires : goal.next_among-requires
-next_among-requires c = omega arith
 
 pub returns-then-blocks-eq-MOST_BLOCKS : goal.returns-then-blocks-eq-MOST_BLOCKS
 returns-then-blocks-eq-MOST_BLOCKS c = let a : _ = c.args in

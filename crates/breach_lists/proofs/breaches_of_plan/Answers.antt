@@ -9,13 +9,13 @@ read_plan-requires c = let entry : _ = c in plan-room entry.requires.0 entry.req
 pub list_settings-requires : goal.list_settings-requires
 list_settings-requires c = let reading : _ = c in
     let entry : _ = reading in planned-of entry.requires.0 _ _ _ reading.read_plan.ensures entry.requires.1
-    c.in-Passes.is
+    c.in-Ok.is
 
-pub returns-in-Fails : goal.returns-in-Fails
-returns-in-Fails c = list-fails c.requires.0 _ _ _
-    c.read_plan.ensures _ c.in-Fails.is
+pub returns-in-Err : goal.returns-in-Err
+returns-in-Err c = list-fails c.requires.0 _ _ _
+    c.read_plan.ensures _ c.in-Err.is
 
-pub returns-in-Passes : goal.returns-in-Passes
-returns-in-Passes c = let told : _ = c in let reading : _ = told in
-    let entry : _ = reading in list-passes entry.requires.0 _ _ _ reading.read_plan.ensures told.in-Passes.is
+pub returns-in-Ok : goal.returns-in-Ok
+returns-in-Ok c = let told : _ = c in let reading : _ = told in
+    let entry : _ = reading in list-passes entry.requires.0 _ _ _ reading.read_plan.ensures told.in-Ok.is
     c.list_settings.ensures

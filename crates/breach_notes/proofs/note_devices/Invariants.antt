@@ -1,6 +1,4 @@
--- The loop's invariant: the breaches of the devices that are left are still to be noted, and the next part begins at a.
-use Prim.Native.Nat.{◌≤◌, ◌-◌, ◌*◌}
-use mathlib.Core.Path.{◌≡◌}
+-- The loop's invariant: the breaches of the devices that are left are still to be noted.
 use lib.ListN.{length}
 use Rattle.model.specs.Breaches.{window_breaches}
 use Rattle.records.specs.Views.{system_in, plan_in}
@@ -8,8 +6,5 @@ use Rattle.breach_entries.specs.Noted.{GatherLeft}
 use Rattle.breach_notes.proofs.note_devices.Given as goal
 
 abbrev pub invariant-loop-i : goal.invariant-loop-i
-invariant-loop-i l = (l.i ≤ length l.devices) × (l.a ≡ l.i * length l.halves) × (length l.list ≡ length l.initial.list)
-    × GatherLeft (window_breaches (system_in l.halves l.zones l.minima l.devices l.cells) (plan_in (length l.devices) (length l.halves) l.settings)) (length l.devices) l.k l.initial.list l.i l.n l.list
-
-abbrev pub decreases-loop-i : goal.decreases-loop-i
-decreases-loop-i l = length l.devices - l.i
+invariant-loop-i l =
+    GatherLeft (window_breaches (system_in l.halves l.zones l.minima l.devices l.cells) (plan_in (length l.devices) (length l.halves) l.settings)) (length l.devices) l.k l.initial.list l.i l.n l.list

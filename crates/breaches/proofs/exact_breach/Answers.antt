@@ -12,4 +12,4 @@ returns-in_default c = let a : _ = c.args in
 pub returns : goal.returns
 returns c = let a : _ = c.args in
     day-pass (system_in a.halves.now a.zones.now a.minima.now a.devices.now a.cells.now)
-    (plan_in (length a.devices.now) (length a.halves.now) a.settings.now) c.day_rules-r.ensures c.in-Held.is c.window_rules.ensures
+    (plan_in (length a.devices.now) (length a.halves.now) a.settings.now) c.day_rules-r.ensures c.in-None.is c.window_rules.ensures

@@ -1,10 +1,6 @@
 -- The loop's invariant: the bits that are left give what all give.
-use Prim.Native.Nat.{◌≤◌, ◌-◌}
 use Rattle.breaches.specs.Bits.{BitsLeft}
 use Rattle.breaches.proofs.first_in.Given as goal
 
 abbrev pub invariant-loop-rule : goal.invariant-loop-rule
-invariant-loop-rule l = (l.rule ≤ 32) × BitsLeft l.t l.i l.word l.rule l.rest
-
-abbrev pub decreases-loop-rule : goal.decreases-loop-rule
-decreases-loop-rule l = 32 - l.rule
+invariant-loop-rule l = BitsLeft l.t l.i l.word l.rule l.rest

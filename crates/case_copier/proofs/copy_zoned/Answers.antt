@@ -4,6 +4,6 @@ use Rattle.bit_copier.specs.Moves.{moves-by-keep}
 use Rattle.case_copier.proofs.copy_zoned.Goals as goal
 
 pub returns : goal.returns
-returns c = let r = c in let k = r in let n = k in
-    let s = n in moves-by-keep 3 n.next_field-zones.result (λ zones. body_splice s.args.edition s.args.devices s.args.intervals zones)
-    n.next_field-zones.ensures k.keep_field-q.ensures r.copy_body.ensures
+returns c =
+    moves-by-keep 3 c.next_field-zones.result (λ zones. body_splice c.args.edition c.args.devices c.args.intervals zones) c.next_field-zones.ensures
+    c.keep_field-q.ensures c.copy_body.ensures

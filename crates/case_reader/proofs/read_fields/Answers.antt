@@ -1,29 +1,15 @@
-use Rattle.case_reader.proofs.Ends.{room_within, fields-no-front, fields-done}
+use Rattle.std.proofs.Math.Path.{refl}
+use Rattle.case_reader.proofs.Ends.{room_within, fields-none, fields-off, fields-late, fields-done}
 use Rattle.case_reader.proofs.read_fields.Goals as goal
 
-pub returns-in_default : goal.returns-in_default
-returns-in_default c =
-    let read-front : _ = c.read_front-ahead in
-    let start : _ = c in
-    let a : _ = start.args in
-    let r : _ = read-front.result in
-    fields-no-front a.most_devices a.most_intervals a.s.now r.front r.counts r.limit read-front.ensures
-    a.halves.now a.zones.now a.minima.now a.devices.now a.cells.now c.in_default.is
+pub returns-in_err-opening : goal.returns-in_err-opening
+returns-in_err-opening c = fields-none _ _ _ _ _ _ _ _ _ c.from_residual.ensures (fields-off _ _ _ c.in_err-opening.ensures.is)
 
-pub read_body-went-requires : goal.read_body-went-requires
-read_body-went-requires c =
-    let read-front : _ = c.read_front-ahead in
-    let b₁ : _ = c in
-    let start : _ = b₁ in
-    room_within start.requires (read-front.ensures.within _ c.in-On.is)
+pub read_body-requires : goal.read_body-requires
+read_body-requires c = room_within c.requires (c.in_ok-opening.ensures.within _ _ refl)
+
+pub returns-in_err-past : goal.returns-in_err-past
+returns-in_err-past c = fields-none _ _ _ _ _ _ _ _ _ c.from_residual-in_err-past.ensures (fields-late _ _ _ _ c.in_ok-opening.ensures c.in_err-past.ensures.is)
 
 pub returns : goal.returns
-returns c =
-    let read-body : _ = c.read_body-went in
-    let b₁ : _ = c in
-    let read-front : _ = b₁.read_front-ahead in
-    let b₂ : _ = b₁ in
-    let start : _ = b₂ in
-    let a : _ = start.args in
-    let r : _ = read-front.result in
-    fields-done a.most_devices a.most_intervals a.s.now r.front r.counts r.limit read-front.ensures b₁.in-On.is read-body.ensures
+returns c = fields-done _ _ _ _ c.in_ok-opening.ensures c.in_ok-past.ensures

@@ -5,5 +5,4 @@ use Rattle.cell_copier.proofs.copy_block.Goals as goal
 
 pub returns : goal.returns
 unfolding block_splice
-returns c = let x3 = c in let x2 = x3 in
-    let x1 = x2 in moves-then (moves-then x1.keep_field-q.ensures x2.keep_since-q.ensures) x3.keep_field.ensures
+returns c = moves-then (moves-then c.keep_field-q.ensures c.keep_since-q.ensures) c.keep_field.ensures

@@ -1,12 +1,6 @@
--- The loop's invariant: k parts are copied.
-use Prim.Native.Nat.{◌-◌, ◌≤◌}
-use Rattle.writing.specs.Splice.{times}
+-- A cell is copied so often.
 use Rattle.writing.specs.CaseSplices.{cell_splice}
-use Rattle.bit_copier.specs.Moves.{Moves}
 use Rattle.cell_copier.proofs.copy_cells.Given as goal
 
-abbrev pub invariant-loop-k : goal.invariant-loop-k
-invariant-loop-k l = (l.k ≤ l.intervals) × Moves (times l.k (cell_splice l.edition)) l.s l.initial.buf l.buf l.initial.t l.t
-
-abbrev pub decreases-loop-k : goal.decreases-loop-k
-decreases-loop-k l = l.intervals - l.k
+abbrev pub ghost-copy_each : goal.ghost-copy_each
+ghost-copy_each a = (cell_splice a.step.1, a.step.0.now)

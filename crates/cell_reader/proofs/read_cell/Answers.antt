@@ -1,20 +1,19 @@
-use Rattle.cell_reader.proofs.Cells.{cell-no-limits, cell-no-blocks, cell-no-prices, cell-done}
+-- Four groups: the first that is refused answers.
+use Rattle.cell_reader.proofs.Cells.{cell-1, cell-2, cell-3, cell-4, cell-off, cell-done}
 use Rattle.cell_reader.proofs.read_cell.Goals as goal
 
-pub returns-in_default : goal.returns-in_default
-returns-in_default c = search cell-no-limits
+pub returns-in_err-limits : goal.returns-in_err-limits
+returns-in_err-limits c = cell-off _ _ _ c.from_residual.ensures (cell-1 _ _ _ c.in_err-limits.ensures)
 
-pub returns-in_default-blocked : goal.returns-in_default-blocked
-returns-in_default-blocked c = search cell-no-blocks
+pub returns-in_err-blocks : goal.returns-in_err-blocks
+returns-in_err-blocks c = cell-off _ _ _ c.from_residual-in_err-blocks.ensures (cell-2 _ _ _ c.in_ok-limits.ensures c.in_err-blocks.ensures.is)
 
-pub returns-in_default-priced : goal.returns-in_default-priced
-returns-in_default-priced c = search cell-no-prices
+pub returns-in_err-prices : goal.returns-in_err-prices
+returns-in_err-prices c = cell-off _ _ _ c.from_residual-in_err-prices.ensures (cell-3 _ _ _ c.in_ok-limits.ensures c.in_ok-blocks.ensures.is c.in_err-prices.ensures)
+
+pub returns-in_err-reactive : goal.returns-in_err-reactive
+returns-in_err-reactive c =
+    cell-off _ _ _ c.from_residual-in_err-reactive.ensures (cell-4 _ _ _ c.in_ok-limits.ensures c.in_ok-blocks.ensures.is c.in_ok-prices.ensures c.in_err-reactive.ensures)
 
 pub returns : goal.returns
-returns c =
-    let known-reactive : _ = c in
-    let known-prices : _ = known-reactive in
-    let known-blocks : _ = known-prices in
-    let limits : _ = known-blocks.read_limits-limits in
-    cell-done _ _ _ limits.result limits.ensures known-blocks.in-On.is known-blocks.read_blocks-blocks.result known-blocks.read_blocks-blocks.ensures known-prices.in-On-blocked.is
-    _ known-prices.read_prices-prices.ensures _ known-reactive.in-On-priced.is known-reactive.read_reactive-reactive.ensures c.cell_with-cell.ensures
+returns c = cell-done _ _ _ _ _ _ _ c.in_ok-limits.ensures c.in_ok-blocks.ensures c.in_ok-prices.ensures c.in_ok-reactive.ensures c.cell_with.ensures

@@ -3,9 +3,6 @@ use native.Mathlib.Omega.{arith}
 use Rattle.choices.specs.Blocks.{while-on, while-off}
 use Rattle.choices.proofs.blocks_of.Goals as goal
 
-pub fill_above-requires : goal.fill_above-requires
-fill_above-requires c = (c.requires.1 c.if-on-eq1.true, c.requires.2)
-
 pub returns-then-on-eq1 : goal.returns-then-on-eq1
 returns-then-on-eq1 c = let a : _ = c.args in while-on a.side a.p.0 a.floors a.caps a.prices c.if-on-eq1.true c.fill_above.ensures
 

@@ -5,7 +5,4 @@ use Rattle.figure_reader.specs.Walks.{Runs}
 use Rattle.completion_body.proofs.read_devices.Given as goal
 
 abbrev pub invariant-loop-k : goal.invariant-loop-k
-invariant-loop-k l = (l.k ≤ l.devices) × Runs l.s l.initial.t l.initial.table (times l.k (device_widths l.desk)) l.t l.table
-
-abbrev pub decreases-loop-k : goal.decreases-loop-k
-decreases-loop-k l = l.devices - l.k
+invariant-loop-k l = Runs l.s l.initial.t l.initial.table (times l._k (device_widths l.desk)) l.t l.table

@@ -5,7 +5,4 @@ use Rattle.figure_reader.specs.Walks.{Runs}
 use Rattle.completion_body.proofs.read_intervals.Given as goal
 
 abbrev pub invariant-loop-k : goal.invariant-loop-k
-invariant-loop-k l = (l.k ≤ l.intervals) × Runs l.s l.initial.t l.initial.table (times l.k (interval_widths l.f.desk l.f.edition l.f.devices l.f.zones)) l.t l.table
-
-abbrev pub decreases-loop-k : goal.decreases-loop-k
-decreases-loop-k l = l.intervals - l.k
+invariant-loop-k l = Runs l.s l.initial.t l.initial.table (times l._k (interval_widths l.f.desk l.f.edition l.f.devices l.f.zones)) l.t l.table

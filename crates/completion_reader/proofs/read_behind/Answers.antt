@@ -12,20 +12,20 @@ returns-then-cut c =
 pub finish-requires : goal.finish-requires
 finish-requires c = let x = c in x.read_body-first.ensures.inside x.requires.0
 
-pub returns-in-Fails : goal.returns-in-Fails
-returns-in-Fails c =
+pub returns-in-Err : goal.returns-in-Err
+returns-in-Err c =
     let e = c in
     let other = e in
     let x = other in
     let a = x.args in
-    behind-fails _ a.p.at a.f x.read_body-first.ensures a.p.clash other.if-cut.false (sym e.finish.ensures ∙ c.in-Fails.is)
+    behind-fails _ a.p.at a.f x.read_body-first.ensures a.p.clash other.if-cut.false (sym e.finish.ensures ∙ c.in-Err.is)
 
-pub returns-in-Passes : goal.returns-in-Passes
-returns-in-Passes c =
+pub returns-in-Ok : goal.returns-in-Ok
+returns-in-Ok c =
     let y = c in
     let told = y in
     let e = told in
     let other = e in
     let x = other in
     let a = x.args in
-    behind-passes _ a.p.at a.f x.read_body-first.ensures a.p.clash _ other.if-cut.false (sym e.finish.ensures ∙ told.in-Passes.is) y.fill.ensures
+    behind-passes _ a.p.at a.f x.read_body-first.ensures a.p.clash _ other.if-cut.false (sym e.finish.ensures ∙ told.in-Ok.is) y.fill.ensures

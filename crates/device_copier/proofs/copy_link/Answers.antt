@@ -7,11 +7,11 @@ use Rattle.bit_copier.specs.Moves.{add-moves, since-lacks, since-has, moves-by-k
 use Rattle.device_copier.proofs.copy_link.Goals as goal
 
 pub returns-then-edition-lt-LINK_EDITION : goal.returns-then-edition-lt-LINK_EDITION
-returns-then-edition-lt-LINK_EDITION c = let a = c in let h = a in
-    let s = h in since-lacks s.args.edition 2 link_splice h.if-edition-lt-LINK_EDITION.true (add-moves 2 0 s.requires a.add_field.ensures)
+returns-then-edition-lt-LINK_EDITION c =
+    since-lacks c.args.edition 2 link_splice c.if-edition-lt-LINK_EDITION.true (add-moves 2 0 c.requires c.add_field.ensures)
 
 pub returns : goal.returns
 unfolding link_splice
-returns c = let r = c in let k = r in let n = k in let h = n in
-    let s = h in since-has s.args.edition 2 (add 2 0) h.if-edition-lt-LINK_EDITION.false (moves-by-keep 2 n.next_field-kind.result (λ kind. pick (first_line kind)
-    (keep 33) none ⨾ pick (second_line kind) (keep 33) none) n.next_field-kind.ensures k.keep_field-q.ensures r.copy_lines.ensures)
+returns c =
+    since-has c.args.edition 2 (add 2 0) c.if-edition-lt-LINK_EDITION.false (moves-by-keep 2 c.next_field-kind.result (λ kind. pick (first_line kind) (keep 33)
+    none ⨾ pick (second_line kind) (keep 33) none) c.next_field-kind.ensures c.keep_field-q.ensures c.copy_lines.ensures)

@@ -5,6 +5,5 @@ use Rattle.bit_copier.specs.Moves.{moves-by-keep}
 use Rattle.device_copier.proofs.copy_starts.Goals as goal
 
 pub returns : goal.returns
-returns c = let r = c in let k = r in let n = k in
-    let s = n in moves-by-keep 3 n.next_field-n.result (λ m. times m (start_splice s.args.edition)) n.next_field-n.ensures k.keep_field-q.ensures
-    r.copy_each_start.ensures
+returns c =
+    moves-by-keep 3 c.next_field-n.result (λ n. times n (start_splice c.args.edition)) c.next_field-n.ensures c.keep_field-q.ensures c.copy_each.ensures

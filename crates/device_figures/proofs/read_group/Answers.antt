@@ -1,9 +1,10 @@
--- `device_figures::read_group`: the front of its table, number by number. Assumes nothing.
 use native.Mathlib.Omega.{arith}
-use Rattle.device_figures.proofs.Steps.{group}
+use lib.Seq.{take_all}
+use Rattle.fields.proofs.Steps.{exits}
 use Rattle.device_figures.proofs.read_group.Goals as goal
 
+pub returns-in_err-past : goal.returns-in_err-past
+returns-in_err-past g c = exits _ c.from_residual.ensures c.in_err-past.ensures
+
 pub returns : goal.returns
-returns c =
-    let begin : _ = c in
-    group begin.args.n c.read_row-went.new.out c.read_row-went.result (omega (arith, c.read_row-went.auto.out)) c.read_row-went.ensures
+returns g c = let h = c.read_row.auto.out in rw (take_all g.row.N c.read_row.new.out (omega arith)) at c.in_ok-past.ensures

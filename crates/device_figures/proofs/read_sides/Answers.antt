@@ -1,27 +1,29 @@
--- `device_figures::read_sides`: the side, then the zone bits with their test. Assumes nothing.
-use mathlib.Core.Path.{sym}
+-- The side, then the zone bits with their test; the shift is the power of two.
+use mathlib.Core.Path.{◌≡◌, ◌∙◌}
+use Prim.Native.Nat.{ℕ, ◌-◌, ◌%◌, ◌^◌, ◌*◌}
+use native.Mathlib.Nat.{one-mul}
+use native.Mathlib.Omega.{arith}
+use lib.Pow.{shl_exact}
+use Rattle.layouts.specs.Layout.{◌then◌, such}
 use Rattle.model.specs.Messages.{zone_bits}
-use Rattle.fields.specs.Got.{nat-natural, such-natural}
-use Rattle.fields.proofs.Steps.{figure-on, figure-off}
-use Rattle.fields.proofs.Chains.{stop, then-off, then-late, then-on, such-off, such-on}
+use Rattle.fields.specs.Got.{nat-natural}
+use Rattle.fields.proofs.Steps.{on, off, seen-exits}
 use Rattle.device_figures.proofs.read_sides.Goals as goal
 
-pub returns-in_default : goal.returns-in_default
-returns-in_default c = search (stop, then-off, figure-off, nat-natural)
+-- 1 << (4 − zones), as the machine shifts it
+unit : (zones : ℕ) → 1 * 2 ^ (4 - zones) % 2 ^ 32 ≡ 2 ^ (4 - zones)
+unit zones = shl_exact {a = 1} 1 (4 - zones) 32 (omega arith) (omega arith) ∙ one-mul (2 ^ (4 - zones))
 
-pub returns-in_default-second : goal.returns-in_default-second
-unfolding zone_bits
-returns-in_default-second c =
-    let read-figure : _ = c.read_figure-first in
-    let read-figure2 : _ = c.read_figure-second in
-    stop _ c.in_default-second.is c.place_of-in_default-second.ensures c.no_sides-in_default-second.ensures
-    (then-late (nat-natural _) _ _ _ (such-natural _ (nat-natural _)) (figure-on read-figure.ensures c.in-Good.is)
-    (such-off (nat-natural _) _ _ _ (figure-off read-figure2.ensures c.in_default-second.is)))
+pub returns-in_err-side : goal.returns-in_err-side
+unfolding ◌then◌
+returns-in_err-side c = seen-exits _ _ c.from_residual.ensures (search (off, nat-natural, c.in_err-side.ensures))
+
+pub returns-in_err-zonebits : goal.returns-in_err-zonebits
+unfolding zone_bits ◌then◌ such
+returns-in_err-zonebits c = seen-exits _ _ c.from_residual-in_err-zonebits.ensures (search (on, off, nat-natural, c.in_ok-side.ensures, c.in_err-zonebits.ensures))
 
 pub returns : goal.returns
-unfolding zone_bits
+unfolding zone_bits ◌then◌ such
 returns c =
-    let read-figure : _ = c.read_figure-first in
-    let read-figure2 : _ = c.read_figure-second in
-    sym (then-on (nat-natural _) _ _ _ (such-natural _ (nat-natural _)) (figure-on read-figure.ensures c.in-Good.is)
-    (such-on (nat-natural _) _ _ _ (figure-on read-figure2.ensures c.in-Good-second.is) c.zones_checked-checked.ensures))
+    let k = rw (unit c.args.zones) at c.noted-checked.ensures in
+    search (on, nat-natural, k, c.in_ok-side.ensures, c.in_ok-zonebits.ensures)

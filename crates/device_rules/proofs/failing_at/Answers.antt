@@ -4,15 +4,8 @@ use mathlib.Core.List.{List}
 use mathlib.Core.Bool.{Bool}
 use Prim.Native.Nat.{ℕ}
 use Rattle.cell_bounds.specs.Word.{failing_word}
-use Rattle.moments.specs.Moments.{tests_at, same-sizes, same_tests}
+use Rattle.moments.specs.Moments.{tests_at, same_tests}
 use Rattle.device_rules.proofs.failing_at.Goals as goal
-
-pub failing_rules-requires : goal.failing_rules-requires
-failing_rules-requires c = (
-  same-sizes c.cell_at-c.ensures c.setting_at-s.ensures c.moment_at-w.ensures
-      c.requires.sized,
-  c.requires.small,
-)
 
 pub returns : goal.returns
 unfolding tests_at

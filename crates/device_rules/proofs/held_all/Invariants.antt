@@ -1,11 +1,6 @@
 -- The loop's invariant: in the intervals below t every test holds.
-use Prim.Native.Nat.{◌≤◌, ◌-◌}
-use lib.ListN.{length}
 use Rattle.device_rules.specs.Whole.{HeldTo}
 use Rattle.device_rules.proofs.held_all.Given as goal
 
 abbrev pub invariant-loop-t : goal.invariant-loop-t
-invariant-loop-t l = (l.t ≤ length l.halves) × HeldTo l.d l.power0.0 l.halves l.cells l.settings l.starts l.powers l.t
-
-abbrev pub decreases-loop-t : goal.decreases-loop-t
-decreases-loop-t l = length l.halves - l.t
+invariant-loop-t l = HeldTo l.d l.power0.0 l.halves l.cells l.settings l.starts l.powers l.t

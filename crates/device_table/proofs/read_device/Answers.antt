@@ -1,19 +1,13 @@
-use Rattle.device_table.proofs.DeviceSteps.{device-no-head, device-done}
+use Rattle.std.specs.Prelude.{Err}
+use Rattle.device_reader.specs.Devices.{device-off, device-on}
+use Rattle.device_table.proofs.DeviceSteps.{device-none, device-done}
 use Rattle.device_table.proofs.read_device.Goals as goal
 
-pub returns-in_default : goal.returns-in_default
-returns-in_default c =
-    let read_head : _ = c.read_head-head in
-    let start : _ = c in
-    let a : _ = start.args in
-    device-no-head a.edition a.s.now a.p a.zones a.last read_head.result.device read_head.ensures a.cells.now c.in_default.is
+pub returns-in_err-device : goal.returns-in_err-device
+returns-in_err-device c = device-none _ _ _ _ _ _ _ c.from_residual.ensures (device-off _ _ _ _ _ _ c.in_err-device.ensures.is)
+
+pub returns-in_err-past : goal.returns-in_err-past
+returns-in_err-past c = device-none _ _ _ _ _ _ _ c.from_residual-in_err-past.ensures (device-on _ _ _ _ _ c.in_ok-device.device _ (Err c.in_err-past.field-0.0) c.in_ok-device.ensures.is c.in_err-past.ensures.is)
 
 pub returns : goal.returns
-returns c =
-    let read-cells : _ = c.read_cells-went in
-    let read_head : _ = c.read_head-head in
-    let start : _ = c in
-    let a : _ = start.args in
-    let device : _ = read_head.result.device in
-    device-done a.edition a.s.now a.p a.zones a.last device read_head.ensures read-cells.new.cells read-cells.result
-    c.in-On.is read-cells.ensures
+returns c = device-done _ _ _ _ _ _ c.in_ok-device.ensures _ c.in_ok-past.ensures

@@ -5,6 +5,3 @@ use Rattle.device_table.proofs.read_devices.Given as goal
 
 abbrev pub invariant-loop-i : goal.invariant-loop-i
 invariant-loop-i l = Manning l.edition l.s l.n l.m l.zones l.last l.initial.q l.initial.devices l.initial.cells l.i l.a l.devices l.cells l.q
-
-abbrev pub decreases-loop-i : goal.decreases-loop-i
-decreases-loop-i l = l.n - l.i

@@ -1,11 +1,6 @@
-use mathlib.Core.Path.{◌≡◌}
-use Prim.Native.Nat.{◌≤◌, ◌-◌}
-use lib.ListN.{length, take}
-use Rattle.dispatch_arrays.specs.Arrays.{SaneTo, Floors}
+use lib.ListN.{take}
+use Rattle.dispatch_arrays.specs.Arrays.{Floors}
 use Rattle.dispatch_arrays.proofs.floors_of.Given as goal
 
-abbrev pub invariant-loop-k : goal.invariant-loop-k
-invariant-loop-k l = (l.k ≤ l.n) × (length l.all ≡ 256) × Floors (take l.k l.all) l.floors × SaneTo l.n l.all
-
-abbrev pub decreases-loop-k : goal.decreases-loop-k
-decreases-loop-k l = l.n - l.k
+abbrev pub invariant-loop-o : goal.invariant-loop-o
+invariant-loop-o l = Floors (take l.o-index l.o-items) l.floors

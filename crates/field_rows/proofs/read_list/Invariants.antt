@@ -8,6 +8,3 @@ use Rattle.field_rows.proofs.read_list.Given as goal
 
 abbrev pub invariant-loop-i : goal.invariant-loop-i
 invariant-loop-i l = (length l.out ≡ length l.initial.out) × Listing (λ _. figure l.width l.low l.high) l.s l.n l.initial.q l.i l.out l.q
-
-abbrev pub decreases-loop-i : goal.decreases-loop-i
-decreases-loop-i l = l.n - l.i

@@ -4,25 +4,19 @@ use Rattle.figure_reader.specs.Walks.{times_none, times_more, times-done}
 use Rattle.figure_reader.proofs.read_fields.Goals as goal
 
 pub loop-k-init : goal.loop-k-init
-loop-k-init c = (omega arith, times_none _ c.requires.0)
+loop-k-init c = times_none _ c.requires.0
 
 pub read_field-t-requires : goal.read_field-t-requires
-read_field-t-requires c = let g = c in (g.loop-k.invariant.1.few, g.requires.1, g.requires.2)
-
-pub overflow_add-k : goal.overflow_add-k
-overflow_add-k c = let t = c in omega (arith, t.loop-k-test.true)
-
-pub loop-k-smaller : goal.loop-k-smaller
-loop-k-smaller c = let t = c in omega (arith, t.loop-k-test.true)
+read_field-t-requires c = let g = c in (g.loop-k.invariant.few, g.requires.1, g.requires.2)
 
 pub loop-k-preserved : goal.loop-k-preserved
 loop-k-preserved c =
     let g = c in
     let t = g in
-    (omega (arith, t.loop-k-test.true), times_more _ _ t.loop-k.invariant.1 g.read_field-t.ensures)
+    times_more _ _ t.loop-k.invariant g.read_field-t.ensures
 
 pub shape_of-table : goal.shape_of-table
-shape_of-table c = c.loop-k.invariant.1.long
+shape_of-table c = c.loop-k.invariant.long
 
 pub returns : goal.returns
-returns c = let l = c.loop-k in times-done _ _ _ l.invariant.0 c.loop-k-test.false l.invariant.1
+returns c = let l = c.loop-k in times-done _ _ _ (omega arith) (omega arith) l.invariant

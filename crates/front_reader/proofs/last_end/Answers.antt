@@ -6,7 +6,7 @@ use borrow.Author.Rules.{rules}
 use Rattle.front_reader.proofs.last_end.Goals as goal
 
 pub loop-i-init : goal.loop-i-init
-loop-i-init c = (search rules, refl, search rules)
+loop-i-init c = (refl, search rules)
 
 pub bounds-halves-i : goal.bounds-halves-i
 bounds-halves-i c = omega (arith, c.requires.room)
@@ -21,8 +21,7 @@ pub loop-i-preserved : goal.loop-i-preserved
 loop-i-preserved c =
     let loop : _ = c.loop-i in
     let start : _ = c in (
-      omega arith,
-      sum-next start.args.halves.now loop.i loop.sum (omega (arith, start.requires.room)) loop.invariant.1,
+      sum-next start.args.halves.now loop.i loop.sum (omega (arith, start.requires.room)) loop.invariant.0,
       omega (arith, start.requires.half loop.i (omega arith)),
     )
 
@@ -34,4 +33,4 @@ returns c =
     let loop : _ = c.loop-i in
     let start : _ = c in
     let e : loop.i ≡ start.args.m = omega arith in
-    rw e at (ap (λ (x : ℕ). 2 * x) loop.invariant.1)
+    rw e at (ap (λ (x : ℕ). 2 * x) loop.invariant.0)

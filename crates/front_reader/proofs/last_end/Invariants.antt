@@ -6,7 +6,4 @@ use Rattle.numbers.specs.Sum.{sumℕ}
 use Rattle.front_reader.proofs.last_end.Given as goal
 
 abbrev pub invariant-loop-i : goal.invariant-loop-i
-invariant-loop-i l = (l.i ≤ l.m) × (l.sum ≡ sumℕ (λ h. h) (take l.i l.halves)) × (l.sum ≤ 180 * l.i)
-
-abbrev pub decreases-loop-i : goal.decreases-loop-i
-decreases-loop-i l = l.m - l.i
+invariant-loop-i l = (l.sum ≡ sumℕ (λ h. h) (take l.i l.halves)) × (l.sum ≤ 180 * l.i)

@@ -1,15 +1,13 @@
-use Rattle.front_reader.proofs.FrontSteps.{edition-no-kind, edition-done}
+-- The kind, then the edition: the first that is refused answers.
+use Rattle.layouts.specs.Layout.{held, ◌then◌}
+use Rattle.fields.specs.Got.{nat-natural}
+use Rattle.fields.proofs.Steps.{on, off, exits}
 use Rattle.front_reader.proofs.read_edition.Goals as goal
 
-pub returns-in_default : goal.returns-in_default
-returns-in_default c =
-    let read-fixed : _ = c.read_fixed-kind in
-    let start : _ = c in
-    edition-no-kind start.args.s.now _ read-fixed.ensures c.in_default.is
+pub returns-in_err-at_edition : goal.returns-in_err-at_edition
+unfolding held ◌then◌
+returns-in_err-at_edition c = search (exits, off, nat-natural, c.in_err-at_edition.ensures)
 
 pub returns : goal.returns
-returns c =
-    let read-kind : _ = c.read_kind in
-    let read-fixed : _ = c.read_fixed-kind in
-    let start : _ = c in
-    edition-done start.args.s.now _ read-fixed.ensures read-kind.result c.in-Good.is read-kind.ensures
+unfolding held ◌then◌
+returns c = search (on, nat-natural, c.in_ok-at_edition.ensures)

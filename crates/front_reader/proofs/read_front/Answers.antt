@@ -1,27 +1,15 @@
-use Rattle.front_reader.specs.Fronts.{largest}
-use Rattle.front_reader.proofs.FrontSteps.{front-no-edition, front-no-counts, front-done}
+-- Kind and edition, the counts, the figures: the first that is refused answers.
+use Rattle.front_reader.proofs.FrontSteps.{no-front, front-off, front-no-counts, front-no-figures, front-done}
 use Rattle.front_reader.proofs.read_front.Goals as goal
 
-pub returns-in_default : goal.returns-in_default
-returns-in_default c =
-    let no_front : _ = c.no_front in
-    let place_of : _ = c.place_of-went in
-    let read-edition : _ = c.read_edition-first in
-    let start : _ = c in
-    let a : _ = start.args in
-    let l = largest a.most_devices a.most_intervals in
-    front-no-edition l a.s.now read-edition.ensures _ _ _ c.in_default.is place_of.ensures no_front.ensures
+pub returns-in_err-edition : goal.returns-in_err-edition
+returns-in_err-edition c = no-front _ _ _ c.from_residual.ensures (front-off _ _ c.in_err-edition.ensures)
 
-pub returns-in_default-went : goal.returns-in_default-went
-returns-in_default-went c =
-    let no-front2 : _ = c.no_front-in_default-went in
-    let read-counts : _ = c.read_counts-counted in
-    let read-edition : _ = c.read_edition-first in
-    let start : _ = c in
-    let a : _ = start.args in
-    let l = largest a.most_devices a.most_intervals in
-    let counts : _ = read-counts.result.counts in
-    front-no-counts l a.s.now read-edition.ensures c.in-Good.is counts read-counts.ensures _ _ _ c.in_default-went.is no-front2.ensures
+pub returns-in_err-counts : goal.returns-in_err-counts
+returns-in_err-counts c = no-front _ _ _ c.from_residual-in_err-counts.ensures (front-no-counts _ _ c.in_ok-edition.ensures c.in_err-counts.ensures.is)
+
+pub returns-in_err-figures : goal.returns-in_err-figures
+returns-in_err-figures c = no-front _ _ _ c.from_residual-in_err-figures.ensures (front-no-figures _ _ c.in_ok-edition.ensures _ c.in_ok-counts.ensures c.in_err-figures.ensures)
 
 pub returns : goal.returns
-returns c = search front-done
+returns c = front-done _ _ c.in_ok-edition.ensures _ c.in_ok-counts.ensures _ c.in_ok-figures.ensures

@@ -1,13 +1,9 @@
-use mathlib.Core.Path.{refl}
-use Rattle.front_reader.proofs.FrontSteps.{prices-told}
-use borrow.Author.Rules.{rules}
+use Rattle.fields.proofs.Steps.{seen-exits}
+use Rattle.front_reader.proofs.FrontSteps.{prices-good, prices-bad}
 use Rattle.front_reader.proofs.read_prices.Goals as goal
 
+pub returns-in_err-past : goal.returns-in_err-past
+returns-in_err-past c = seen-exits _ _ c.from_residual.ensures (search (prices-bad, c.in_err-past.ensures))
+
 pub returns : goal.returns
-returns c =
-    let read-list : _ = c.read_list-went in
-    let start : _ = c in
-    record {
-      is = prices-told start.args.s.now start.args.p read-list.result read-list.new.out (search rules) read-list.ensures;
-      edition-is = refl;
-    }
+returns c = search (prices-good, c.in_ok-past.ensures)

@@ -11,11 +11,8 @@ use Rattle.interval_completions.proofs.complete_intervals.Goals as goal
 
 pub loop-t-init : goal.loop-t-init
 loop-t-init c =
-    let r : _ = c.args in (
-      omega arith,
-      advances-none _ _ (interval_width r.front.edition (length r.devices.now) (length r.zones.now)) interval_most _ _
-          c.requires.ready.0,
-    )
+    let r : _ = c.args in
+    advances-none _ _ (interval_width r.front.edition (length r.devices.now) (length r.zones.now)) interval_most _ _ c.requires.ready.0
 
 pub complete_interval-q-requires : goal.complete_interval-q-requires
 complete_interval-q-requires c =
@@ -23,28 +20,20 @@ complete_interval-q-requires c =
     let few : _ = c.requires.unbroken.ready.case_rows.few-intervals in record {
       unbroken = (c.requires.unbroken, c.loop-t-test.true);
       ready = (
-        c.loop-t.invariant.1.pushes.ready,
+        c.loop-t.invariant.pushes.ready,
         room_at c.loop-t.t _
-            (interval_width r.front.edition (length r.devices.now) (length r.zones.now)) c.loop-t-test.true c.loop-t.invariant.1.pushes c.requires.ready.1,
-        spare-after (most_intervals * interval_most) (c.loop-t.t * interval_most) interval_most c.requires.ready.2 c.loop-t.invariant.1.entered
+            (interval_width r.front.edition (length r.devices.now) (length r.zones.now)) c.loop-t-test.true c.loop-t.invariant.pushes c.requires.ready.1,
+        spare-after (most_intervals * interval_most) (c.loop-t.t * interval_most) interval_most c.requires.ready.2 c.loop-t.invariant.entered
             (omega (arith, c.loop-t-test.true, few)),
       );
     }
 
-pub overflow_add-t : goal.overflow_add-t
-overflow_add-t c =
-    omega (arith, c.loop-t-test.true, c.requires.unbroken.ready.case_rows.few-intervals)
-
-pub loop-t-smaller : goal.loop-t-smaller
-loop-t-smaller c =
-    omega (arith, c.loop-t-test.true)
-
 pub loop-t-preserved : goal.loop-t-preserved
 loop-t-preserved c =
-    (omega (arith, c.loop-t-test.true), advances-next _ _ _ interval_most c.loop-t.t c.loop-t.invariant.1 c.complete_interval-q.ensures)
+    advances-next _ _ _ interval_most c.loop-t.t c.loop-t.invariant c.complete_interval-q.ensures
 
 pub shape_of-buf : goal.shape_of-buf
-shape_of-buf c = c.loop-t.invariant.1.pushes.long
+shape_of-buf c = c.loop-t.invariant.pushes.long
 
 pub returns : goal.returns
-returns c = advances-done _ _ _ interval_most c.loop-t.t _ c.loop-t.invariant.0 c.loop-t-test.false c.loop-t.invariant.1
+returns c = advances-done _ _ _ interval_most c.loop-t.t _ c.loop-t.auto.t-end c.loop-t-test.false c.loop-t.invariant

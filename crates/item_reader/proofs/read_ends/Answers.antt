@@ -1,28 +1,31 @@
 -- The start, then the end with its test.
-use mathlib.Core.Path.{sym}
+use mathlib.Core.Path.{◌≡◌, ◌∙◌}
+use mathlib.Core.Bool.{◌&&◌}
+use borrow.Author.Tests.{le-leb, lt-leb}
+use lib.Dec.{leb}
+use Rattle.layouts.specs.Layout.{◌then◌, such}
 use Rattle.model.specs.Messages.{window_ends}
-use Rattle.fields.specs.Got.{nat-natural, such-natural}
-use Rattle.fields.proofs.Steps.{figure-on, figure-off}
-use Rattle.fields.proofs.Chains.{stop, then-off, then-late, then-on, such-off, such-on}
+use Rattle.fields.specs.Got.{nat-natural}
+use Rattle.fields.proofs.Steps.{on, off, exits}
+use Rattle.item_reader.proofs.read_ends.Goals.{then-from-until, else-from-until}
 use Rattle.item_reader.proofs.read_ends.Goals as goal
 
-pub returns-in_default : goal.returns-in_default
-unfolding window_ends
-returns-in_default c = search (stop, then-off, figure-off, nat-natural)
+pub returns-in_err-from : goal.returns-in_err-from
+unfolding window_ends ◌then◌ such
+returns-in_err-from c = exits _ c.from_residual.ensures (search (off, nat-natural, c.in_err-from.ensures))
 
-pub returns-in_default-end : goal.returns-in_default-end
-unfolding window_ends
-returns-in_default-end c =
-    let read-figure : _ = c.read_figure-start in
-    let read-figure2 : _ = c.read_figure-end in
-    stop _ c.in_default-end.is c.place_of-in_default-end.ensures c.no_item-in_default-end.ensures
-    (then-late (nat-natural _) _ _ _ (such-natural _ (nat-natural _)) (figure-on read-figure.ensures c.in-Good.is)
-    (such-off (nat-natural _) _ _ _ (figure-off read-figure2.ensures c.in_default-end.is)))
+pub returns-in_err-until : goal.returns-in_err-until
+unfolding window_ends ◌then◌ such
+returns-in_err-until c = exits _ c.from_residual-in_err-until.ensures (search (on, off, nat-natural, c.in_ok-from.ensures, c.in_err-until.ensures))
 
 pub returns : goal.returns
-unfolding window_ends
+unfolding window_ends ◌then◌ such
 returns c =
-    let read-figure : _ = c.read_figure-start in
-    let read-figure2 : _ = c.read_figure-end in
-    sym (then-on (nat-natural _) _ _ _ (such-natural _ (nat-natural _)) (figure-on read-figure.ensures c.in-Good.is)
-    (such-on (nat-natural _) _ _ _ (figure-on read-figure2.ensures c.in-Good-end.is) c.ends_checked-checked.ensures))
+    let from = c.in_ok-from.from in
+    let until = c.in_ok-until.until in
+    let t : c.if-from-until.noted ≡ leb from until && leb until c.args.last = elim c.if-from-until.branch [
+      | then-from-until w ↦ rw (le-leb from until w.if-from-until.true) w.noted-is
+      | else-from-until w ↦ let n = lt-leb from until w.if-from-until.false in rw n (w.noted-is ∙ n)
+    ] in
+    let k = rw t at c.noted-checked.ensures in
+    search (on, nat-natural, k, c.in_ok-from.ensures, c.in_ok-until.ensures)

@@ -6,6 +6,6 @@ use Rattle.market_copier.proofs.copy_completion.Goals as goal
 
 pub returns : goal.returns
 unfolding copy_splice
-returns c = let x3 = c in let x2 = x3 in
-    let x1 = x2 in moves-then x1.copy_front-q.ensures (moves-then x2.copy_intervals-q.ensures (moves-then (run-times _ 32
-    x3.keep_run-q.ensures) (skip-moves 64 (set_after x3.keep_run-q.ensures) c.skip_bits.ensures)))
+returns c =
+    moves-then c.copy_front-q.ensures (moves-then c.copy_each-q.ensures (moves-then (run-times _ 32 c.keep_run-q.ensures) (skip-moves 64 (set_after
+    c.keep_run-q.ensures) c.skip_bits.ensures)))

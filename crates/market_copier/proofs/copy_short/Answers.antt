@@ -5,4 +5,4 @@ use Rattle.market_copier.proofs.copy_short.Goals as goal
 
 pub returns : goal.returns
 unfolding short_splice
-returns c = let x2 = c in let x1 = x2 in moves-then x1.keep_run-q.ensures x2.keep_if.ensures
+returns c = moves-then c.keep_run-q.ensures c.keep_if.ensures

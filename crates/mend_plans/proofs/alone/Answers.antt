@@ -5,7 +5,5 @@ use Rattle.mend_plans.proofs.alone.Goals as goal
 
 pub returns : goal.returns
 returns c =
-    let at-try-at : _ = c in
-    let s : _ = at-try-at in
-    c.answer.ensures ∙ lone-try s.args.front s.args.halves.now s.args.zones.now s.args.minima.now s.args.devices.now s.args.cells.now
-    s.args.settings.now s.args.i at-try-at.try_at-r.ensures
+    c.answer.ensures ∙ lone-try c.args.front c.args.halves.now c.args.zones.now c.args.minima.now c.args.devices.now c.args.cells.now
+    c.args.settings.now c.args.i c.try_at-r.ensures

@@ -3,31 +3,24 @@ use mathlib.Core.Path.{refl}
 use native.Mathlib.Omega.{arith}
 use Rattle.mend_plans.specs.Tries.{no-interval, no-device, placed, of-cell}
 use Rattle.mend_plans.proofs.mend_broken.Goals as goal
+use Rattle.mend_plans.proofs.mend_broken.Goals.{then-b-eq0-via-then-b-eq0, then-b-eq0-via-else-b-eq0+then-b-eq0-2}
 
 pub returns-then-b-eq0 : goal.returns-then-b-eq0
 returns-then-b-eq0 c =
-    let s : _ = c in
-    no-interval s.args.front s.args.halves.now s.args.zones.now s.args.minima.now s.args.devices.now s.args.cells.now s.args.settings.now
-    s.args.b c.if-b-eq0.true
-
-pub returns-then-b-eq0-2 : goal.returns-then-b-eq0-2
-returns-then-b-eq0-2 c =
-    let s : _ = c in
-    no-device s.args.front s.args.halves.now s.args.zones.now s.args.minima.now s.args.devices.now s.args.cells.now s.args.settings.now
-    s.args.b (omega arith) c.if-b-eq0-2.true
+    let a = c.args in
+    elim c.then-b-eq0.branch [
+      | then-b-eq0-via-then-b-eq0 w ↦ no-interval a.front a.halves.now a.zones.now a.minima.now a.devices.now a.cells.now a.settings.now a.b w.if-b-eq0.true
+      | then-b-eq0-via-else-b-eq0+then-b-eq0-2 w ↦ no-device a.front a.halves.now a.zones.now a.minima.now a.devices.now a.cells.now a.settings.now a.b
+          (omega arith) w.if-b-eq0-2.true
+    ]
 
 pub mend_at-requires : goal.mend_at-requires
 mend_at-requires c =
-    let s : _ = c in
-    let h : _ = placed s.args.front s.args.halves.now s.args.zones.now s.args.minima.now s.args.devices.now s.args.cells.now s.args.settings.now
-    s.args.b s.requires.1 (omega arith) (omega arith) in
-    (s.requires.0, h.1, h.0)
+    let h : _ = placed c.args.front c.args.halves.now c.args.zones.now c.args.minima.now c.args.devices.now c.args.cells.now c.args.settings.now
+    c.args.b c.requires.1 (omega arith) (omega arith) in
+    (c.requires.0, h.1, h.0)
 
 pub returns : goal.returns
 returns c =
-    let at-mend-at : _ = c in
-    let at-if2 : _ = at-mend-at in
-    let at-if1 : _ = at-if2 in
-    let s : _ = at-if1 in
-    of-cell s.args.front s.args.halves.now s.args.zones.now s.args.minima.now s.args.devices.now s.args.cells.now s.args.settings.now s.args.b
-    refl refl (omega (arith, at-if1.if-b-eq0.false)) (omega (arith, at-if2.if-b-eq0-2.false)) at-mend-at.mend_at.ensures
+    of-cell c.args.front c.args.halves.now c.args.zones.now c.args.minima.now c.args.devices.now c.args.cells.now c.args.settings.now c.args.b
+    refl refl (omega (arith, c.if-b-eq0.false)) (omega (arith, c.if-b-eq0-2.false)) c.mend_at.ensures

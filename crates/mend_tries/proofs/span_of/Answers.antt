@@ -3,12 +3,10 @@ use Rattle.mend_tries.specs.Tries.{ready_of}
 use Rattle.mend_tries.proofs.span_of.Goals as goal
 
 pub span_at-requires : goal.span_at-requires
-span_at-requires c =
-    let at-force : _ = c in
-    let s : _ = at-force in (
-      ready_of s.args.front s.args.halves.now s.args.zones.now s.args.minima.now s.args.devices.now s.args.cells.now s.args.settings.now
-          s.requires.0 at-force.force.ensures,
-      s.requires.1,
-      s.requires.2,
-      s.requires.3,
-    )
+span_at-requires c = (
+  ready_of c.args.front c.args.halves.now c.args.zones.now c.args.minima.now c.args.devices.now c.args.cells.now c.args.settings.now
+      c.requires.0 c.force.ensures,
+  c.requires.1,
+  c.requires.2,
+  c.requires.3,
+)

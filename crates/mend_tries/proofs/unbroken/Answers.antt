@@ -4,18 +4,14 @@ use Rattle.mend_tries.proofs.unbroken.Goals as goal
 
 pub first_breach-first-requires : goal.first_breach-first-requires
 first_breach-first-requires c =
-    let at-force : _ = c in
-    let entry : _ = at-force in
-    ready_of _ _ _ _ _ _ _ entry.requires at-force.force.ensures
+    ready_of _ _ _ _ _ _ _ c.requires c.force.ensures
 
-pub returns-in-Broken : goal.returns-in-Broken
-returns-in-Broken c =
-    let s : _ = c in
-    answers-broken s.args.front s.args.halves.now s.args.zones.now s.args.minima.now s.args.devices.now s.args.cells.now s.args.settings.now
-    c.first_breach-first.ensures c.in-Broken.is
+pub returns-in-Some : goal.returns-in-Some
+returns-in-Some c =
+    answers-broken c.args.front c.args.halves.now c.args.zones.now c.args.minima.now c.args.devices.now c.args.cells.now c.args.settings.now
+    c.first_breach-first.ensures c.in-Some.is
 
-pub returns-in-Held : goal.returns-in-Held
-returns-in-Held c =
-    let s : _ = c in
-    answers-held s.args.front s.args.halves.now s.args.zones.now s.args.minima.now s.args.devices.now s.args.cells.now s.args.settings.now
-    c.first_breach-first.ensures c.in-Held.is
+pub returns-in-None : goal.returns-in-None
+returns-in-None c =
+    answers-held c.args.front c.args.halves.now c.args.zones.now c.args.minima.now c.args.devices.now c.args.cells.now c.args.settings.now
+    c.first_breach-first.ensures c.in-None.is

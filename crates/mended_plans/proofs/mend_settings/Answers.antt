@@ -21,7 +21,7 @@ mend_broken-requires c =
     let looked : _ = match in
     let forced : _ = looked in
     let entry : _ = forced in
-    (judgeable _ _ _ _ _ _ _ entry.requires.0 forced.force.ensures, sym looked.first_breach-first.ensures ∙ match.in-Broken.is)
+    (judgeable _ _ _ _ _ _ _ entry.requires.0 forced.force.ensures, sym looked.first_breach-first.ensures ∙ match.in-Some.is)
 
 pub complete-z-requires : goal.complete-z-requires
 complete-z-requires c =
@@ -30,20 +30,20 @@ complete-z-requires c =
     let forced : _ = looked in
     let entry : _ = forced in
     let ready = ready_of _ _ _ _ _ _ _ entry.requires.0 forced.force.ensures in
-    let kept = kept_of _ _ _ _ _ _ _ entry.requires.0.decoded ready looked.first_breach-first.ensures match.in-Held.is in
+    let kept = kept_of _ _ _ _ _ _ _ entry.requires.0.decoded ready looked.first_breach-first.ensures match.in-None.is in
     (kept.unbroken, kept.countable, omega (arith, most-needed entry.args.front.edition (few-of _ _ _ _ _ _ _ kept), entry.requires.1))
 
-pub returns-in-Broken : goal.returns-in-Broken
-returns-in-Broken c =
+pub returns-in-Some : goal.returns-in-Some
+returns-in-Some c =
     let mended : _ = c in
     let match : _ = mended in
     let looked : _ = match in
-    mends-broken _ _ _ _ _ _ _ looked.first_breach-first.ensures match.in-Broken.is mended.mend_broken.ensures
+    mends-broken _ _ _ _ _ _ _ looked.first_breach-first.ensures match.in-Some.is mended.mend_broken.ensures
 
-pub returns-in-Held : goal.returns-in-Held
-returns-in-Held c =
+pub returns-in-None : goal.returns-in-None
+returns-in-None c =
     let completed : _ = c in
     let match : _ = completed in
     let looked : _ = match in
     let e = to_z-of_z w64 completed.complete-z.result (record { sfits = completed.complete-z.type_inv }) in
-    mends-accepted _ _ _ _ _ _ _ looked.first_breach-first.ensures match.in-Held.is (e ∙ completed.complete-z.ensures.surplus)
+    mends-accepted _ _ _ _ _ _ _ looked.first_breach-first.ensures match.in-None.is (e ∙ completed.complete-z.ensures.surplus)

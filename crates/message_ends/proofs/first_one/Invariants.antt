@@ -6,6 +6,3 @@ use Rattle.message_ends.proofs.first_one.Given as goal
 
 abbrev pub invariant-loop-i : goal.invariant-loop-i
 invariant-loop-i l = first_one l.s l.at (l.end - l.at) ≡ first_one l.s l.i (l.end - l.i)
-
-abbrev pub decreases-loop-i : goal.decreases-loop-i
-decreases-loop-i l = l.end - l.i

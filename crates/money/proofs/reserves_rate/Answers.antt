@@ -3,20 +3,12 @@ use mathlib.Core.Path.{◌∙◌}
 use Rattle.money.specs.Costs.{on-eight, off-eight}
 use Rattle.money.proofs.reserves_rate.Goals as goal
 
-pub on_reserves-requires : goal.on_reserves-requires
-on_reserves-requires c = (c.requires.0, c.requires.1)
-
-pub off_reserves-requires : goal.off_reserves-requires
-off_reserves-requires c = (c.requires.0, c.requires.1)
-
 pub returns-then-on-eq1 : goal.returns-then-on-eq1
 returns-then-on-eq1 c =
-    let start : _ = c in
-    let a : _ = start.args in
-    (c.on_reserves.ensures.0 ∙ on-eight a.on a.b a.a start.requires.2 c.if-on-eq1.true, c.on_reserves.ensures.1)
+    let a : _ = c.args in
+    (c.on_reserves.ensures.0 ∙ on-eight a.on a.b a.a c.requires.2 c.if-on-eq1.true, c.on_reserves.ensures.1)
 
 pub returns-else-on-eq1 : goal.returns-else-on-eq1
 returns-else-on-eq1 c =
-    let start : _ = c in
-    let a : _ = start.args in
-    (c.off_reserves.ensures.0 ∙ off-eight a.on a.b a.a start.requires.2 c.if-on-eq1.false, c.off_reserves.ensures.1)
+    let a : _ = c.args in
+    (c.off_reserves.ensures.0 ∙ off-eight a.on a.b a.a c.requires.2 c.if-on-eq1.false, c.off_reserves.ensures.1)

@@ -5,5 +5,4 @@ use Rattle.money.proofs.worth.Goals as goal
 
 pub returns : goal.returns
 returns c =
-    let start : _ = c in
-    let a : _ = start.args in (c.at.ensures, omega (arith, c.at.ensures, worth-small a.p.0 a.price start.requires.0 start.requires.1))
+    let a : _ = c.args in (c.at.ensures, omega (arith, c.at.ensures, worth-small a.p.0 a.price c.requires.0 c.requires.1))

@@ -2,5 +2,5 @@
 use mathlib.Core.Path.{refl}
 use Rattle.nearer_tries.proofs.answer.Goals as goal
 
-pub returns-in-Found : goal.returns-in-Found
-returns-in-Found c = rw c.in-Found.is refl
+pub returns-in-Some : goal.returns-in-Some
+returns-in-Some c = rw c.in-Some.is refl

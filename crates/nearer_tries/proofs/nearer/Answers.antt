@@ -1,11 +1,11 @@
 -- By what was found.
 use Rattle.nearer_tries.proofs.nearer.Goals as goal
 
-pub returns-in-Missed : goal.returns-in-Missed
-returns-in-Missed c = rw c.in-Missed.is c.answer.ensures
+pub returns-in-None : goal.returns-in-None
+returns-in-None c = rw c.in-None.is c.answer.ensures
 
-pub returns-in-Missed-second : goal.returns-in-Missed-second
-returns-in-Missed-second c = rw (c.in-Found.is, c.in-Missed-second.is) c.answer-in-Missed-second.ensures
+pub returns-in-None-second : goal.returns-in-None-second
+returns-in-None-second c = rw (c.in-Some.is, c.in-None-second.is) c.answer-in-None-second.ensures
 
-pub returns-in-Found-second : goal.returns-in-Found-second
-returns-in-Found-second c = rw (c.in-Found.is, c.in-Found-second.is) c.better.ensures
+pub returns-in-Some-second : goal.returns-in-Some-second
+returns-in-Some-second c = rw (c.in-Some.is, c.in-Some-second.is) c.better.ensures

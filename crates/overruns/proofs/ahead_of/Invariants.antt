@@ -1,11 +1,6 @@
 -- The loop's invariant: nothing is spent in the intervals below t.
-use Prim.Native.Nat.{◌≤◌, ◌-◌}
-use lib.ListN.{length}
 use Rattle.overruns.specs.Energies.{Spent}
 use Rattle.overruns.proofs.ahead_of.Given as goal
 
 abbrev pub invariant-loop-t : goal.invariant-loop-t
-invariant-loop-t l = (l.t ≤ length l.powers) × Spent l.w l.starts l.powers l.t 0
-
-abbrev pub decreases-loop-t : goal.decreases-loop-t
-decreases-loop-t l = length l.powers - l.t
+invariant-loop-t l = Spent l.w l.starts l.powers l.t 0

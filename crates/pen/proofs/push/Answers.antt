@@ -1,5 +1,5 @@
 use native.Mathlib.Omega.{arith}
-use Rattle.pen.proofs.Words.{stay-sum, stays, word_sum, mask, fills}
+use Rattle.pen.proofs.Words.{stay-sum, stays, word_sum, fills}
 use Rattle.pen.proofs.push.Goals as goal
 
 pub overflow_add-result : goal.overflow_add-result
@@ -10,9 +10,6 @@ returns-then-n-lt64 c = let s = c in let a = s.args in stays a.p a.width a.value
 
 pub overflow_add-word : goal.overflow_add-word
 overflow_add-word c = let s = c in let a = s.args in record { fits = word_sum a.p a.width a.value s.requires.0 (omega arith) (omega arith) (omega arith) }
-
-pub overflow_sub-result : goal.overflow_sub-result
-overflow_sub-result c = let s = c in let a = s.args in mask a.p a.width a.value s.requires.0 (omega arith) (omega arith) (omega arith)
 
 pub returns : goal.returns
 returns c = let s = c in let a = s.args in

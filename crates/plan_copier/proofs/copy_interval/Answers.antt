@@ -3,4 +3,4 @@ use Rattle.bit_copier.specs.Moves.{moves-then}
 use Rattle.plan_copier.proofs.copy_interval.Goals as goal
 
 pub returns : goal.returns
-returns c = let x2 = c in let x1 = x2 in moves-then x1.copy_settings-q.ensures x2.keep_since.ensures
+returns c = moves-then c.copy_each-q.ensures c.keep_since.ensures

@@ -5,4 +5,4 @@ use Rattle.plan_copier.proofs.copy_setting.Goals as goal
 
 pub returns : goal.returns
 unfolding setting_splice
-returns c = let x2 = c in let x1 = x2 in moves-then x1.keep_run-q.ensures x2.keep_since.ensures
+returns c = moves-then c.keep_run-q.ensures c.keep_since.ensures

@@ -1,40 +1,29 @@
 -- Four fields: the first that is refused answers.
--- a figure that was refused
-use mathlib.Core.Path.{◌≡◌, ap}
-use Rattle.layouts.specs.declared.Fault.{Fault}
+use Rattle.std.proofs.Math.Path.{refl}
 use Rattle.layouts.specs.Layout.{held, ◌then◌}
-use Rattle.fields.specs.declared.Figure.{Figure}
-use Rattle.fields.specs.declared.Figure.TheVariants as G
-use Rattle.fields.specs.Got.{bad, figured}
+use Rattle.fields.specs.Got.{nat-natural}
 use Rattle.fields.specs.Since.{count-of}
-use Rattle.fields.proofs.Steps.{on, off}
+use Rattle.fields.proofs.Steps.{on, off, exits}
 use Rattle.plan_header.specs.Plans.{header}
-use native.Mathlib.Omega.{arith}
-use Rattle.model.specs.Widths.{bounded}
 use Rattle.plan_header.proofs.read_header.Goals as goal
 
-figure-bad : {r : Figure} {f : Fault} → r ≡ G.Bad f → figured r ≡ bad f
-figure-bad t = ap figured t
-
-pub returns-in_default : goal.returns-in_default
+pub returns-in_err-at_edition : goal.returns-in_err-at_edition
 unfolding header held ◌then◌
-returns-in_default c = search (off, figure-bad)
+returns-in_err-at_edition c = search (exits, off, nat-natural, c.in_err-at_edition.ensures)
 
-pub returns-in_default-number : goal.returns-in_default-number
+pub returns-in_err-at_devices : goal.returns-in_err-at_devices
 unfolding header held ◌then◌
-returns-in_default-number c = search (on, off, figure-bad)
+returns-in_err-at_devices c = search (exits, on, off, nat-natural, c.in_ok-at_edition.ensures, c.in_err-at_devices.ensures)
 
-pub read_count-count-requires : goal.read_count-count-requires
-read_count-count-requires c = omega (arith, c.device_bits-across.ensures, (bounded c.args.edition).device_bits)
-
-pub returns-in_default-count : goal.returns-in_default-count
+pub returns-in_err-at_intervals : goal.returns-in_err-at_intervals
 unfolding header held ◌then◌
-returns-in_default-count c = search (on, off, figure-bad, count-of)
-
-pub read_count-requires : goal.read_count-requires
-read_count-requires c = let earlier : _ = c in
-    omega (arith, c.interval_bits-along.ensures, (bounded earlier.args.edition).interval_bits)
+returns-in_err-at_intervals c =
+    let k = count-of _ _ _ _ _ c.device_bits-across.ensures refl refl c.in_err-at_intervals.ensures in
+    search (exits, on, off, nat-natural, k, c.in_ok-at_edition.ensures, c.in_ok-at_devices.ensures)
 
 pub returns : goal.returns
 unfolding header held ◌then◌
-returns c = search (on, count-of)
+returns c =
+    let k = count-of _ _ _ _ _ c.device_bits-across.ensures refl refl c.in_ok-at_intervals.ensures in
+    let l = count-of _ _ _ _ _ c.interval_bits-along.ensures refl refl c.read_count-2.ensures in
+    search (on, nat-natural, k, l, c.in_ok-at_edition.ensures, c.in_ok-at_devices.ensures)

@@ -9,14 +9,14 @@ read_plan-requires c = let entry : _ = c in plan-room entry.requires.0 entry.req
 pub judge_settings-requires : goal.judge_settings-requires
 judge_settings-requires c = let earlier : _ = c in
     let entry : _ = earlier in
-    planned-of entry.requires.0 _ _ _ c.read_plan.ensures entry.requires.1 c.in-Passes.is
+    planned-of entry.requires.0 _ _ _ c.read_plan.ensures entry.requires.1 c.in-Ok.is
 
-pub returns-in-Fails : goal.returns-in-Fails
-returns-in-Fails c = plan-fails c.requires.0 _ _ _
-    c.read_plan.ensures _ c.in-Fails.is
+pub returns-in-Err : goal.returns-in-Err
+returns-in-Err c = plan-fails c.requires.0 _ _ _
+    c.read_plan.ensures _ c.in-Err.is
 
-pub returns-in-Passes : goal.returns-in-Passes
-returns-in-Passes c = let earlier : _ = c in
+pub returns-in-Ok : goal.returns-in-Ok
+returns-in-Ok c = let earlier : _ = c in
     let reading : _ = earlier in let entry : _ = reading in
     plan-passes entry.requires.0 _ _ _ reading.read_plan.ensures
-    c.in-Passes.is c.judge_settings.ensures
+    c.in-Ok.is c.judge_settings.ensures

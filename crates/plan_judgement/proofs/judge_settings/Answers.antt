@@ -12,7 +12,7 @@ accept-requires c = let earlier : _ = c in
     let entry : _ = earlier in
     kept_of _ _ _ _ _ _ _ entry.requires.decoded (ready_of _ _ _ _ _ _ _ entry.requires
     c.force.ensures)
-    c.first_breach-first.ensures c.in-Held.is
+    c.first_breach-first.ensures c.in-None.is
 
-pub returns-in-Broken : goal.returns-in-Broken
-returns-in-Broken c = decides-broken _ _ _ _ _ _ _ _ c.first_breach-first.ensures c.in-Broken.is
+pub returns-in-Some : goal.returns-in-Some
+returns-in-Some c = decides-broken _ _ _ _ _ _ _ _ c.first_breach-first.ensures c.in-Some.is

@@ -1,15 +1,10 @@
 -- What the header is refused with, else what the settings behind it are.
+use Rattle.fields.proofs.Steps.{told-exits}
 use Rattle.plan_reader.proofs.Whole.{plan-on, plan-off}
 use Rattle.plan_reader.proofs.read_fields.Goals as goal
 
-pub returns-in_default : goal.returns-in_default
-returns-in_default c =
-    let a = c.args in
-    plan-off a.edition a.devices a.intervals a.s.now c.read_header-front.ensures c.in_default.is c.place_of.ensures _
+pub returns-in_err-p : goal.returns-in_err-p
+returns-in_err-p c = told-exits _ _ c.from_residual.ensures (plan-off _ _ _ _ c.in_err-p.ensures)
 
 pub returns : goal.returns
-returns c =
-    let r = c.read_intervals in
-    let b = c in
-    let a = b.args in
-    plan-on a.edition a.devices a.intervals a.s.now b.read_header-front.ensures b.in-Good.is r.result _ r.ensures
+returns c = plan-on _ _ _ _ _ _ c.in_ok-p.ensures c.read_intervals.ensures

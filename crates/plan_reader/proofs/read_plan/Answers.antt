@@ -1,25 +1,23 @@
 -- Every field, then the end; what passes is in its ranges.
-use Rattle.message_ends.specs.Ended.{whole-inside, whole-ended, whole-failed}
-use Rattle.plan_reader.proofs.Whole.{plan-natural, plan-done}
+use Rattle.std.proofs.Math.Path.{refl}
+use Rattle.message_ends.specs.Ended.{whole-inside, whole-ended}
+use Rattle.plan_reader.proofs.Whole.{plan-natural, plan-done, failed-exits}
 use borrow.Author.Rules.{rules}
 use Rattle.plan_reader.proofs.read_plan.Goals as goal
 
+pub returns-in_err-p : goal.returns-in_err-p
+returns-in_err-p c =
+    let a = c.args in
+    plan-done a.edition a.devices a.intervals _ _ (search rules)
+    (failed-exits (plan-natural a.edition a.devices a.intervals) _ _ _ c.from_residual.ensures c.in_err-p.ensures)
+
 pub finish-requires : goal.finish-requires
 finish-requires c =
-    let r = c in
-    let a = r.args in
-    whole-inside (plan-natural a.edition a.devices a.intervals) _ _ r.read_fields.ensures c.in-On.is
+    let a = c.args in
+    whole-inside (plan-natural a.edition a.devices a.intervals) _ _ c.in_ok-p.ensures refl
 
-pub returns-in-Off : goal.returns-in-Off
-returns-in-Off c =
-    let r = c in
-    let a = r.args in
+pub returns : goal.returns
+returns c =
+    let a = c.args in
     plan-done a.edition a.devices a.intervals _ _ (search rules)
-    (whole-failed (plan-natural a.edition a.devices a.intervals) _ _ r.read_fields.ensures c.in-Off.is)
-
-pub returns-in-On : goal.returns-in-On
-returns-in-On c =
-    let r = c in
-    let a = r.args in
-    plan-done a.edition a.devices a.intervals _ _ (search rules)
-    (whole-ended (plan-natural a.edition a.devices a.intervals) _ _ r.read_fields.ensures c.in-On.is c.finish.ensures)
+    (whole-ended (plan-natural a.edition a.devices a.intervals) _ _ c.in_ok-p.ensures refl c.finish.ensures)

@@ -1,7 +1,6 @@
 -- Each word holds four prices, which are in their ranges where neither borrows.
 use Prim.Native.Nat.{◌+◌}
 use native.Mathlib.Omega.{arith}
-use borrow.Author.Tests.{eqb-true}
 use Rattle.bits.proofs.Laws.{reaches, field_lt}
 use Rattle.price_words.specs.Prices.{four_bits}
 use Rattle.price_words.proofs.Prices.{unborrowed, four-of, found}
@@ -29,15 +28,15 @@ borrows-requires-2 c =
     omega (arith, k.bits_at-second.ensures, field_lt a.s.now (a.at + four_bits) four_bits)
 
 pub returns : goal.returns
-returns c e =
+returns c =
     let n = c in
     let k = n.before in
     let a = k.args in
     let s = a.s.now in
     let x = c.four_in.ensures in
     let y = c.four_in-2.ensures in
-    let none = unborrowed _ _ (eqb-true _ _ e) in
-    found s a.at k.requires c.eight_of-prices.ensures
+    let none = unborrowed _ _ c.if-borrows-ne0.false in
+    found s a.at k.requires c.eight_of.ensures
     (four-of s a.at 0 a.at k.bits_at-first.ensures x (omega arith))
     (four-of s a.at 4 (a.at + four_bits) n.bits_at-second.ensures y (omega arith))
     x y (n.borrows.ensures none.0) (c.borrows-2.ensures none.1)

@@ -1,9 +1,8 @@
--- `raising::raised_by` meets its contract.
--- Assumes nothing.
+use native.Mathlib.Omega.{arith}
 use Rattle.raising.proofs.Raising.{step_is}
 use Rattle.raising.proofs.raised_by.Goals as goal
 
 pub returns : goal.returns
 returns c =
-    let a : _ = c.args in
-    step_is a.r a.o a.lo a.hi _ c.within-power.ensures
+    let a = c.args in
+    step_is a.r a.o a.lo a.hi _ (omega arith)

@@ -1,12 +1,13 @@
 -- The neutral figures before edition 2; since, the quick answer where there is one, else the exact.
-use Rattle.reactive_cells.proofs.Reactive.{reactive-none, reactive-there}
+use Rattle.std.proofs.lemmas.Option.{MatchOption-at_some}
+use Rattle.fields.specs.Since.{field-absent, field-there}
 use Rattle.reactive_cells.proofs.read_reactive.Goals as goal
 
 pub returns-then-edition-lt-REACTIVE_EDITION : goal.returns-then-edition-lt-REACTIVE_EDITION
-returns-then-edition-lt-REACTIVE_EDITION c = search reactive-none
+returns-then-edition-lt-REACTIVE_EDITION c = search field-absent
 
-pub returns-then-quick : goal.returns-then-quick
-returns-then-quick c = let t = c.quick_reactive-quick.ensures c.if-quick.true in search reactive-there
+pub returns-in-Some : goal.returns-in-Some
+returns-in-Some c = field-there 2 _ _ _ _ _ c.if-edition-lt-REACTIVE_EDITION.false (MatchOption-at_some _ _ _ c.in-Some.is c.quick_reactive.ensures)
 
 pub returns : goal.returns
-returns c = search reactive-there
+returns c = search (field-there, c.exact_reactive.ensures)

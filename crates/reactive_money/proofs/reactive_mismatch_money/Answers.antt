@@ -10,16 +10,14 @@ plus-requires c = omega (arith, mismatch-power c.requires.1)
 
 pub over-requires : goal.over-requires
 over-requires c =
-    let s : _ = c in
-    let w : _ = s.requires.1 in
-    omega (arith, c.at.ensures ∙ ap (λ (k : ℕ). s.args.price * k) c.plus.ensures, rate-small w, interval-minutes w)
+    let w : _ = c.requires.1 in
+    omega (arith, c.at.ensures ∙ ap (λ (k : ℕ). c.args.price * k) c.plus.ensures, rate-small w, interval-minutes w)
 
 pub spend-requires : goal.spend-requires
 spend-requires c =
-    let s : _ = c in
-    let a : _ = s.args in
+    let a : _ = c.args in
     let e : _ = c.at.ensures ∙ ap (λ (k : ℕ). a.price * k) c.plus.ensures in
-    omega (arith, s.requires.0.debit, cost-small s.requires.1, c.over.ensures ∙ ap (λ (k : ℕ). a.minutes * k) e)
+    omega (arith, c.requires.0.debit, cost-small c.requires.1, c.over.ensures ∙ ap (λ (k : ℕ). a.minutes * k) e)
 
 pub returns : goal.returns
 returns c =

@@ -16,43 +16,32 @@ plus-held-requires c =
 
 pub returns-then-held-eq0 : goal.returns-then-held-eq0
 returns-then-held-eq0 c =
-    let held : _ = c in
-    let a : _ = held.args in
-    none-entered a.cells.now a.settings.now a.k a.minutes a.l held.reactive_at-x.ensures held.plus-held.ensures c.if-held-eq0.true
+    let a : _ = c.args in
+    none-entered a.cells.now a.settings.now a.k a.minutes a.l c.reactive_at-x.ensures c.plus-held.ensures c.if-held-eq0.true
 
 pub reactive_cell_at-prices-requires : goal.reactive_cell_at-prices-requires
 reactive_cell_at-prices-requires c = in_cells c.requires.1
 
 pub plus-requires : goal.plus-requires
 plus-requires c =
-    let priced : _ = c in
-    let read : _ = priced in
-    omega (arith, (two-rate read.requires.1 priced.reactive_cell_at-prices.ensures read.reactive_at-x.ensures c.at-up.ensures c.at-down.ensures refl).1)
+    omega (arith, (two-rate c.requires.1 c.reactive_cell_at-prices.ensures c.reactive_at-x.ensures c.at-up.ensures c.at-down.ensures refl).1)
 
 pub over-requires : goal.over-requires
 over-requires c =
-    let priced : _ = c in
-    let read : _ = priced in
-    let w : _ = read.requires.1 in (
-      omega (arith, (two-rate w priced.reactive_cell_at-prices.ensures read.reactive_at-x.ensures c.at-up.ensures c.at-down.ensures c.plus.ensures).1),
+    let w : _ = c.requires.1 in (
+      omega (arith, (two-rate w c.reactive_cell_at-prices.ensures c.reactive_at-x.ensures c.at-up.ensures c.at-down.ensures c.plus.ensures).1),
       omega (arith, held-minutes w),
     )
 
 pub spend-requires : goal.spend-requires
 spend-requires c =
-    let summed : _ = c in
-    let priced : _ = summed in
-    let read : _ = priced in
-    let w : _ = read.requires.1 in
-    let z : _ = two-rate w priced.reactive_cell_at-prices.ensures read.reactive_at-x.ensures summed.at-up.ensures summed.at-down.ensures summed.plus.ensures in
-    omega (arith, read.requires.0.debit, c.over.ensures, mul-le-mul (held-minutes w) z.1)
+    let w : _ = c.requires.1 in
+    let z : _ = two-rate w c.reactive_cell_at-prices.ensures c.reactive_at-x.ensures c.at-up.ensures c.at-down.ensures c.plus.ensures in
+    omega (arith, c.requires.0.debit, c.over.ensures, mul-le-mul (held-minutes w) z.1)
 
 pub returns : goal.returns
 returns c =
-    let summed : _ = c in
-    let priced : _ = summed in
-    let read : _ = priced in
-    let a : _ = read.args in
-    let w : _ = read.requires.1 in
+    let a : _ = c.args in
+    let w : _ = c.requires.1 in
     held-entered a.cells.now a.settings.now a.k a.minutes c.spend.ensures c.over.ensures (held-minutes w)
-    (two-rate w priced.reactive_cell_at-prices.ensures read.reactive_at-x.ensures summed.at-up.ensures summed.at-down.ensures summed.plus.ensures)
+    (two-rate w c.reactive_cell_at-prices.ensures c.reactive_at-x.ensures c.at-up.ensures c.at-down.ensures c.plus.ensures)

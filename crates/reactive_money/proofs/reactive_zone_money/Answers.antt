@@ -14,11 +14,9 @@ plus-requires c = omega (arith, c.short_cost-up.ensures.1, c.short_cost-down.ens
 
 pub spend-requires : goal.spend-requires
 spend-requires c =
-    let down : _ = c in
-    omega (arith, down.requires.0.debit, c.plus.ensures, down.short_cost-up.ensures.1, down.short_cost-down.ensures.1)
+    omega (arith, c.requires.0.debit, c.plus.ensures, c.short_cost-up.ensures.1, c.short_cost-down.ensures.1)
 
 pub returns : goal.returns
 returns c =
-    let down : _ = c in
-    let a : _ = down.args in
-    zone-entered a.zone a.minutes a.qru.0 a.qrd.0 c.spend.ensures down.short_cost-up.ensures down.short_cost-down.ensures c.plus.ensures
+    let a : _ = c.args in
+    zone-entered a.zone a.minutes a.qru.0 a.qrd.0 c.spend.ensures c.short_cost-up.ensures c.short_cost-down.ensures c.plus.ensures

@@ -5,13 +5,8 @@ use mathlib.Core.List.{List, []}
 use mathlib.Core.Bool.{Bool, true}
 use Prim.Native.Nat.{ℕ}
 use Rattle.model.specs.Breaches.{failing}
-use Rattle.reactive_rules.specs.Rules.{tests-here, sized-here}
+use Rattle.reactive_rules.specs.Rules.{tests-here}
 use Rattle.reactive_rules.proofs.held_at.Goals as goal
-
-pub figures_held-requires : goal.figures_held-requires
-figures_held-requires c = let s : _ = c in let a : _ = s.args in
-    sized-here a.d a.cells.now a.settings.now a.starts.now a.powers.now a.t c.reactive_cell_at-c.ensures c.reactive_at-x.ensures
-    c.bracket_given-n.ensures.1 s.requires
 
 pub returns : goal.returns
 returns c = let a : _ = c.args in

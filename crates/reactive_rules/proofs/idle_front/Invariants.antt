@@ -1,11 +1,6 @@
 -- The loop's invariant: in the intervals below t every test holds, for nothing is reactive there.
-use Prim.Native.Nat.{◌≤◌, ◌-◌}
-use lib.ListN.{length}
 use Rattle.reactive_rules.specs.Rules.{ReactiveHeldTo}
 use Rattle.reactive_rules.proofs.idle_front.Given as goal
 
 abbrev pub invariant-loop-t : goal.invariant-loop-t
-invariant-loop-t l = (l.t ≤ length l.cells) × ReactiveHeldTo l.d l.cells l.settings l.starts l.powers l.t
-
-abbrev pub decreases-loop-t : goal.decreases-loop-t
-decreases-loop-t l = length l.cells - l.t
+invariant-loop-t l = ReactiveHeldTo l.d l.cells l.settings l.starts l.powers l.t

@@ -5,11 +5,11 @@ use Rattle.reactive_tests.specs.Tests.{limit_tests}
 use Rattle.reactive_tests.specs.Held.{first-fails, second-tells}
 use Rattle.reactive_tests.proofs.limits_held.Goals as goal
 
-pub returns-then-not-below_limit : goal.returns-then-not-below_limit
+pub returns-then-below_limit : goal.returns-then-below_limit
 unfolding limit_tests
-returns-then-not-below_limit c = (λ e. never e, first-fails 21 _ (rw c.by_side-up.ensures.0 at c.below_limit.ensures) (ap not c.if-not-below_limit.true))
-
-pub returns : goal.returns
-unfolding limit_tests
-returns c = second-tells 21 22 (rw c.by_side-up.ensures.0 at c.below_limit.ensures) (ap not c.if-not-below_limit.false)
+returns-then-below_limit c = second-tells 21 22 (rw c.by_side-up.ensures.0 at c.below_limit.ensures) (ap not c.if-below_limit.true)
     (rw c.by_side-down.ensures.0 at c.above_limit.ensures)
+
+pub returns-else-below_limit : goal.returns-else-below_limit
+unfolding limit_tests
+returns-else-below_limit c = rw c.if-below_limit.false (λ e. never e, first-fails 21 _ (rw c.by_side-up.ensures.0 at c.below_limit.ensures) (ap not c.if-below_limit.false))

@@ -1,10 +1,9 @@
-use Rattle.reactive_zones.proofs.Steps.{two-told}
-use borrow.Author.Rules.{rules}
+use Rattle.fields.proofs.Steps.{seen-exits}
+use Rattle.reactive_zones.proofs.Steps.{two-good, two-bad}
 use Rattle.reactive_zones.proofs.read_two.Goals as goal
 
+pub returns-in_err-past : goal.returns-in_err-past
+returns-in_err-past c = seen-exits _ _ c.from_residual.ensures (search (two-bad, c.in_err-past.ensures))
+
 pub returns : goal.returns
-returns c =
-    let read-list : _ = c.read_list-went in
-    let start : _ = c in
-    let a : _ = start.args in
-    two-told a.width a.low a.high a.s.now a.p read-list.result read-list.new.out (search rules) read-list.ensures
+returns c = search (two-good, c.in_ok-past.ensures)

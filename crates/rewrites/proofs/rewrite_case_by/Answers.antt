@@ -3,10 +3,10 @@ use Rattle.rewrites.specs.Steps.{case-some, case-fails, case-passes}
 use Rattle.rewrites.proofs.rewrite_case_by.Goals as goal
 
 pub rewrite_read_case-requires : goal.rewrite_read_case-requires
-rewrite_read_case-requires c = case-some _ _ _ _ _ _ _ _ _ _ _ c.read_case-read.ensures c.in-Passes.is
+rewrite_read_case-requires c = case-some _ _ _ _ _ _ _ _ _ _ c.in-Ok.ensures
 
-pub returns-in-Fails : goal.returns-in-Fails
-returns-in-Fails c = case-fails _ _ _ _ _ _ _ _ _ _ _ c.read_case-read.ensures _ c.in-Fails.is
+pub returns-in-Err : goal.returns-in-Err
+returns-in-Err c = case-fails _ _ _ _ c.in-Err.ensures
 
-pub returns-in-Passes : goal.returns-in-Passes
-returns-in-Passes c = case-passes _ _ _ _ _ _ _ _ _ _ _ c.read_case-read.ensures c.in-Passes.is c.rewrite_read_case.ensures
+pub returns-in-Ok : goal.returns-in-Ok
+returns-in-Ok c = case-passes _ _ _ _ _ _ _ _ _ _ c.in-Ok.ensures c.rewrite_read_case.ensures

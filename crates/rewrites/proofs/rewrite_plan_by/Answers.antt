@@ -5,13 +5,13 @@ use Rattle.rewrites.proofs.rewrite_plan_by.Goals as goal
 
 pub renew_plan-bytes-requires : goal.renew_plan-bytes-requires
 renew_plan-bytes-requires c = let entry : _ = c in
-    (plan-some _ _ _ _ _ _ c.read_plan.ensures c.in-Passes.is, omega (arith, entry.requires.few-devices), omega (arith, entry.requires.few-intervals))
+    (plan-some _ _ _ _ _ _ c.read_plan.ensures c.in-Ok.is, omega (arith, entry.requires.few-devices), omega (arith, entry.requires.few-intervals))
 
-pub returns-in-Fails : goal.returns-in-Fails
-returns-in-Fails c = plan-fails _ _ _ _ _ _ c.read_plan.ensures _ c.in-Fails.is
+pub returns-in-Err : goal.returns-in-Err
+returns-in-Err c = plan-fails _ _ _ _ _ _ c.read_plan.ensures _ c.in-Err.is
 
-pub returns-in-Passes : goal.returns-in-Passes
-returns-in-Passes c = let entry : _ = c in
+pub returns-in-Ok : goal.returns-in-Ok
+returns-in-Ok c = let entry : _ = c in
     plan-passes _ _ _ _ _ _ c.read_plan.ensures entry.requires.few-devices entry.requires.few-intervals
-    c.in-Passes.is c.renew_plan-bytes.ensures
+    c.in-Ok.is c.renew_plan-bytes.ensures
     c.answer.ensures

@@ -1,21 +1,21 @@
 -- The figures that every edition has, then the reactive ones, held as a setting.
-use mathlib.Core.Path.{◌∙◌}
-use Rattle.setting_reader.proofs.Steps.{setting-off, setting-on}
+use Rattle.layouts.specs.Layout.{held, ◌then◌}
+use Rattle.model.specs.ByEdition.{setting}
+use Rattle.fields.proofs.Steps.{on, off, seen-exits}
+use Rattle.reactive_reader.proofs.Steps.{reactive-natural}
+use Rattle.setting_reader.proofs.Steps.{active-natural}
 use Rattle.setting_reader.proofs.read_setting.Goals as goal
 
-pub returns-in_default : goal.returns-in_default
-returns-in_default c =
-    let b = c in
-    let a = b.args in
-    let r = b.exact_active-read in
-    c.setting_read.ensures ∙ setting-off a.edition a.s.now a.p r.result.active r.ensures _ c.in_default.is
+pub returns-in_err-active : goal.returns-in_err-active
+unfolding setting held ◌then◌
+returns-in_err-active c = seen-exits _ _ c.from_residual.ensures (search (off, active-natural, c.in_err-active.ensures))
+
+pub returns-in_err-reactive : goal.returns-in_err-reactive
+unfolding setting held ◌then◌
+returns-in_err-reactive c =
+    seen-exits _ _ c.from_residual-in_err-reactive.ensures
+    (search (on, off, active-natural, reactive-natural, c.in_ok-active.ensures, c.in_err-reactive.ensures))
 
 pub returns : goal.returns
-returns c =
-    let m = c in
-    let b = m in
-    let a = b.args in
-    let r = b.exact_active-read in
-    let more = m.read_reactive-more in
-    c.setting_read-2.ensures
-    ∙ setting-on a.edition a.s.now a.p r.result.active r.ensures more.result.went more.result.reactive m.in-On.is more.ensures
+unfolding setting held ◌then◌
+returns c = search (on, active-natural, reactive-natural, c.in_ok-active.ensures, c.in_ok-reactive.ensures)

@@ -5,16 +5,11 @@ use Rattle.reactive_reader.proofs.Steps.{found-good}
 use Rattle.setting_store.proofs.store_reactive.Goals as goal
 
 pub overflow_add-result : goal.overflow_add-result
-overflow_add-result c =
-    let q = c in
-    omega (arith, (q.quick_reactive-quick.ensures c.if-quick.true).there, reaches q.args.s.now)
+overflow_add-result c = omega (arith, c.in-Some.ensures.there, reaches c.args.s.now)
 
-pub returns-then-quick : goal.returns-then-quick
-returns-then-quick c =
-    let q = c in
-    let a = q.args in
-    record {
-      figures = q.quick_reactive-quick.result.reactive;
-      stored = c.put_reactive.ensures;
-      reads = found-good a.s.now a.p (q.quick_reactive-quick.ensures c.if-quick.true);
-    }
+pub returns-in-Some : goal.returns-in-Some
+returns-in-Some c = record {
+  figures = c.in-Some.reactive;
+  stored = c.put_reactive.ensures;
+  reads = found-good c.args.s.now c.args.p c.in-Some.ensures;
+}

@@ -9,22 +9,16 @@ use Rattle.setting_store.proofs.Steps.{plain-stored, both_stored}
 use Rattle.setting_store.proofs.store_setting.Goals as goal
 
 pub overflow_add-next : goal.overflow_add-next
-overflow_add-next c =
-    let q = c in
-    omega (arith, (q.quick_active-quick.ensures c.if-quick.true).there, reaches q.args.s.now)
+overflow_add-next c = omega (arith, c.in-Some.ensures.there, reaches c.args.s.now)
 
 pub returns-then-edition-lt-SINCE : goal.returns-then-edition-lt-SINCE
 returns-then-edition-lt-SINCE c =
-    let put = c in
-    let q = put in
-    let a = q.args in
-    let d = put.put_setting.ensures ∙ ap (λ (x : Setting). set a.settings.now a.k (setting_row x)) put.plain.ensures in
-    plain-stored a.edition a.k a.s.now a.p (q.quick_active-quick.ensures put.if-quick.true) d c.if-edition-lt-SINCE.true
+    let a = c.args in
+    let d = c.put_setting.ensures ∙ ap (λ (x : Setting). set a.settings.now a.k (setting_row x)) c.plain.ensures in
+    plain-stored a.edition a.k a.s.now a.p c.in-Some.ensures _ d c.if-edition-lt-SINCE.true
 
-pub returns-then-quick : goal.returns-then-quick
-returns-then-quick c =
-    let put = c in
-    let q = put in
-    let a = q.args in
-    let d = put.put_setting.ensures ∙ ap (λ (x : Setting). set a.settings.now a.k (setting_row x)) put.plain.ensures in
-    both_stored a.edition a.k a.s.now a.p (q.quick_active-quick.ensures put.if-quick.true) d q.requires c.if-edition-lt-SINCE.false c.store_reactive.ensures
+pub returns-in-Some : goal.returns-in-Some
+returns-in-Some c =
+    let a = c.args in
+    let d = c.put_setting.ensures ∙ ap (λ (x : Setting). set a.settings.now a.k (setting_row x)) c.plain.ensures in
+    both_stored a.edition a.k a.s.now a.p c.in-Some.ensures _ d _ _ c.requires c.if-edition-lt-SINCE.false c.store_reactive.ensures

@@ -17,21 +17,19 @@ priced-requires c =
 
 pub spend-requires : goal.spend-requires
 spend-requires c =
-    let s : _ = c in
-    let a : _ = s.args in
-    let w : _ = s.requires.1 in
+    let a : _ = c.args in
+    let w : _ = c.requires.1 in
     let e : _ = c.over.ensures ∙ ap (λ (k : ℕ). k * a.minutes) c.plus.ensures in
     omega (
       arith,
-      s.requires.0.debit,
+      c.requires.0.debit,
       (energy-cost (a.first.0 + a.second.0) a.minutes a.price (mismatch-power w) (interval-minutes w) (mismatch-price w) e c.priced.ensures).1,
     )
 
 pub returns : goal.returns
 returns c =
-    let s : _ = c in
-    let a : _ = s.args in
-    let w : _ = s.requires.1 in
+    let a : _ = c.args in
+    let w : _ = c.requires.1 in
     let e : _ = c.over.ensures ∙ ap (λ (k : ℕ). k * a.minutes) c.plus.ensures in
     mismatch-entered a.price a.minutes (a.first.0 + a.second.0) c.spend.ensures e c.priced.ensures
     (energy-cost (a.first.0 + a.second.0) a.minutes a.price (mismatch-power w) (interval-minutes w) (mismatch-price w) e c.priced.ensures).1

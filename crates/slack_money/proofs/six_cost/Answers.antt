@@ -40,71 +40,11 @@ short_cost-f-requires c = (
   c.requires.1,
 )
 
-pub plus-requires : goal.plus-requires
-plus-requires c = omega (
-  arith,
-  c.short_cost-a.ensures.1,
-  c.short_cost-b.ensures.1,
-)
-
-pub plus-requires-2 : goal.plus-requires-2
-plus-requires-2 c = omega (
-  arith,
-  c.plus.ensures,
-  c.short_cost-a.ensures.1,
-  c.short_cost-b.ensures.1,
-  c.short_cost-c.ensures.1,
-)
-
-pub plus-requires-3 : goal.plus-requires-3
-plus-requires-3 c = omega (
-  arith,
-  c.plus.ensures,
-  c.plus-2.ensures,
-  c.short_cost-a.ensures.1,
-  c.short_cost-b.ensures.1,
-  c.short_cost-c.ensures.1,
-  c.short_cost-d.ensures.1,
-)
-
-pub plus-requires-4 : goal.plus-requires-4
-plus-requires-4 c = let earlier : _ = c in
-    let at-short-cost : _ = earlier in
-    omega (
-      arith,
-      c.plus.ensures,
-      c.plus-2.ensures,
-      c.plus-3.ensures,
-      at-short-cost.short_cost-a.ensures.1,
-      c.short_cost-b.ensures.1,
-      c.short_cost-c.ensures.1,
-      c.short_cost-d.ensures.1,
-      c.short_cost-e.ensures.1,
-    )
-
-pub plus-requires-5 : goal.plus-requires-5
-plus-requires-5 c = let earlier : _ = c in
-    let at-short-cost : _ = earlier in
-    omega (
-      arith,
-      c.plus.ensures,
-      c.plus-2.ensures,
-      c.plus-3.ensures,
-      c.plus-4.ensures,
-      at-short-cost.short_cost-a.ensures.1,
-      c.short_cost-b.ensures.1,
-      c.short_cost-c.ensures.1,
-      c.short_cost-d.ensures.1,
-      c.short_cost-e.ensures.1,
-      c.short_cost-f.ensures.1,
-    )
-
 pub returns : goal.returns
-returns c = let earlier : _ = c in
-    let at-short-cost2 : _ = earlier in let at-short-cost : _ = at-short-cost2 in let at-args : _ = at-short-cost in let a : _ = at-args.args in
+returns c = let a : _ = c.args in
     let at : ℕ → ℕ = λ k. get_or a.prices k 0 * watts_at a.x k in
     six-added a.minutes short_most (at 0) (at 1) (at 2) (at 3) (at 4) (at 5)
-    at-short-cost.short_cost-a.ensures at-short-cost2.short_cost-b.ensures
+    c.short_cost-a.ensures c.short_cost-b.ensures
     c.short_cost-c.ensures
     c.short_cost-d.ensures
     c.short_cost-e.ensures c.short_cost-f.ensures

@@ -1,10 +1,6 @@
 -- The loop's invariant: the intervals from t on, before e, are raised.
-use Prim.Native.Nat.{◌≤◌}
 use Rattle.trajectories.specs.Trajectories.{rise_in, Raised}
 use Rattle.trajectories.proofs.add_before.Given as goal
 
 abbrev pub invariant-loop-t : goal.invariant-loop-t
-invariant-loop-t l = (l.t ≤ l.e) × Raised (rise_in l.power.0 l.ramp l.starts l.e) l.t l.e l.initial.row l.row
-
-abbrev pub decreases-loop-t : goal.decreases-loop-t
-decreases-loop-t l = l.t
+invariant-loop-t l = Raised (rise_in l.power.0 l.ramp l.starts l.e) l.t l.e l.initial.row l.row

@@ -5,4 +5,4 @@ use Rattle.zone_copier.proofs.copy_minima.Goals as goal
 
 pub returns : goal.returns
 unfolding minima_splice
-returns c = let x2 = c in let x1 = x2 in moves-then x1.keep_field-q.ensures x2.keep_since.ensures
+returns c = moves-then c.keep_field-q.ensures c.keep_since.ensures

@@ -1,17 +1,19 @@
-use Rattle.row_places.specs.Figures.{minima_row}
-use Rattle.records.specs.Views.{minima_in}
-use Rattle.reactive_zones.specs.Two.{reactive_minima_in}
-use Rattle.zone_reader.proofs.ZoneSteps.{minima-no-pair, minima-done}
+use Rattle.std.proofs.Math.Path.{refl}
+use Rattle.layouts.specs.Layout.{◌then◌, held}
+use Rattle.model.specs.ByEdition as B
+use Rattle.reactive_zones.proofs.Steps.{minima-natural}
+use Rattle.fields.proofs.Steps.{on, off, seen-exits}
+use Rattle.zone_reader.proofs.ZoneSteps.{pair-natural}
 use Rattle.zone_reader.proofs.read_interval.Goals as goal
 
-pub returns-in_default : goal.returns-in_default
-returns-in_default c = search minima-no-pair
+pub returns-in_err-rru : goal.returns-in_err-rru
+unfolding B.minima held ◌then◌
+returns-in_err-rru c = seen-exits _ _ c.from_residual.ensures (off pair-natural _ _ _ _ c.in_err-rru.ensures refl)
+
+pub returns-in_err-reactive : goal.returns-in_err-reactive
+unfolding B.minima held ◌then◌
+returns-in_err-reactive c = seen-exits _ _ c.from_residual-in_err-reactive.ensures (on pair-natural _ _ _ _ c.in_ok-rru.ensures (off (minima-natural _) _ _ _ _ c.in_err-reactive.ensures refl))
 
 pub returns : goal.returns
-returns c =
-    let read-minima : _ = c.read_minima-reactive in
-    let read-pair : _ = c.read_pair-pair in
-    let start : _ = c in
-    let a : _ = start.args in
-    minima-done a.edition a.s.now a.p (minima_in (minima_row read-pair.result.minima)) read-pair.ensures read-minima.result.went
-    (reactive_minima_in read-minima.result) c.in-On.is read-minima.ensures
+unfolding B.minima held ◌then◌
+returns c = on pair-natural _ _ _ _ c.in_ok-rru.ensures (on (minima-natural _) _ _ _ _ c.in_ok-reactive.ensures refl)

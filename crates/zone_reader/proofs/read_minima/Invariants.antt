@@ -6,6 +6,3 @@ use Rattle.zone_reader.proofs.read_minima.Given as goal
 
 abbrev pub invariant-loop-k : goal.invariant-loop-k
 invariant-loop-k l = Minding l.edition l.s (length l.initial.minima) l.initial.q l.k l.minima l.q
-
-abbrev pub decreases-loop-k : goal.decreases-loop-k
-decreases-loop-k l = length l.initial.minima - l.k

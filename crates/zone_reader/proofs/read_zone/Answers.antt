@@ -1,19 +1,12 @@
-use Rattle.zone_reader.proofs.ZoneSteps.{zone-no-terms, zone-done}
+use Rattle.fields.proofs.Steps.{seen-exits}
+use Rattle.zone_reader.proofs.ZoneSteps.{zone-off, zone-late, zone-on}
 use Rattle.zone_reader.proofs.read_zone.Goals as goal
 
-pub returns-in_default : goal.returns-in_default
-returns-in_default c =
-    let read-ahead : _ = c.read_ahead-ahead in
-    let start : _ = c in
-    let a : _ = start.args in
-    let ahead : _ = read-ahead.result.zone in
-    zone-no-terms a.edition a.s.now a.p ahead read-ahead.ensures ahead a.minima.now c.in_default.is
+pub returns-in_err-zone : goal.returns-in_err-zone
+returns-in_err-zone c = record { is = seen-exits _ _ c.from_residual.ensures (zone-off _ _ _ _ c.in_err-zone.ensures) }
+
+pub returns-in_err-past : goal.returns-in_err-past
+returns-in_err-past c = record { is = seen-exits _ _ c.from_residual-in_err-past.ensures (zone-late _ _ _ c.in_ok-zone.zone c.in_ok-zone.ensures _ c.in_err-past.ensures) }
 
 pub returns : goal.returns
-returns c =
-    let read-minima : _ = c.read_minima-went in
-    let read-ahead : _ = c.read_ahead-ahead in
-    let start : _ = c in
-    let a : _ = start.args in
-    zone-done a.edition a.s.now a.p read-ahead.result.zone read-ahead.ensures read-minima.new.minima read-minima.result
-    c.in-On.is read-minima.ensures
+returns c = record { is = zone-on _ _ _ c.in_ok-zone.zone c.in_ok-zone.ensures _ c.in_ok-past.ensures }

@@ -7,6 +7,3 @@ use Rattle.zone_table.proofs.read_zones.Given as goal
 
 abbrev pub invariant-loop-i : goal.invariant-loop-i
 invariant-loop-i l = Parting (B.zone l.edition) zone_pair l.s l.n l.m l.initial.q l.initial.zones l.initial.minima l.i l.a l.zones l.minima l.q
-
-abbrev pub decreases-loop-i : goal.decreases-loop-i
-decreases-loop-i l = l.n - l.i
