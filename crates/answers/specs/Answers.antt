@@ -1,5 +1,6 @@
 -- What the batch program answers to a frame: its lines, and how the batch goes on.
-use Rattle.std.specs.Prelude.{◌≡◌, Bool, true, false, List, [], ◌∷◌, ℕ}
+use Rattle.std.specs.Prelude.{◌≡◌, Bool, true, false, List, [], ◌∷◌, ℕ, None, Some, IfSome}
+use Rattle.std.specs.declared.option.Option.{Option}
 use Rattle.layouts.specs.Faults.{number_of}
 use Rattle.layouts.specs.Framing.{part}
 use Rattle.layouts.specs.declared.Framed.{Framed}
@@ -13,6 +14,7 @@ use Rattle.model.specs.ByEdition.{Stated, stated_in}
 use Rattle.model.specs.Forced.{intervals, devices, zones}
 use Rattle.model.specs.Judgement.{read_plan, with_plan}
 use Rattle.layouts.specs.Layout.{Whole, passes, fails}
+use Rattle.case_reader.specs.declared.CaseHead.{CaseHead}
 use Rattle.decoded_cases.specs.Decoded.{stated_first, DecodedFirst}
 use Rattle.wording.specs.Text.{texts}
 use Rattle.wording.specs.Writes.{Writes}
@@ -77,15 +79,16 @@ result_of x frame buffer (B.Refused f) = buffer
 
 -- ---- what the functions promise; `before` and `after` are the buffer of the line, `buffer` and `left` that of the result
 
-abbrev pub after_of : Bool → Stated → After
-after_of true x = plans x
-after_of false x = over
+-- plans follow for the case in the first rows of the tables, where its front and counts are given
+abbrev pub after_of : Option CaseHead → (halves : List ℕ) (zones minima devices cells : List (List ℕ)) → After
+after_of None halves zones minima devices cells = over
+after_of (Some h) halves zones minima devices cells = plans (stated_first h.front h.counts halves zones minima devices cells)
 
 -- the decoded case is left in the first rows of the tables
 pub record AnswersCase (frame halves : List ℕ) (zones minima devices cells : List (List ℕ)) (before after : List ℕ) (r : CaseAnswer) : Type 0 where
   pub text : Writes (texts (case_lines frame (framed frame))) before after r.bytes
-  pub next : after_of r.more (stated_first r.front r.counts halves zones minima devices cells) ≡ case_after frame (framed frame)
-  pub decoded : r.more ≡ true → DecodedFirst r.front r.counts halves zones minima devices cells batch
+  pub next : after_of r.next halves zones minima devices cells ≡ case_after frame (framed frame)
+  pub decoded : IfSome r.next (λ h. DecodedFirst h.front h.counts halves zones minima devices cells batch)
 
 pub record AnswersPlan (x : Stated) (index : ℕ) (frame buffer left before after : List ℕ) (r : PlanAnswer) : Type 0 where
   pub text : Writes (texts (plan_answers x index frame (framed frame))) before after r.bytes

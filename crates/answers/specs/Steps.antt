@@ -1,5 +1,7 @@
 -- The answers to a frame, by the splitter's cases.
-use Rattle.std.specs.Prelude.{Ok, Err, ◌≡◌, refl, Bool, true, false, List, [], ◌∷◌, ℕ, ◌≤◌, ◌<◌, length}
+use Rattle.std.specs.Prelude.{Result, Ok, Err, None, Some, IfSome, ◌≡◌, refl, Bool, true, false, List, [], ◌∷◌, ℕ, ◌≤◌, ◌<◌, length}
+use Rattle.std.specs.Result.{result_ok}
+use Rattle.std.specs.declared.option.Option.{Option}
 use Rattle.std.proofs.Common.{sym, ap, subst, ◌∙◌, arith}
 use Rattle.layouts.specs.Faults.{number_of}
 use Rattle.layouts.specs.Framing.{part, message_at}
@@ -17,21 +19,21 @@ use Rattle.model.specs.Forced as F
 use Rattle.model.specs.Judgement.{read_plan, completion_bytes}
 use Rattle.layouts.specs.Layout.{passes, fails}
 use Rattle.row_places.specs.declared.Front.{Front}
-use Rattle.row_places.specs.declared.Counts.{Counts}
 use Rattle.records.specs.Viewed.{devices-are, intervals-are}
 use Rattle.message_ends.specs.Ended.{ended}
-use Rattle.case_reader.specs.Whole.{CasePassed, CaseRefused}
+use Rattle.case_reader.specs.Whole.{CasePassed, CaseRefused, CaseDone}
 use Rattle.case_reader.specs.declared.CaseHead.{CaseHead}
 use Rattle.case_inspection.specs.Inspection.{inspected_of}
 use Rattle.plan_judgement.specs.JudgesPlan.{JudgesPlan}
-use Rattle.decoded_cases.specs.Decoded.{Decoded, stated_rows, stated_first}
+use Rattle.decoded_cases.specs.Decoded.{Decoded, DecodedFirst, stated_rows, stated_first}
 use Rattle.decoded_cases.specs.Cases.{decoded-first}
 use Rattle.wording.specs.Text.{text, texts}
 use Rattle.wording.specs.Writes.{Writes}
 use Rattle.wording.proofs.Lines.{no-line, one_line}
 use Rattle.frames.specs.Frames.{limit, framed}
 use Rattle.case_lines.specs.Lines.{ended_lines, ended_more, WritesCase}
-use Rattle.answers.specs.Answers.{read_line, case_lines, case_after, after_of, more_of, accepts, AnswersCase, AnswersPlan}
+use Rattle.case_lines.specs.declared.CaseLine.{CaseLine}
+use Rattle.answers.specs.Answers.{After, read_line, case_lines, case_after, after_of, more_of, accepts, AnswersCase, AnswersPlan}
 use Rattle.answers.specs.Inspected.{inspect-passes}
 use Rattle.answers.specs.Room.{result_room, completion-fits, enough}
 
@@ -40,10 +42,35 @@ use Rattle.answers.specs.Room.{result_room, completion-fits, enough}
 pub never : {P : Type 0} → false ≡ true → P
 never k = let z : ◌≡◌ {A = ℕ} 0 1 = cc in absurd (omega arith)
 
+-- the case that plans may follow
+abbrev ended_next : Framed → Result CaseHead Fault → Option CaseHead
+ended_next B.End r = None
+ended_next (B.Message from until) (Ok h) = Some h
+ended_next (B.Message from until) (Err f) = None
+ended_next (B.Refused f) r = None
+
+next-goes : (x : Framed) (r : Result CaseHead Fault) → ended_more x r ≡ true → result_ok r ≡ ended_next x r
+next-goes B.End r h = never h
+next-goes (B.Message from until) (Ok c) h = refl
+next-goes (B.Message from until) (Err f) h = never h
+next-goes (B.Refused f) r h = never h
+
+next-ends : (x : Framed) (r : Result CaseHead Fault) → ended_more x r ≡ false → None ≡ ended_next x r
+next-ends B.End r h = refl
+next-ends (B.Message from until) (Ok c) h = never (sym h)
+next-ends (B.Message from until) (Err f) h = refl
+next-ends (B.Refused f) r h = refl
+
 -- what the splitter finds holds the message, so the case's line is that of its reading
-module _ (frame : List ℕ) {m : List ℕ} (i : m ≡ message_at limit frame 0) where
+module _ (frame : List ℕ) {m : List ℕ} (i : m ≡ message_at limit frame 0) (halves : List ℕ) (zones minima devices cells : List (List ℕ)) where
   message-is : {from until : ℕ} → framed frame ≡ B.Message from until → stated_in batch (part frame from until) ≡ stated_in batch m
   message-is t = ap (stated_in batch) (some limit frame 0 refl t ∙ sym i)
+
+  abbrev after_next : Option CaseHead → After
+  after_next n = after_of n halves zones minima devices cells
+
+  abbrev DecodedNext : Option CaseHead → Type 0
+  DecodedNext n = IfSome n (λ h. DecodedFirst h.front h.counts halves zones minima devices cells batch)
 
   -- a case that is refused
   module _ {f : Fault} (d : CaseRefused batch.devices batch.intervals m f) where
@@ -55,27 +82,18 @@ module _ (frame : List ℕ) {m : List ℕ} (i : m ≡ message_at limit frame 0) 
     lines-off (B.Refused g) t = refl
     lines-off (B.Message from until) t = rw (read-off t) refl
 
-    after-off : (held : Stated) (x : Framed) → framed frame ≡ x → after_of (ended_more x (Err f)) held ≡ case_after frame x
-    after-off held B.End t = refl
-    after-off held (B.Refused g) t = refl
-    after-off held (B.Message from until) t = rw (read-off t) refl
+    after-off : (x : Framed) → framed frame ≡ x → after_next (ended_next x (Err f)) ≡ case_after frame x
+    after-off B.End t = refl
+    after-off (B.Refused g) t = refl
+    after-off (B.Message from until) t = rw (read-off t) refl
 
-    never-more : (x : Framed) {P : Type 0} → ended_more x (Err f) ≡ true → P
-    never-more B.End h = never h
-    never-more (B.Refused g) h = never h
-    never-more (B.Message from until) h = never h
-
-    pub case-refused : (halves : List ℕ) (zones minima devices cells : List (List ℕ)) (front : Front) (counts : Counts) {before after : List ℕ} {n : ℕ} {more : Bool}
-        → WritesCase (framed frame) (Err f) before after (record { bytes = n; more = more })
-        → AnswersCase frame halves zones minima devices cells before after (record { bytes = n; more = more; front = front; counts = counts })
-    case-refused halves zones minima devices cells front counts {before} {after} {n} w = let held = stated_first front counts halves zones minima devices cells in record {
-      text = subst (λ (ls : List Line). Writes (texts ls) before after n) (lines-off (framed frame) refl) w.text;
-      next = ap (λ (b : Bool). after_of b held) w.more ∙ after-off held (framed frame) refl;
-      decoded = λ h. never-more (framed frame) (sym w.more ∙ h);
-    }
+    decoded-off : (x : Framed) → DecodedNext (ended_next x (Err f))
+    decoded-off B.End = tt
+    decoded-off (B.Refused g) = tt
+    decoded-off (B.Message from until) = tt
 
   -- one that passes
-  module _ (halves : List ℕ) (zones minima devices cells : List (List ℕ)) (c : CaseHead) (d : CasePassed batch.devices batch.intervals m halves zones minima devices cells c.front c.counts) where
+  module _ (c : CaseHead) (d : CasePassed batch.devices batch.intervals m halves zones minima devices cells c.front c.counts) where
     abbrev held : Stated
     held = stated_first c.front c.counts halves zones minima devices cells
 
@@ -91,18 +109,37 @@ module _ (frame : List ℕ) {m : List ℕ} (i : m ≡ message_at limit frame 0) 
     lines-on (B.Refused g) t = refl
     lines-on (B.Message from until) t = rw (read-on t) (ap (λ (l : Line). l ∷ []) counts-are)
 
-    after-on : (x : Framed) → framed frame ≡ x → after_of (ended_more x (Ok c)) held ≡ case_after frame x
+    after-on : (x : Framed) → framed frame ≡ x → after_next (ended_next x (Ok c)) ≡ case_after frame x
     after-on B.End t = refl
     after-on (B.Refused g) t = refl
     after-on (B.Message from until) t = rw (read-on t) refl
 
-    pub case-answered : {before after : List ℕ} {n : ℕ} {more : Bool} → WritesCase (framed frame) (Ok c) before after (record { bytes = n; more = more })
-        → AnswersCase frame halves zones minima devices cells before after (record { bytes = n; more = more; front = c.front; counts = c.counts })
-    case-answered {before} {after} {n} {more} w = record {
-      text = subst (λ (ls : List Line). Writes (texts ls) before after n) (lines-on (framed frame) refl) w.text;
-      next = ap (λ (b : Bool). after_of b held) w.more ∙ after-on (framed frame) refl;
-      decoded = λ h. decoded-first batch (omega arith) (omega arith) m halves zones minima devices cells c.front c.counts d;
-    }
+    decoded-on : (x : Framed) → DecodedNext (ended_next x (Ok c))
+    decoded-on B.End = tt
+    decoded-on (B.Refused g) = tt
+    decoded-on (B.Message from until) = decoded-first batch (omega arith) (omega arith) m halves zones minima devices cells c.front c.counts d
+
+  case-answered : (read : Result CaseHead Fault) → CaseDone batch.devices batch.intervals m halves zones minima devices cells read → {before after : List ℕ} {l : CaseLine}
+      → WritesCase (framed frame) read before after l → {next : Option CaseHead} → next ≡ ended_next (framed frame) read
+      → AnswersCase frame halves zones minima devices cells before after (record { bytes = l.bytes; next = next })
+  case-answered (Ok c) d {before} {after} {l} w e = record {
+    text = subst (λ (ls : List Line). Writes (texts ls) before after l.bytes) (lines-on c d (framed frame) refl) w.text;
+    next = ap after_next e ∙ after-on c d (framed frame) refl;
+    decoded = subst DecodedNext (sym e) (decoded-on c d (framed frame));
+  }
+  case-answered (Err f) d {before} {after} {l} w e = record {
+    text = subst (λ (ls : List Line). Writes (texts ls) before after l.bytes) (lines-off d (framed frame) refl) w.text;
+    next = ap after_next e ∙ after-off d (framed frame) refl;
+    decoded = subst DecodedNext (sym e) (decoded-off d (framed frame));
+  }
+
+  module _ (read : Result CaseHead Fault) (d : CaseDone batch.devices batch.intervals m halves zones minima devices cells read) {before after : List ℕ} {l : CaseLine}
+      (w : WritesCase (framed frame) read before after l) where
+    pub case-goes : l.more ≡ true → {next : Option CaseHead} → next ≡ result_ok read → AnswersCase frame halves zones minima devices cells before after (record { bytes = l.bytes; next = next })
+    case-goes h e = case-answered read d w (e ∙ next-goes (framed frame) read (sym w.more ∙ h))
+
+    pub case-ends : l.more ≡ false → AnswersCase frame halves zones minima devices cells before after (record { bytes = l.bytes; next = None })
+    case-ends h = case-answered read d w (next-ends (framed frame) read (sym w.more ∙ h))
 
 -- ---- a plan
 

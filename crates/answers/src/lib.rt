@@ -10,11 +10,11 @@ ghost use Rattle.answers.specs.Answers.{accepts, AnswersCase, AnswersPlan};
 ghost use Rattle.answers.specs.Room.{result_room};
 
 use case_inspection::ZONES;
-use case_reader::NO_CASE;
+use case_reader::CaseHead;
 use frames::LIMIT;
 use layouts::Framed;
 use model::Verdict;
-use row_places::{CellRow, Counts, DeviceRow, Front, MinimaRow, SettingRow, ZoneRow};
+use row_places::{CellRow, DeviceRow, Front, MinimaRow, SettingRow, ZoneRow};
 
 // The largest counts that the batch program takes, and the rows that its tables need.
 pub const DEVICES: usize = 16;
@@ -27,13 +27,11 @@ pub const MINIMA: usize = ZONES * INTERVALS;
 
 pub const TIMES: usize = INTERVALS + 1;
 
-// The line's bytes; whether plans may follow, and the front and counts of the case that they are for.
+// The line's bytes; where plans may follow, the front and counts of the case that they are for.
 #[derive(Clone, Copy)]
 pub struct CaseAnswer {
     pub bytes: usize,
-    pub more: bool,
-    pub front: Front,
-    pub counts: Counts,
+    pub next: Option<CaseHead>,
 }
 
 // To a batch's first frame, of the case.
@@ -61,21 +59,10 @@ pub fn answer_case(
         cells,
     );
     let line = case_lines::case_line(frame, read, out);
-    let bytes = line.bytes;
-    let more = line.more;
-    match read {
-        Ok(head) => CaseAnswer {
-            bytes,
-            more,
-            front: head.front,
-            counts: head.counts,
-        },
-        Err(_) => CaseAnswer {
-            bytes,
-            more,
-            front: NO_CASE.front,
-            counts: NO_CASE.counts,
-        },
+    let next = if line.more { read.ok() } else { None };
+    CaseAnswer {
+        bytes: line.bytes,
+        next,
     }
 }
 

@@ -13,7 +13,7 @@ use Rattle.layouts.proofs.Frames.{no_byte}
 use Rattle.model.specs.ByEdition.{Stated}
 use Rattle.frames.specs.Frames.{limit, frame_of, framed}
 use Rattle.wording.specs.Text.{texts, batch_text, failure_text}
-use Rattle.answers.specs.Answers.{After, over, plans, after_of, case_lines, case_after, plan_answers, more_of}
+use Rattle.answers.specs.Answers.{After, over, plans, case_lines, case_after, plan_answers, more_of}
 use Rattle.answers.specs.Steps.{more_bytes}
 use Rattle.answers.specs.Stream.{plans_text, behind_case, stream_text}
 use Rattle.answers.specs.Whole.{streamed}
@@ -182,42 +182,39 @@ case-failed (Some s) old new e (inr f) = λ small.
     let front : take k (batch_text s) ≡ take f.0 text = ap (take k) (begun s frame small refl) ∙ front-least text behind f.0 in
     (k, 0, subst (Appends old new) (sym front ∙ sym (append-nil (take k (batch_text s)))) f.1)
 
-module _ (x : Stated) (f : List ℕ) (rest : ℕ) (more : Bool) (size : length f + rest ≡ most) (after : after_of more x ≡ case_after f (framed f)) (old new : Option (List ℕ))
-    (told : Appends old new (case_told f)) where
-  pub only-case : (a b : Option (List ℕ)) → ReadsFrame a b most f → more ≡ false → IfSome a (λ s. length s < 2 ^ 61 → Appends old new (batch_text s))
+module _ (f : List ℕ) (rest : ℕ) (size : length f + rest ≡ most) (old new : Option (List ℕ)) (told : Appends old new (case_told f)) where
+  pub only-case : (a b : Option (List ℕ)) → ReadsFrame a b most f → over ≡ case_after f (framed f) → IfSome a (λ s. length s < 2 ^ 61 → Appends old new (batch_text s))
   only-case None b r m = tt
   only-case (Some s) b r m = λ small.
-      let none : case_after f (framed f) ≡ over = sym after ∙ ap (λ (k : Bool). after_of k x) m in
       subst (Appends old new)
-      (sym (begun s f small r.next ∙ ap (λ (a : After). case_told f ++ behind_case a (length s) (drop (length f) s)) none ∙ append-nil (case_told f))) told
+      (sym (begun s f small r.next ∙ ap (λ (a : After). case_told f ++ behind_case a (length s) (drop (length f) s)) (sym m) ∙ append-nil (case_told f))) told
 
-  text-is : (s u : List ℕ) → length s < 2 ^ 61 → f ≡ frame_of (take most s) → s ≡ f ++ u → more ≡ true → batch_text s ≡ case_told f ++ plans_told x 1 (take rest u)
-  text-is s u small e t m =
-      let some : case_after f (framed f) ≡ plans x = sym after ∙ ap (λ (k : Bool). after_of k x) m in
+  text-is : (x : Stated) (s u : List ℕ) → length s < 2 ^ 61 → f ≡ frame_of (take most s) → s ≡ f ++ u → plans x ≡ case_after f (framed f) → batch_text s ≡ case_told f ++ plans_told x 1 (take rest u)
+  text-is x s u small e t m =
       let whole : take most s ≡ s = take_all most s (omega arith) in
       let behind : drop (length f) s ≡ take rest u = sym (ap (drop (length f)) whole) ∙ behind-frame f u s most rest t size in
       let short : length (take rest u) ≤ length s = omega (arith, ap length behind, length-drop (length f) s) in
-      begun s f small e ∙ ap (λ (a : After). case_told f ++ behind_case a (length s) (drop (length f) s)) some
+      begun s f small e ∙ ap (λ (a : After). case_told f ++ behind_case a (length s) (drop (length f) s)) (sym m)
       ∙ ap (λ (l : List ℕ). case_told f ++ plans_text x (length s) 1 l) behind
       ∙ ap (λ (l : List ℕ). case_told f ++ l) (same-text x (length s) (length (take rest u)) 1 (take rest u) short (omega arith))
 
-  pub with-plans : (a b later : Option (List ℕ)) → ReadsFrame a b most f → more ≡ true → IfSome b (λ u. Appends new later (plans_told x 1 (take rest u)))
+  pub with-plans : (x : Stated) (a b later : Option (List ℕ)) → ReadsFrame a b most f → plans x ≡ case_after f (framed f) → IfSome b (λ u. Appends new later (plans_told x 1 (take rest u)))
       → IfSome a (λ s. length s < 2 ^ 61 → Appends old later (batch_text s))
-  with-plans None b later r m p = tt
-  with-plans (Some s) None later r m p = absurd r.bytes
-  with-plans (Some s) (Some u) later r m p = λ small.
-      subst (Appends old later) (sym (text-is s u small r.next r.bytes m)) (Appends-trans old new later (case_told f) (plans_told x 1 (take rest u)) told p)
+  with-plans x None b later r m p = tt
+  with-plans x (Some s) None later r m p = absurd r.bytes
+  with-plans x (Some s) (Some u) later r m p = λ small.
+      subst (Appends old later) (sym (text-is x s u small r.next r.bytes m)) (Appends-trans old new later (case_told f) (plans_told x 1 (take rest u)) told p)
 
-  pub plans-failed : (a b later : Option (List ℕ)) (e : Error) → ReadsFrame a b most f → more ≡ true → IfSome b (λ u. FailsIn new later e (plans_told x 1 (take rest u)))
+  pub plans-failed : (x : Stated) (a b later : Option (List ℕ)) (e : Error) → ReadsFrame a b most f → plans x ≡ case_after f (framed f) → IfSome b (λ u. FailsIn new later e (plans_told x 1 (take rest u)))
       → IfSome a (λ s. length s < 2 ^ 61 → FailsIn old later e (batch_text s))
-  plans-failed None b later e r m p = tt
-  plans-failed (Some s) None later e r m p = absurd r.bytes
-  plans-failed (Some s) (Some u) later e r m p = λ small.
+  plans-failed x None b later e r m p = tt
+  plans-failed x (Some s) None later e r m p = absurd r.bytes
+  plans-failed x (Some s) (Some u) later e r m p = λ small.
       let text = case_told f in
       let behind = plans_told x 1 (take rest u) in
       let line = take p.1 (failure_text (error_number e)) in
       let front : take (length text + p.0) (batch_text s) ≡ text ++ take p.0 behind =
-      ap (take (length text + p.0)) (text-is s u small r.next r.bytes m) ∙ front-within text behind p.0 in (
+      ap (take (length text + p.0)) (text-is x s u small r.next r.bytes m) ∙ front-within text behind p.0 in (
         length text + p.0,
         p.1,
         subst (Appends old later) (sym (append_assoc text (take p.0 behind) line) ∙ ap (λ (l : List ℕ). l ++ line) (sym front))

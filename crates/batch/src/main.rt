@@ -110,13 +110,12 @@ pub fn run<S: Clock + Eprint, R: Read, W: Write>(
         &mut cells,
         REACH,
     )?;
-    if !started.more {
+    let Some(head) = started.head else {
         return Ok(());
-    }
-    let counts = started.counts;
-    let n = counts.devices;
-    let m = counts.intervals;
-    let z = counts.zones;
+    };
+    let n = head.counts.devices;
+    let m = head.counts.intervals;
+    let z = head.counts.zones;
     let setting = row_places::blank_setting();
     let mut settings = [setting; CELLS];
     let mut starts = [0u32; TIMES];
@@ -128,7 +127,7 @@ pub fn run<S: Clock + Eprint, R: Read, W: Write>(
         system,
         input,
         output,
-        started.front,
+        head.front,
         &halves[..m],
         &zones[..z],
         &minima[..j],

@@ -18,18 +18,6 @@ use std::io::{self, Eprint, Read, Write};
 use std::time::Clock;
 use writing::Writing;
 
-fn least(a: u64, b: u64) -> u64
-    ensures { (result ≤ a) × (result ≤ b) }
-{
-    if a < b { a } else { b }
-}
-
-fn wide(x: u8) -> u64
-    ensures { result < 256 }
-{
-    u64::from(x)
-}
-
 // One byte more of a CRC-32 (IEEE 802.3, reflected).
 fn crc_byte(crc: u32, b: u8) -> u32 {
     let mut c = crc ^ u32::from(b);
@@ -65,7 +53,7 @@ fn print_message<W: Write>(
     length: u64,
     buffer: &[u8],
 ) -> io::Result<()> {
-    let n = least(length, buffer.len() as u64) as usize;
+    let n = length.min(buffer.len() as u64) as usize;
     let bytes = &buffer[..n];
     print(output, word, n as u64, " ")?;
     print(output, "", u64::from(crc(bytes)), "\n")
@@ -133,7 +121,7 @@ fn print_list<W: Write>(output: &mut W, n: u64, list: &[u8]) -> io::Result<()> {
     if n == 0 {
         return Ok(());
     }
-    let entries = least(n, (list.len() / ENTRY) as u64) as usize;
+    let entries = n.min((list.len() / ENTRY) as u64) as usize;
     let e = ENTRY * entries;
     let bytes = &list[..e];
     print(output, "breaches ", n, " ")?;
@@ -352,13 +340,12 @@ fn run_batch<S: Clock + Eprint, R: Read, W: Write>(
         &mut cells,
         left,
     )?;
-    if !started.more {
+    let Some(head) = started.head else {
         return Ok(started.rest);
-    }
-    let counts = started.counts;
-    let n = counts.devices;
-    let m = counts.intervals;
-    let z = counts.zones;
+    };
+    let n = head.counts.devices;
+    let m = head.counts.intervals;
+    let z = head.counts.zones;
     let setting = row_places::blank_setting();
     let mut settings = [setting; CELLS];
     let mut starts = [0u32; TIMES];
@@ -370,7 +357,7 @@ fn run_batch<S: Clock + Eprint, R: Read, W: Write>(
         system,
         input,
         output,
-        started.front,
+        head.front,
         &halves[..m],
         &zones[..z],
         &minima[..j],
@@ -389,7 +376,7 @@ fn skip_some<R: Read>(clock: &impl Clock, input: &mut R, left: u64) -> io::Resul
     ensures { IfOk result (λ n. n ≤ left) }
 {
     let mut space = [0u8; 4096];
-    let n = least(left, 4096) as usize;
+    let n = left.min(4096) as usize;
     let got = runner::read_full(clock, input, &mut space[..n])?;
     Ok(got as u64)
 }
@@ -419,8 +406,7 @@ fn next_batch<S: Clock + Eprint, R: Read, W: Write>(
     if got < 4 {
         return Ok(false);
     }
-    let length = ((wide(head[0]) * 256 + wide(head[1])) * 256 + wide(head[2])) * 256
-        + wide(head[3]);
+    let length = u64::from(u32::from_be_bytes(head));
     print(output, "batch ", index, "\n")?;
     let left = run_batch(system, input, output, length)?;
     skip(system, input, left)?;

@@ -1,11 +1,11 @@
 // Reads a batch frame by frame and writes the answers. Bytes are only copied here: `answers` says what they mean.
 #![tactic(auto)]
 
-ghost use Rattle.std.specs.Prelude.{◌≡◌, true, ℕ, List, ◌+◌, ◌≤◌, ◌<◌, min, length, take, IfOk, OnOk, IfErr, OnErr, IfSome};
+ghost use Rattle.std.specs.Prelude.{◌≡◌, true, ℕ, List, ◌+◌, ◌≤◌, ◌<◌, length, take, IfOk, OnOk, IfErr, OnErr, IfSome};
 ghost use Rattle.std.specs.Io.KnownBytes.{Keeps, Appends, Consumes};
 ghost use Rattle.model.specs.Editions.{batch};
 ghost use Rattle.case_reader.specs.Whole.{CaseRoom};
-ghost use Rattle.decoded_cases.specs.Decoded.{Decoded, DecodedFirst, Work, stated_rows, stated_first};
+ghost use Rattle.decoded_cases.specs.Decoded.{Decoded, DecodedFirst, Work, stated_rows};
 ghost use Rattle.wording.specs.Text.{texts, failure_text};
 ghost use Rattle.frames.specs.Frames.{frame_room, frame_of, framed};
 ghost use Rattle.answers.specs.Answers.{after_of, case_lines, case_after, plan_answers, more_of, accepted_of, result_of};
@@ -13,7 +13,8 @@ ghost use Rattle.answers.specs.Room.{result_room};
 ghost use Rattle.runner.specs.Failures.{error_number, WritesFront, Fails};
 ghost use Rattle.runner.specs.Reading.{frame_read, ReadsFrame};
 
-use row_places::{CellRow, Counts, DeviceRow, Front, MinimaRow, SettingRow, ZoneRow};
+use case_reader::CaseHead;
+use row_places::{CellRow, DeviceRow, Front, MinimaRow, SettingRow, ZoneRow};
 use std::io::{self, Eprint, Error, ErrorKind, Read, Write};
 use std::time::Clock;
 
@@ -24,13 +25,6 @@ const TRIES: u64 = u64::MAX;
 const EIO: u64 = 5;
 
 const EAGAIN: i32 = 11;
-
-fn least(a: u64, b: u64) -> u64
-    ensures within { (result ≤ a) × (result ≤ b) }
-    ensures value { result ≡ min a b }
-{
-    if a < b { a } else { b }
-}
 
 // Room for a frame and the longest completion.
 pub fn frame_buffer() -> [u8; 65539]
@@ -102,9 +96,9 @@ fn read_frame<R: Read>(clock: &impl Clock, input: &mut R, frame: &mut [u8], left
     ensures within { IfOk result (λ n. (n ≤ frame_room) × (n ≤ left)) }
     ensures frame { IfOk result (λ n. ReadsFrame (R.remaining input.old) (R.remaining input.new) left (take n frame.new)) }
 {
-    let head = least(3, left) as usize;
+    let head = left.min(3) as usize;
     let here = read_full(clock, input, &mut frame[..head])?;
-    let end = least(frames::frame_bytes(&frame[..here]) as u64, left) as usize;
+    let end = (frames::frame_bytes(&frame[..here]) as u64).min(left) as usize;
     if end <= here {
         return Ok(here);
     }
@@ -153,12 +147,10 @@ fn told<S: Clock + Eprint, W: Write>(system: &S, output: &mut W, got: Got) -> Go
     got
 }
 
-// A batch that has begun: the front and counts of its case, whether plans may follow, and how many of its bytes are not read yet.
+// A batch that has begun: where plans may follow, the front and counts of its case; and how many of its bytes are not read yet.
 #[derive(Clone, Copy)]
 pub struct Started {
-    pub front: Front,
-    pub counts: Counts,
-    pub more: bool,
+    pub head: Option<CaseHead>,
     pub rest: u64,
 }
 
@@ -182,8 +174,8 @@ pub fn start<S: Clock + Eprint, R: Read, W: Write>(
     ensures told { IfOk result (λ r. let f = frame_read left r.rest frame.new in
         Appends (W.contents output.old) (W.contents output.new) (texts (case_lines f (framed f)))) }
     ensures after { IfOk result (λ r. let f = frame_read left r.rest frame.new in
-        after_of r.more (stated_first r.front r.counts halves.new zones.new minima.new devices.new cells.new) ≡ case_after f (framed f)) }
-    ensures decoded { IfOk result (λ r. r.more ≡ true → DecodedFirst r.front r.counts halves.new zones.new minima.new devices.new cells.new batch) }
+        after_of r.head halves.new zones.new minima.new devices.new cells.new ≡ case_after f (framed f)) }
+    ensures decoded { IfOk result (λ r. IfSome r.head (λ h. DecodedFirst h.front h.counts halves.new zones.new minima.new devices.new cells.new batch)) }
     ensures failed { IfErr result (λ e. Fails (R.remaining input.old) left (W.contents output.old) (W.contents output.new) e
         (λ f. texts (case_lines f (framed f)))) }
 {
@@ -200,9 +192,7 @@ pub fn start<S: Clock + Eprint, R: Read, W: Write>(
     );
     tell(system, output, &line[..answer.bytes])?;
     Ok(Started {
-        front: answer.front,
-        counts: answer.counts,
-        more: answer.more,
+        head: answer.next,
         rest: left - n as u64,
     })
 }

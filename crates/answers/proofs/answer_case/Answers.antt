@@ -1,15 +1,9 @@
--- The case is read, and its line is that of its reading.
-use Rattle.answers.specs.Steps.{case-answered, case-refused}
+-- The case is read, and its line is that of its reading; plans may follow one that passed.
+use Rattle.answers.specs.Steps.{case-goes, case-ends}
 use Rattle.answers.proofs.answer_case.Goals as goal
 
-pub returns-in-Ok : goal.returns-in-Ok
-returns-in-Ok c =
-    let d = c.read_case-read.ensures in
-    let w = c.case_line-line.ensures in
-    case-answered _ c.message_at-message.ensures _ _ _ _ _ c.in-Ok.head (rw c.in-Ok.is at d) (rw c.in-Ok.is at w)
+pub returns-then-line : goal.returns-then-line
+returns-then-line c = case-goes _ c.message_at-message.ensures _ _ _ _ _ _ c.read_case-read.ensures c.case_line-line.ensures c.if-line.true c.ok-next.ensures.value
 
-pub returns-in-Err : goal.returns-in-Err
-returns-in-Err c =
-    let d = c.read_case-read.ensures in
-    let w = c.case_line-line.ensures in
-    case-refused _ c.message_at-message.ensures (rw c.in-Err.is at d) _ _ _ _ _ _ _ (rw c.in-Err.is at w)
+pub returns-else-line : goal.returns-else-line
+returns-else-line c = case-ends _ c.message_at-message.ensures _ _ _ _ _ _ c.read_case-read.ensures c.case_line-line.ensures c.if-line.false
