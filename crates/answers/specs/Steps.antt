@@ -119,7 +119,7 @@ module _ (frame : List ℕ) {m : List ℕ} (i : m ≡ message_at limit frame 0) 
     decoded-on (B.Refused g) = tt
     decoded-on (B.Message from until) = decoded-first batch (omega arith) (omega arith) m halves zones minima devices cells c.front c.counts d
 
-  case-answered : (read : Result CaseHead Fault) → CaseDone batch.devices batch.intervals m halves zones minima devices cells read → {before after : List ℕ} {l : CaseLine}
+  pub case-answered : (read : Result CaseHead Fault) → CaseDone batch.devices batch.intervals m halves zones minima devices cells read → {before after : List ℕ} {l : CaseLine}
       → WritesCase (framed frame) read before after l → {next : Option CaseHead} → next ≡ ended_next (framed frame) read
       → AnswersCase frame halves zones minima devices cells before after (record { bytes = l.bytes; next = next })
   case-answered (Ok c) d {before} {after} {l} w e = record {

@@ -15,7 +15,7 @@ line-natural = held-natural _ _ (then-natural (int-natural _ _) (λ _. int-natur
 pub there-natural : (there : Bool) → Natural (present there no_line line)
 there-natural there = present-natural there no_line line-natural
 
-whole-natural : Natural link
+pub whole-natural : Natural link
 unfolding link
 whole-natural = held-natural _ _ (then-natural (nat-natural _) (λ kind. then-natural (there-natural (first_line kind)) (λ _. there-natural (second_line kind))))
 

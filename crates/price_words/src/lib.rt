@@ -36,15 +36,15 @@ const EIGHT_BITS: u64 = 2 * FOUR_BITS;
 
 // Four prices in a row.
 #[derive(Clone, Copy)]
-struct Four {
-    a: u32,
-    b: u32,
-    c: u32,
-    d: u32,
+pub struct Four {
+    pub a: u32,
+    pub b: u32,
+    pub c: u32,
+    pub d: u32,
 }
 
 // The eight by name.
-fn prices_of(v: [u32; 8]) -> ReservePrices
+pub fn prices_of(v: [u32; 8]) -> ReservePrices
     ensures { result ≡ prices_of v }
 {
     ReservePrices {

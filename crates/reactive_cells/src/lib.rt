@@ -33,7 +33,7 @@ const PRICES_BITS: u64 = 2 * PRICE_BITS;
 
 const REACTIVE_BITS: u64 = LIMITS_BITS + PRICES_BITS;
 
-const NEUTRAL: ReactiveCell = ReactiveCell {
+pub const NEUTRAL: ReactiveCell = ReactiveCell {
     qmin: NO_KVAR,
     qmax: NO_KVAR,
     qru: KvarPrice(0),
